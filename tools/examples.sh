@@ -21,12 +21,15 @@
 # as it is, and with --list NAME_I.list.txt, if that is there. NAME.main.msc is what it prints with
 # --choose main.
 # NAME.pair.txt and NAME.mailbox.txt are what `msc check --from any` prints of all scenarios of
-# NAME.mmd. NAME.N.QUEUES.txt is what is printed of the N-th diagram of NAME.md, and NAME.N.msc what
-# `msc import` prints, if that is there. (NAME.shown.txt is of
+# NAME.mmd, or of all diagrams of NAME.md, NAME.closest.txt what it prints with --closest --allow
+# early, and NAME.drawn.txt with --par drawn; the first lines of the faults of NAME.err.txt are
+# written to standard error. NAME.N.QUEUES.txt is what is printed of the N-th diagram of NAME.md, and
+# NAME.N.msc what `msc import` prints, if that is there. (NAME.shown.txt is of
 # tools/naive/stored_imports.py.)
 # Beside charts/import/refused/NAME.mmd stands NAME.txt: what `msc import --choose main` writes to
-# standard error of it, and the status; or NAME.err.txt, what `msc check --from any --queues pair`
-# does.
+# standard error of it, and the status; or NAME.err.txt, what `msc check --from any --queues pair
+# --places` does, whose first line is all without --places, and NAME.lines.txt, what it prints with
+# --format lines.
 # `msc read` meets no fault of charts: where such a fault stands, it prints NAME.read.txt, or the
 # chart as it is where that is missing.
 set -u
@@ -142,18 +145,32 @@ diagram_of() {
   if [ -e "$1.mmd" ]; then echo "$1.mmd"; else echo "$1.md"; fi
 }
 
+# Writes the fixed lines of the faults of a diagram, if it has some, as they are without --places.
+write_faults() {
+  : >"$room/fault"
+  if [ -e "$1.err.txt" ]; then grep '^import fault ' "$1.err.txt" >"$room/fault"; fi
+}
+
 # Compares what `msc check --from any` prints with the file $1, by the last parts of its name.
 compare_scenarios() {
-  local name=${1%.*.txt} words status=0
-  words=(--queues "$(basename "${1#"$name."}" .txt)")
+  local name=${1%.*.txt} words=(--queues pair) status=0
+  local last=${1#"$name."}
+  case $last in
+  closest.txt) words+=(--closest --allow early) ;;
+  drawn.txt) words+=(--par drawn) ;;
+  *) words=(--queues "${last%.txt}") ;;
+  esac
   case ${name##*.} in
   [0-9]*) words+=(--fence "${name##*.}") name=${name%.*} ;;
   esac
+  write_faults "$name"
+  if [ "$last" = drawn.txt ]; then : >"$room/fault"; fi
   if grep -q '^race ' "$1"; then status=1; fi
-  compare "$1" /dev/null "$status" check --from any "${words[@]}" "$(diagram_of "$name")"
+  if grep -q '^refused$' "$1"; then status=2; fi
+  compare "$1" "$room/fault" "$status" check --from any "${words[@]}" "$(diagram_of "$name")"
 }
 
-for answer in charts/import/{,refused/}*.{pair,mailbox}.txt; do
+for answer in charts/import/{,refused/}*.{pair,mailbox,closest,drawn}.txt; do
   if [ -e "$answer" ]; then compare_scenarios "$answer"; fi
 done
 
@@ -178,7 +195,24 @@ for page in charts/import/*.md; do
 done
 
 for fault in charts/import/refused/*.err.txt; do
-  compare /dev/null "$fault" 2 check --from any --queues pair "$(diagram_of "${fault%.err.txt}")"
+  name=${fault%.err.txt}
+  if [ -e "$name.pair.txt" ]; then continue; fi
+  write_faults "$name"
+  compare /dev/null "$room/fault" 2 check --from any --queues pair "$(diagram_of "$name")"
+done
+
+# With --places notes follow the faults; as lines for editors both are on standard output.
+for fault in charts/import/{,refused/}*.err.txt; do
+  name=${fault%.err.txt} output=/dev/null
+  if [ -e "$name.pair.txt" ]; then output=$name.pair.txt; fi
+  compare "$output" "$fault" 2 check --from any --queues pair --places "$(diagram_of "$name")"
+done
+
+for answer in charts/import/refused/*.lines.txt; do
+  name=${answer%.lines.txt}
+  sed -n 's/^[^ ]*: error: //p' "$answer" >"$room/fault"
+  compare "$answer" "$room/fault" 2 \
+    check --from any --queues pair --format lines "$(diagram_of "$name")"
 done
 
 for answer in charts/import/refused/*.txt; do

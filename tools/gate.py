@@ -4,9 +4,10 @@
     tools/gate.py [--all]
 
 Works on a copy of the repository, in which `rt ci` finds just the edits that are tried. These are
-in every run those of the crates in `KNOWN`, and of each crate that changed since the last release. Of the other crates each run tries a third: those whose line in crates.txt has, divided by
-3, the same rest as the number of commits. A shallow clone does not know that number, so it tries
-none of these. `--all` tries all edits, and those of tools/more_edits too.
+in every run those of the crates in `KNOWN`, and of each crate that changed since the last release.
+Of the other crates each run tries a third: those whose line in crates.txt has, divided by 3, the
+same rest as the number of commits. A shallow clone does not know that number, so it tries none of
+these. `--all` tries all edits, and those of tools/more_edits too.
 
 The programs and the tests that were built are left in crates/*/out, as `rt ci` leaves them. Prints
 what `rt ci` prints; before its last line, `N passed, M failed`, stands which edits were not tried.

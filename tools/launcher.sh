@@ -144,7 +144,7 @@ check 'built' builds
 check 'what was built is not built again' test "$(launch '')" = built
 copy rt
 changed_byte "$room/copy/crates/msc/src/main.rt"
-check 'a build from nothing' builds_in_order 34
+check 'a build from nothing' builds_in_order 36
 changed_byte "$room/copy/crates/msc_order/src/lib.rt"
 check 'a build above a crate that changed' builds_in_order 13
 changed_byte "$room/copy/crates/msc_order/src/lib.rt"

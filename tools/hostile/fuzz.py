@@ -248,7 +248,7 @@ def wrong_page(wanted, got):
 def tried_diagram(program, seed, number):
     """What differs for the diagram of this number, if anything does."""
     text, words = diagram_checks.one(random.Random(f"{seed} {number} diagram"))
-    wanted, words = diagram_checks.wanted_of(text, words, "-"), ["check", *words, "-"]
+    wanted, words = diagram_checks.wanted_of(text, words, "-", True), ["check", *words, "-"]
     got = run([program, *words], text)
     return [] if got == wanted else [(words, text, got, wanted)]
 

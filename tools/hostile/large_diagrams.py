@@ -16,6 +16,7 @@ from program import Answer, Count, arguments, run
 LIMIT, MANY = 1048576, 100000
 HEAD, ARROW = b"sequenceDiagram\n", b"A->>B: x"
 CHECK = ["check", "--from", "any", "--queues", "pair"]
+NO_DIAGRAM = "import fault 2 at 1: expected a diagram"
 # white space of one, two and three bytes
 SPACES = [b" ", b"\t", b"\x0b", b"\xc2\xa0", b"\xe3\x80\x80", b"\xef\xbb\xbf"]
 
@@ -53,8 +54,7 @@ def texts_of_one_thing():
                  b"#", b"{", b"{{< mermaid >}}\n", b"<pre class=\"mermaid\"",
                  b"<div class=\"mermaid\">\n", b"::: mermaid\n", b"%%", b"}%%", b"\xff",
                  b"\xe2\x80", b"sequence", b"--"):
-        text = filled(b"", some)
-        yield text, CHECK, expected(last_line(text), "a diagram")
+        yield filled(b"", some), CHECK, fault(NO_DIAGRAM)
     yield filled(b"", b">"), [*CHECK, "--fence", "1"], fault("import fault 17: no diagram 1")
     for space in [*SPACES, b"\n"]:
         text = filled(b"", space)
@@ -91,11 +91,15 @@ def many_lines():
         (b"accDescr {", b"a", b"}\n"), (b"accDescr {", b"{\n", b"}\n"),
         (b"", b"%%{init}%%\n", b""), (b"", b"%%\n", b""), (b"%%{", b"\n", b"}%%\n"),
         (b"%%{", b"%\n", b"}%%\n"),
+        (b"participant A@{", b"\n", b"}\n"), (b"participant A@{", b"@{\n", b"}\n"),
     ):
         yield filled(HEAD + before, some, end + ARROW), CHECK, passes()
     for before, what in ((b"accDescr {", "}"), (b"%%{", "}%%")):
         text = filled(HEAD + before, b"\n")
         yield text, CHECK, expected(last_line(text), what)
+    for some in (b"\n", b"@{\n", b"a\n", b"%%\n"):
+        yield filled(HEAD + b"participant A@{", some), CHECK, expected(2, "}")
+    yield filled(HEAD, b"participant A@{\n}\n", ARROW), CHECK, passes()
     text = filled(b"---\n", b"\n", HEAD)
     yield text, CHECK, expected(last_line(text), "---")
     yield filled(HEAD + ARROW, b"\nnote over A: a->>b"), CHECK, passes()
@@ -112,7 +116,12 @@ def choices():
     for count in (13, 64, 1024):
         yield HEAD + b"A-xB: x\n" * count, limit, most
     yield filled(HEAD, b"A-xB: x\n"), limit, most
+    rounds = [*CHECK, "--rounds", ",".join(map(str, range(1025)))]
     too_many = fault("import fault 11: more than 64 scenarios")
+    for depth, times in ((1, 4000), (10, 1), (10, 400)):
+        nested = b"loop\n" * depth + b"A->>B: x\n" + b"end\n" * depth
+        yield HEAD + nested * times, rounds, too_many
+    yield HEAD + b"loop\nbreak\nA-xB: x\nend\nend\n" * 4000, rounds, too_many
     yield HEAD + b"par\nA-xB: x\nand\nC-xD: x\nend\n" * 4000, CHECK, too_many
     told = "import fault 12: more than 4096 scenarios, say --choose"
     yield HEAD + b"A-xB: x\n" * 64, ["import"], fault(told)
@@ -124,12 +133,30 @@ def choices():
 
 def pages():
     """Texts of Markdown with many blocks."""
-    diagram, few = b"```mermaid\n" + HEAD + ARROW + b"\n```\n", MANY // 2
-    many = b"```puml\n```\n" * few + diagram
-    for number, answer in ((few + 1, passes()), (few, expected(last_line(many), "a diagram")),
-                           (few + 2, fault(f"import fault 17: no diagram {few + 2}"))):
+    diagram = b"```mermaid\n" + HEAD + ARROW + b"\n```\n"
+    # an empty line ends each block, as it has no mark
+    many = b">```puml\n\n" * MANY + diagram
+    yield many, CHECK, passes(name=f"diagram#{MANY + 1}")
+    for number, answer in ((MANY + 1, passes()), (MANY, expected(last_line(many), "a diagram")),
+                           (MANY + 2, fault(f"import fault 17: no diagram {MANY + 2}"))):
         yield many, [*CHECK, "--fence", str(number)], answer
-    yield b"```\n```\n" * MANY + diagram, [*CHECK, "--fence", "1"], passes()
+    yield b"```\n```\n" * MANY + diagram, CHECK, passes(name="diagram#1")
+    no_first = expected(1, "sequenceDiagram")
+    yield b"<pre class=mermaid>\n" * (MANY // 2) + diagram, CHECK, no_first
+    yield b"{{< mermaid >}}\n" * (MANY // 2) + diagram, CHECK, passes(name="diagram#1")
+    few = b"~~~mermaid\n" + HEAD + b"~~~\n"
+    count = LIMIT // len(few)
+    numbers = range(1, count + 1)
+    told = "".join(f"diagram diagram#{n}\nqueues pair\nscenarios 1\npass\n" for n in numbers)
+    yield few * count, CHECK, Answer(told.encode(), b"", 0)
+    yield few * count, ["import"], fault(f"import fault 20: {count} diagrams, say --fence")
+    strays, outside = MANY // 2, "sequenceDiagram outside of its block"
+    told = "".join(f"diagram diagram#{n}\nrefused\n" for n in range(2, strays + 2))
+    lines = "".join(f"import fault 5 at {n}: {outside}\n" for n in range(4, strays + 4))
+    page = b"```mermaid\npie\n```\n" + b"sequenceDiagram\n" * strays
+    yield page, CHECK, Answer(told.encode(), lines.encode(), 2)
+    in_html = b"<pre class=\"mermaid\">\n" + HEAD + b"A->>B: "
+    yield filled(in_html, b"&a"), CHECK, passes(name="diagram#1")
 
 
 def bytes_that_are_no_text():

@@ -35,6 +35,7 @@ class Course:
         self.diagram, self.given, self.options, self.most = diagram, given, options, most
         self.taken, self.asked, self.arrows = [], [], 0
         # some parallel branches are drawn one below the other
+        self.is_stacked = False
         self.segments, _ = self.through(diagram.items, ())
 
     def choice(self, it):
@@ -102,6 +103,7 @@ class Course:
                     name = self.diagram.names.names[line].decode()
                     hint = Note("hint --par drawn draws the branches one below the other")
                     raise Refused(16, f"parallel branches share {name}", block.at, [hint])
+                self.is_stacked |= len(own) > 1
                 found[line] = [segment for segments in own for segment in segments]
         return found
 

@@ -2,7 +2,7 @@
 import re
 
 from nearness import distance
-from source import Note, Refused, row_shown
+from source import Note, Refused, found_note, row_shown
 
 ARROWS_HINT = "hint arrows are ->> -->> -> --> -x --x -) --) <<->> <<-->>"
 # the words that a misspelt one may have been
@@ -58,7 +58,7 @@ class Hints:
 
     def fault(self, what, at, hints, run=None):
         found = self.source.found(self.piece.at(at)) if run is None else row_shown(run)
-        notes = [Note(f"found {found}"), *map(Note, hints)]
+        notes = [found_note(found), *map(Note, hints)]
         return Refused(2, f"expected {what}", self.piece.at(at), notes)
 
     def semicolon(self):

@@ -22,10 +22,10 @@ sys.dont_write_bytecode = True
 from courses import SCENARIOS, count_of, course_of, scenarios
 from diagrams import Arrow, Diagram, made
 from hints import kind_hints
-from markdown import blocks_of
+from markdown import blocks_of, is_sequence, stray_fault
 from mermaid_lines import HEAD, Cutter, counting
 from mermaid_words import Statement
-from source import Note, Refused, Source, Span, after_space, is_word, source_of, trimmed
+from source import Note, Refused, Source, Span, after_space, found_note, is_word, source_of, trimmed
 
 
 def statements(source, rows, cross, in_markup=False):
@@ -66,9 +66,11 @@ def begins_one(row):
     return is_word(row.held, HEAD, after_space(row.held, 0))
 
 
-def no_diagram(source):
+def no_diagram(source, rows):
     """The fault of lines of which none begins a diagram."""
-    return Refused(2, "expected a diagram", source.end, [Note(f"found {source.found(source.end)}")])
+    row = next((row for row in rows if trimmed(row.held)), None)
+    at = source.end if row is None else row.start + after_space(row.held, 0)
+    return Refused(2, "expected a diagram", at, [found_note(source.found(at))])
 
 
 def kind_notes(source, rows, fault):
@@ -93,40 +95,66 @@ def numbers_hint(numbers):
 
 
 class Text:
-    """The lines of a diagram: of a block of Markdown, or of the whole file."""
+    """The lines of a diagram, which may be refused: of a block of Markdown, with its number, or of
+    the whole file. `notes` follow any fault of them, and `others` one of what they are."""
 
-    def __init__(self, source, rows):
-        self.source, self.rows = source, rows
+    def __init__(self, source, rows, block=None, notes=(), others=()):
+        self.source, self.rows, self.notes, self.others = source, rows, notes, others
+        self.number = block and block.number
+        self.in_markup = block is not None and block.in_markup
+        self.stray = block and block.stray
 
     def diagram(self, options):
         source, rows = self.source, self.rows
+        if self.stray is not None:
+            raise stray_fault(self.stray)
         try:
             if options.language == "any" and not any(map(begins_one, rows)):
-                raise no_diagram(source)
-            said = statements(source, rows, options.cross, False)
+                raise no_diagram(source, rows)
+            said = statements(source, rows, options.cross, self.in_markup)
             return Diagram(source, said)
         except Refused as fault:
             if fault.words in ("expected a diagram", "expected sequenceDiagram"):
-                fault.notes += kind_notes(source, rows, fault)
+                fault.notes += [*kind_notes(source, rows, fault), *self.others]
+            fault.notes += self.notes
             raise
 
 
-def text_asked(source, options):
-    """The diagram of a file that is asked for."""
-    if options.fence is None:
-        return Text(source, source.rows)
+def texts_of(source, options):
+    """The diagrams of a file that are asked for, and whether they are all of Markdown."""
+    first = first_row(source, source.rows)
+    if options.fence is None and first is not None and begins_one(first):
+        return [Text(source, source.rows)], False
     blocks = blocks_of(source)
-    if not 1 <= options.fence <= len(blocks):
-        hint = numbers_hint([block.number for block in blocks])
-        raise Refused(17, f"no diagram {options.fence}", None, hint)
-    return Text(source, blocks[options.fence - 1].rows)
+    own = [block for block in blocks if is_sequence(source, block)]
+    none = [] if own or not blocks else [Note("hint no block of this text is a sequence diagram")]
+    if options.fence is not None:
+        hint = numbers_hint([block.number for block in own])
+        if not 1 <= options.fence <= len(blocks):
+            raise Refused(17, f"no diagram {options.fence}", None, hint)
+        block = blocks[options.fence - 1]
+        return [Text(source, block.rows, block, [] if block in own else hint, none)], False
+    if own:
+        return [Text(source, block.rows, block) for block in own], True
+    return [Text(source, source.rows, others=none)], False
 
 
 def has_diagram(text):
-    """The text is a sequence diagram."""
+    """The text is a sequence diagram, or one of Markdown that has one."""
     source = source_of(text)
     first = first_row(source, source.rows)
-    return first is not None and begins_one(first)
+    if first is not None and begins_one(first):
+        return True
+    return any(is_sequence(source, block) for block in blocks_of(source))
+
+
+def one_text(source, options):
+    """The one diagram of a file."""
+    texts, _ = texts_of(source, options)
+    if len(texts) > 1:
+        hint = numbers_hint([text.number for text in texts])
+        raise Refused(20, f"{len(texts)} diagrams, say --fence", None, hint)
+    return texts[0]
 
 
 def all_scenarios(diagram, name, options):
@@ -153,7 +181,7 @@ def only_scenario(diagram, options):
 
 def answer(source, options):
     """What is printed."""
-    diagram = text_asked(source, options).diagram(options)
+    diagram = one_text(source, options).diagram(options)
     name = made(options.name.encode(), b"diagram").decode()
     if options.into is not None:
         return "".join(all_scenarios(diagram, name, options)).encode()

@@ -7,7 +7,7 @@ import itertools
 import re
 from typing import NamedTuple, Sequence
 
-from source import SPACE, Note, Refused, after_space, before_space, is_word, trimmed
+from source import Note, Refused, SPACE, after_space, before_space, found_note, is_word, trimmed
 
 HEAD = b"sequenceDiagram"
 ENTITY = re.compile(rb"#[A-Za-z0-9_]+;")
@@ -19,6 +19,7 @@ DESCRIBED = re.compile(rb"accDescr%s*\{" % SPACE, re.IGNORECASE)
 COMMENTED = re.compile(
     rb"(?:autonumber(?:%s+(?:off|[0-9]+(?:%s+[0-9]+)?))?|end)(?=%s*%%%%)" % (SPACE, SPACE, SPACE),
     re.IGNORECASE)
+NO_NAME = re.compile(rb"[+<=>:,;]|%%|\(\)|-[/\\|]|^-|-$")
 DECLARING = re.compile(
     rb"(?:create%s+)?(?:participant|actor)(?![A-Za-z0-9_])%s*" % (SPACE, SPACE), re.IGNORECASE)
 AS = re.compile(rb"%s+as(?=%s)" % (SPACE, SPACE), re.IGNORECASE)
@@ -37,6 +38,8 @@ class Piece(NamedTuple):
     is_first: bool
     # a `@{` in it has no end
     is_open: bool = False
+    # where it ends on its first line
+    stop: int = 0
 
     @property
     def held(self):
@@ -58,7 +61,7 @@ def opened(at):
 
 def expected(source, what, at, *notes):
     """A fault 2, which tells what was found."""
-    return Refused(2, f"expected {what}", at, [Note(f"found {source.found(at)}"), *notes])
+    return Refused(2, f"expected {what}", at, [found_note(source.found(at)), *notes])
 
 
 def without_front(source, rows):
@@ -136,12 +139,13 @@ def statement_end(held, at):
 
 
 def config_of(held, at):
-    """The place behind the `@{` of the line that is declared here, if it has one."""
+    """The place behind the `@{` of the line that is declared here, if it has one and a name."""
     found = DECLARING.match(held, at)
     brace = held.find(b"@{", found.end(), statement_end(held, at)) if found else -1
     if brace < 0 or AS.search(held, found.end(), brace):
         return None
-    return brace + 2
+    name = trimmed(bare(held[found.end():brace]))
+    return brace + 2 if name and not NO_NAME.search(name) else None
 
 
 class Cutter:
@@ -186,8 +190,10 @@ class Cutter:
             if found >= 0:
                 break
             size += len(row.held) + 1
+        if found < 0:
+            return -1
         self.held, self.places = b"\n".join(parts), places
-        return size + found if found >= 0 else -1
+        return size + found
 
     def piece(self):
         """The statement that begins here, if one does."""
@@ -208,11 +214,18 @@ class Cutter:
 
     def statement(self, at):
         """The statement that begins here; the next one of its line goes on behind its `;`."""
-        commented = COMMENTED.match(self.held, at)
-        end = commented.end() if commented else statement_end(self.held, at)
-        config = None if commented else config_of(self.held, at)
-        is_open = config is not None and self.held.find(b"}", config, end) < 0
+        commented, end = COMMENTED.match(self.held, at), statement_end(self.held, at)
+        config = config_of(self.held, at)
+        stop, is_open = self.places[before_space(self.held, end, at)], False
+        if commented:
+            end = commented.end()
+        elif config is not None and self.held.find(b"}", config, end) < 0:
+            # it goes on where nothing follows it on its line
+            is_last = end == len(self.held)
+            brace = self.join_to(b"}", config, self.in_markup) if is_last else -1
+            is_open = brace < 0
+            end = end if is_open else statement_end(self.held, brace)
         if self.held.startswith(b";", end):
             self.at = end + 1
         past = before_space(self.held, end, at)
-        return Piece(self.held, at, past, self.places, self.is_first, is_open)
+        return Piece(self.held, at, past, self.places, self.is_first, is_open, stop)

@@ -7,7 +7,7 @@ import re
 
 from diagrams import Arrow, Begin, Branch, End, Line
 from hints import ARROWS_HINT, Hints, arrow_run
-from mermaid_lines import AS, bare, expected
+from mermaid_lines import AS, NO_NAME, bare, expected
 from source import SPACE, Note, Refused, Span, after_space, before_space
 
 BLOCKS = b"loop alt opt par par_over critical break rect box".split()
@@ -20,7 +20,6 @@ BOTH = b"<<->> <<-->>".split()
 LEFT = rb"""/|- /|-- \|- \|-- //- //-- \\- \\--""".split()
 LONGEST = sorted([*RIGHT, *BOTH, *LEFT], key=len, reverse=True)
 ARROW = re.compile(b"|".join(map(re.escape, LONGEST)), re.IGNORECASE)
-NO_NAME = re.compile(rb"[+<=>:,;]|%%|\(\)|-[/\\|]|^-|-$")
 WORD = re.compile(rb"[A-Za-z0-9_]*")
 NOTE = re.compile(rb"%s*(?:left of|right of|over)(?![A-Za-z0-9_])([^:]*):" % SPACE, re.IGNORECASE)
 NUMBERED = re.compile(rb"(?:%s+(?:off|[0-9]+(?:%s+[0-9]+)?))?" % (SPACE, SPACE), re.IGNORECASE)
@@ -161,7 +160,7 @@ class Statement:
     def configured(self, ident, brace):
         """The line that is declared with something between braces."""
         if self.piece.is_open:
-            raise expected(self.source, "}", self.piece.at(len(self.held)))
+            raise expected(self.source, "}", self.piece.stop)
         end = self.held.index(b"}", brace)
         alias, shown = ALIAS.search(self.held[:end], brace + 1), None
         if alias:
@@ -172,7 +171,8 @@ class Statement:
         if named:
             shown = self.text(named.end(), len(self.held))
         elif behind < len(self.held):
-            raise expected(self.source, "a statement", self.piece.at(behind))
+            at = min(self.piece.at(behind), self.piece.stop)
+            raise expected(self.source, "the end of the statement", at)
         return Line(ident, shown if shown and shown.held else None)
 
     def arrow(self):

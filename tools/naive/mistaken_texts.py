@@ -44,6 +44,9 @@ LINES = [
     # what is shown is taken from the wrong place
     ("participant A@{ \"alias\": \"Data as Service\" }\nA->>B: x",
      "A:Data_as_Service B", "A->B x"),
+    ("participant A@{ 'type': 'queue',\n  'alias': 'Q'\n}\nA->>B: x", "A:Q B", "A->B x"),
+    ("participant A@{\n  alias: Q\n  type: queue\n}\nA->>B: x", "A:Q B", "A->B x"),
+    ("participant A@{\nB->>A: y\n}; B->>A: z\nA->>B: x", "A B", "B->A z, A->B x"),
     ("participant A@{ \"alias\": \"Q\" } as P\nA->>B: x", "A:P B", "A->B x"),
     ("A->>B: :wrap: x", "A B", "A->B x"),
     ("A->>B: :nowrap: x", "A B", "A->B x"),

@@ -16,7 +16,7 @@ import sys
 sys.dont_write_bytecode = True
 from diagram_checks import diagram
 from courses import scenarios
-from mermaid import text_asked
+from mermaid import one_text
 from scenarios import QUEUES, Scenario, options_of
 from source import Refused, source_of
 
@@ -28,7 +28,7 @@ def races(text, rounds, words):
     """The races of a diagram by their lines, arrows and ends, or None where it is refused."""
     options = options_of([*words, "--limit", "300", "--rounds", rounds, "-"])
     try:
-        every = list(scenarios(text_asked(source_of(text), options).diagram(options), options))
+        every = list(scenarios(one_text(source_of(text), options).diagram(options), options))
     except Refused:
         return None
     every = [Scenario(course, options.queues, "-") for course in every]

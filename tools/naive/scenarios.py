@@ -18,12 +18,13 @@ import sys
 sys.dont_write_bytecode = True
 from courses import scenarios
 from diagrams import made
-from mermaid import fault_bytes, text_asked, words_on_diagrams
+from mermaid import fault_bytes, texts_of, words_on_diagrams
 from source import Refused, Source, source_of
 from studies import KINDS, editor_lines, is_closest, kind, race_words, run_lines, shown_run, why
 from verdict import Chart
 
 QUEUES = ("pair", "mailbox", "single")
+STACKED = "pass, parallel branches drawn one below the other"
 ALL = 2 ** 32 - 1
 
 
@@ -32,6 +33,7 @@ class Scenario:
 
     def __init__(self, course, queues, file):
         self.choices, self.events = course.taken, list(course.events())
+        self.is_stacked = course.is_stacked
         self.drawn = Chart(course.text("t"), queues)
         self.races = self.drawn.races()
         places = [event.arrow.place for _, event in self.events]
@@ -75,6 +77,21 @@ class Verdict:
                     found.append((i, race))
         return found
 
+    def numbers(self):
+        """The lines that sum up the races, if the options ask for them."""
+        if not (self.allow or self.is_closest):
+            return [] if self.places else [self.passed()]
+        lines = [f"races {len(self.places)}"] if self.places else [self.passed()]
+        if self.allow:
+            lines.append(f"allowed {len(self.places - self.counting(False))}")
+        if self.is_closest:
+            lines.append(f"closest {len(self.counting(True))}")
+        return lines
+
+    def passed(self):
+        """What is told of a diagram without races."""
+        return STACKED if any(it.is_stacked for it in self.every) else "pass"
+
     def count(self):
         closest = len(self.counting(True))
         return f"races {len(self.places)} closest {closest}" if self.places else "pass"
@@ -87,12 +104,16 @@ class Output:
         self.options, self.lines, self.error, self.status = options, [], b"", 0
         self.most, self.show = options.most, options.show
         if self.show is None:
-            self.show = 0
+            self.show = ALL if options.words or options.short else 0
 
-    def refused(self, source, fault):
-        """Tells of a diagram that is refused."""
-        if self.options.format == "lines":
+    def refused(self, source, fault, name, file):
+        """Tells of a diagram that is refused; it has a name if others may follow."""
+        form = self.options.format
+        if form == "lines":
             self.lines += source.editor_lines(fault, self.options.notes)
+        elif name is not None:
+            is_count = form == "count"
+            self.lines += [f"refused {file}"] if is_count else [f"diagram {name}", "refused"]
         self.error += fault_bytes(source, fault, self.options.places)
         self.status = 2
 
@@ -123,8 +144,8 @@ class Output:
         yield f"diagram {name}"
         yield f"queues {self.options.queues}"
         yield f"scenarios {len(verdict.every)}"
+        yield from verdict.numbers()
         if not verdict.places:
-            yield "pass"
             return
         for i, scenario in enumerate(verdict.every):
             own = [race for at, race in verdict.listed if at == i]
@@ -137,7 +158,7 @@ class Output:
                 if is_told:
                     yield from self.race_lines(scenario, race, has_run)
         yield f"listed {len(verdict.listed)}"
-        yield f"passed {sum(not it.races for it in verdict.every)}"
+        yield f"passed {sum(not it.left(self.options.allow, False) for it in verdict.every)}"
 
     def race_lines(self, scenario, race, has_run):
         """What is told of a race."""
@@ -163,9 +184,15 @@ def name_of(options):
 
 
 def judge(source, options, output):
-    """Checks the diagram of a file."""
-    diagram = text_asked(source, options).diagram(options)
-    output.judged(Verdict(diagram, options), name_of(options), source.file)
+    """Checks the diagrams of a file."""
+    texts, is_all = texts_of(source, options)
+    for text in texts:
+        number = f"#{text.number}" if is_all else ""
+        name, file = name_of(options) + number, source.file + number
+        try:
+            output.judged(Verdict(text.diagram(options), options), name, file)
+        except Refused as fault:
+            output.refused(source, fault, name if is_all else None, file)
 
 
 def answer(text, options):
@@ -175,7 +202,7 @@ def answer(text, options):
         source = source_of(text, options.file)
         judge(source, options, output)
     except Refused as fault:
-        output.refused(source, fault)
+        output.refused(source, fault, None, source.file)
     lines = [] if options.quiet else output.lines
     return "".join(line + "\n" for line in lines).encode(), output.error, output.status
 

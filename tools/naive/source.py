@@ -44,6 +44,11 @@ class Note(NamedTuple):
     said: str = None
 
 
+def found_note(shown):
+    """What stands at a place, as a note: the word alone if nothing of it can be shown."""
+    return Note(f"found {shown}" if shown else "found")
+
+
 class Refused(Exception):
     """The first fault of a text: its number, its words, its place if it has one, and its notes."""
 

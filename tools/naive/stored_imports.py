@@ -24,7 +24,10 @@ CHECK = ["--from", "any", "--queues", "pair"]
 CHECKS = {
     "pair": (CHECK, 0),
     "mailbox": ([*CHECK[:3], "mailbox"], 0),
-    "err": (CHECK, 1),
+    "closest": ([*CHECK, "--closest", "--allow", "early"], 0),
+    "drawn": ([*CHECK, "--par", "drawn"], 0),
+    "err": ([*CHECK, "--places"], 1),
+    "lines": ([*CHECK, "--format", "lines"], 0),
 }
 
 

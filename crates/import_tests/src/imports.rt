@@ -5,7 +5,7 @@ use msc_import::{
     Imported, Importing, ImportingAll, Language, Manner, Own, Par, Refused, Scenarios, import,
     import_all, places,
 };
-use msc_mermaid::{ImportFault, diagram_of, fenced};
+use msc_mermaid::{ImportFault, diagram_of};
 use msc_place::Position;
 use msc_scenarios::{all_choices, scenarios};
 use std::alloc::AllocGlobal;
@@ -254,72 +254,6 @@ fn lists_of_choices_are_bounded(rt: HostRuntime) {
     }
 }
 
-/// A text of Markdown, the number of a diagram, and its text or the fault.
-type Fenced = (&'static [u8], usize, Result<&'static [u8], ImportFault>);
-
-/// A diagram, one of several and blocks that are none.
-const FENCED: &[Fenced] = &[
-    (
-        b"# T\n```mermaid\nsequenceDiagram\nA->>B: a\n```\ntext\n",
-        1,
-        Ok(b"\n\nsequenceDiagram\nA->>B: a\n\n\n"),
-    ),
-    (
-        b"```mermaid\na\n```\n```js\n```mermaid\n```\n  ``` puml x\n  b\n\t``` \nc\n",
-        1,
-        Ok(b"\na\n\n\n\n\n\n\n\n\n"),
-    ),
-    (
-        b"```mermaid\na\n```\n```js\n```mermaid\n```\n  ``` puml x\n  b\n\t``` \nc\n",
-        2,
-        Ok(b"\n\n\n\n\n\n\n  b\n\n\n"),
-    ),
-    (
-        b"```mermaid\na\n```\n```js\n```mermaid\n```\n  ``` puml x\n  b\n\t``` \nc\n",
-        3,
-        Err(ImportFault::NoDiagram(3)),
-    ),
-    (b"```mermaid\na\n```", 0, Err(ImportFault::NoDiagram(0))),
-    (b"", 1, Err(ImportFault::NoDiagram(1))),
-    // a block that isn't ended, and line ends
-    (b"x\r\n```mermaid\ra\r\nb", 1, Ok(b"\n\na\nb")),
-    // a line between a CR and a LF
-    (
-        b"```\r\na\rb\n```\nx\r```mscgen\rm",
-        1,
-        Ok(b"\n\n\n\n\n\nm"),
-    ),
-    // words and their letter case
-    (
-        b"```Mermaid\n```\n```mermaids\n```\n````mermaid\n```\n``` \tplantuml{x}\nd",
-        1,
-        Ok(b"\n\n\n\n\n\n\nd"),
-    ),
-    (b"\xef\xbb\xbf```mermaid\nd", 1, Ok(b"\nd")),
-    // what stands in front of a diagram, which may end its block
-    (
-        b"```mermaid\n--- \ntitle: a\n---\nd\n---\n```\n",
-        1,
-        Ok(b"\n\n\n\nd\n---\n\n"),
-    ),
-    (b"```mermaid\n---\na\n```\n---\n", 1, Ok(b"\n\n\n\n\n")),
-    (b"```mermaid\n\n---\n", 1, Ok(b"\n\n---\n")),
-    // a longer row of backquotes ends no block
-    (b"```mermaid\n````\n```\n", 1, Ok(b"\n````\n\n")),
-];
-
-#[test]
-fn the_texts_of_diagrams_in_markdown(rt: HostRuntime) {
-    for &(text, number, wanted) in FENCED {
-        let same = match (fenced(rt.alloc(), text, number), wanted) {
-            (Ok(found), Ok(bytes)) => found.as_slice() == bytes,
-            (Err(fault), Err(other)) => fault == other,
-            _ => false,
-        };
-        assert!(rt; same, "{text:?} {number}");
-    }
-}
-
 /// Two diagrams, the second with a block.
 const MARKDOWN: &[u8] =
     b"# Pay\n\n```mermaid\nsequenceDiagram\nA->>B: a\n```\n\n```mermaid\nsequenceDiagram\nB->>A: b\n```\n\n```mermaid\nsequenceDiagram\nopt x\nA->>B: a\n```\n";
@@ -350,7 +284,13 @@ fn a_diagram_of_markdown_has_its_places(rt: HostRuntime) {
     assert!(rt; found);
     for (number, wanted) in [
         (0, ImportFault::NoDiagram(0)),
-        (3, ImportFault::Unended(15)),
+        (
+            3,
+            ImportFault::Unended(Position {
+                line: 15,
+                column: 1,
+            }),
+        ),
         (4, ImportFault::NoDiagram(4)),
     ] {
         let fault = main_of(&rt, number).err().map(|refused| refused.fault);

@@ -1,5 +1,7 @@
-//! Tests of imports: of diagrams, of their scenarios, and of what they lack.
+//! Tests of imports: of diagrams, of their scenarios, of blocks of Markdown, and of what they lack.
 #![tactic(auto)]
 
 #[cfg(test)]
 mod imports;
+#[cfg(test)]
+mod markdown;

@@ -82,27 +82,35 @@ rounds_are again d None same = tt
 rounds_are again d (Some t) (same, is) = is
 
 module _ {W : Type 0} (contents : W → Option (List ℕ)) where
+  -- what one thing was refused with another was, where what begins the one begins the other
+  pub refused_so : {A B : Type 0} (prints : A → List ℕ → Type 0) (so : B → List ℕ → Type 0) (begins begun : List ℕ → Type 0) (refuses not_so : Refusal → Type 0)
+      → ((printed : List ℕ) → begins printed → begun printed) → ((r : Refusal) → refuses r → not_so r)
+      → (r : Refusal) (old new : W) → AnswersWith contents prints begins refuses (Err r) old new
+      → AnswersWith contents so begun not_so (Err r) old new
+  refused_so prints so begins begun refuses not_so starts wrong (refusals.Fault Memory) old new (inl same) = inl same
+  refused_so prints so begins begun refuses not_so starts wrong (refusals.Fault Memory) old new (inr (printed, says, part)) =
+      inr (printed, starts printed says, part)
+  refused_so prints so begins begun refuses not_so starts wrong (refusals.Fault Device) old new said = tt
+  refused_so prints so begins begun refuses not_so starts wrong (refusals.Fault (Parse f)) old new (fails, same) = (wrong _ fails, same)
+  refused_so prints so begins begun refuses not_so starts wrong (refusals.Fault (Chart f)) old new (fails, same) = (wrong _ fails, same)
+  refused_so prints so begins begun refuses not_so starts wrong (refusals.Fault (NotStarted i)) old new (fails, same) = (wrong _ fails, same)
+  refused_so prints so begins begun refuses not_so starts wrong (refusals.Pair f) old new (fails, same) = (wrong _ fails, same)
+  refused_so prints so begins begun refuses not_so starts wrong (refusals.Mark f) old new (fails, same) = (wrong _ fails, same)
+  refused_so prints so begins begun refuses not_so starts wrong (refusals.Instance name) old new (fails, same) = (wrong _ fails, same)
+  refused_so prints so begins begun refuses not_so starts wrong (refusals.Rounds f) old new (fails, same) = (wrong _ fails, same)
+  refused_so prints so begins begun refuses not_so starts wrong (refusals.Import e) old new (fails, same) = (wrong _ fails, same)
+
   -- what was answered of one thing was answered of another, where what is right of it is right there, and what
   -- begins it begins that
-  pub answers_with_so : (prints so : Status → List ℕ → Type 0) (begins begun : List ℕ → Type 0) (refuses not_so : Refusal → Type 0)
-      → ((status : Status) (printed : List ℕ) → prints status printed → so status printed)
+  pub answers_with_so : {A : Type 0} (prints so : A → List ℕ → Type 0) (begins begun : List ℕ → Type 0) (refuses not_so : Refusal → Type 0)
+      → ((a : A) (printed : List ℕ) → prints a printed → so a printed)
       → ((printed : List ℕ) → begins printed → begun printed) → ((r : Refusal) → refuses r → not_so r)
-      → (answer : Result Status Refusal) (old new : W) → AnswersWith contents prints begins refuses answer old new
+      → (answer : Result A Refusal) (old new : W) → AnswersWith contents prints begins refuses answer old new
       → AnswersWith contents so begun not_so answer old new
-  answers_with_so prints so begins begun refuses not_so right starts wrong (Ok status) old new (printed, says, wrote) =
-      (printed, right status printed says, wrote)
-  answers_with_so prints so begins begun refuses not_so right starts wrong (Err (refusals.Fault Memory)) old new (inl same) = inl same
-  answers_with_so prints so begins begun refuses not_so right starts wrong (Err (refusals.Fault Memory)) old new (inr (printed, says, part)) =
-      inr (printed, starts printed says, part)
-  answers_with_so prints so begins begun refuses not_so right starts wrong (Err (refusals.Fault Device)) old new said = tt
-  answers_with_so prints so begins begun refuses not_so right starts wrong (Err (refusals.Fault (Parse f))) old new (fails, same) = (wrong _ fails, same)
-  answers_with_so prints so begins begun refuses not_so right starts wrong (Err (refusals.Fault (Chart f))) old new (fails, same) = (wrong _ fails, same)
-  answers_with_so prints so begins begun refuses not_so right starts wrong (Err (refusals.Fault (NotStarted i))) old new (fails, same) = (wrong _ fails, same)
-  answers_with_so prints so begins begun refuses not_so right starts wrong (Err (refusals.Pair f)) old new (fails, same) = (wrong _ fails, same)
-  answers_with_so prints so begins begun refuses not_so right starts wrong (Err (refusals.Mark f)) old new (fails, same) = (wrong _ fails, same)
-  answers_with_so prints so begins begun refuses not_so right starts wrong (Err (refusals.Instance name)) old new (fails, same) = (wrong _ fails, same)
-  answers_with_so prints so begins begun refuses not_so right starts wrong (Err (refusals.Rounds f)) old new (fails, same) = (wrong _ fails, same)
-  answers_with_so prints so begins begun refuses not_so right starts wrong (Err (refusals.Import e)) old new (fails, same) = (wrong _ fails, same)
+  answers_with_so prints so begins begun refuses not_so right starts wrong (Ok a) old new (printed, says, wrote) =
+      (printed, right a printed says, wrote)
+  answers_with_so prints so begins begun refuses not_so right starts wrong (Err r) old new said =
+      refused_so prints so begins begun refuses not_so starts wrong r old new said
 
   -- the same, where what is right begins itself
   pub answers_so : (prints so : Status → List ℕ → Type 0) (refuses not_so : Refusal → Type 0)

@@ -1,5 +1,5 @@
 -- What stands behind a page after two things were put there.
-use Rattle.std.proofs.Common.{ℕ, ◌++◌, List, [], Option, ap, sym, ◌∙◌, append_assoc}
+use Rattle.std.proofs.Common.{◌≡◌, ℕ, ◌++◌, List, [], Option, ap, sym, ◌∙◌, append_assoc}
 use Rattle.std.proofs.lemmas.List.{append-nil}
 use Rattle.msc_notes.specs.Texts.{error_text, IsFaultPosition}
 use Rattle.msc_place.specs.declared.position.Position.{Position}
@@ -32,4 +32,14 @@ told_more file text refusal place its mid new (more, (p, stands, is_mid)) (rest,
   printed_is = is_new ∙ (ap (λ xs. xs ++ rest) is_mid
       ∙ (append_assoc (error_text file p) (refusal_line refusal ++ more) rest
       ∙ ap (λ xs. error_text file p ++ xs) (append_assoc (refusal_line refusal) more rest)));
+}
+
+-- why nothing is imported, at this position, and what was put behind it
+pub import_told : (file text : List ℕ) (refusal : Refusal) (p : Position) → IsRefusalPosition text refusal p → (mid new : List ℕ)
+    → mid ≡ error_text file p ++ refusal_line refusal → Extends mid new → IsRefusalText file text refusal new
+import_told file text refusal p its mid new is_mid (rest, is_new) = record {
+  position = p;
+  stands = its;
+  more = rest;
+  printed_is = is_new ∙ (ap (λ xs. xs ++ rest) is_mid ∙ append_assoc (error_text file p) (refusal_line refusal) rest);
 }

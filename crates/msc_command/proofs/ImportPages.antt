@@ -30,9 +30,10 @@ module _ {A : Type 0} (said : Result A Said) where
   by_fault e imports.TooLong is h = is_said e said imports.TooLong is (λ m. cc) h
   by_fault e (imports.Expected a b) is h = is_said e said (imports.Expected a b) is (λ m. cc) h
   by_fault e (imports.Unsupported a b) is h = is_said e said (imports.Unsupported a b) is (λ m. cc) h
-  by_fault e (imports.Cross a) is h = is_said e said (imports.Cross a) is (λ m. cc) h
   by_fault e (imports.Unended a) is h = is_said e said (imports.Unended a) is (λ m. cc) h
   by_fault e (imports.Outside a b) is h = is_said e said (imports.Outside a b) is (λ m. cc) h
+  by_fault e (imports.Entity a) is h = is_said e said (imports.Entity a) is (λ m. cc) h
+  by_fault e (imports.Stray a) is h = is_said e said (imports.Stray a) is (λ m. cc) h
   by_fault e (imports.TooDeep a) is h = is_said e said (imports.TooDeep a) is (λ m. cc) h
   by_fault e (imports.TooManyLines a) is h = is_said e said (imports.TooManyLines a) is (λ m. cc) h
   by_fault e (imports.TooManyScenarios a) is h = is_said e said (imports.TooManyScenarios a) is (λ m. cc) h
@@ -42,6 +43,7 @@ module _ {A : Type 0} (said : Result A Said) where
   by_fault e (imports.TooManyArrows a) is h = is_said e said (imports.TooManyArrows a) is (λ m. cc) h
   by_fault e (imports.Shared a b) is h = is_said e said (imports.Shared a b) is (λ m. cc) h
   by_fault e (imports.NoDiagram a) is h = is_said e said (imports.NoDiagram a) is (λ m. cc) h
+  by_fault e (imports.SeveralDiagrams a) is h = is_said e said (imports.SeveralDiagrams a) is (λ m. cc) h
 
   -- so nothing is imported of the text
   pub not_imported : (e : NotImported) → RefusesSo e said → IsNotImported said (of_import e)

@@ -19,7 +19,7 @@ use Rattle.msc_command.specs.Answering.{AnswersWith}
 use Rattle.msc_command.specs.Ending.{ended_by}
 use Rattle.msc_command.specs.declared.tasks.Checking.{Checking}
 use Rattle.msc_command.specs.Importing.{IsChartOrFault}
-use Rattle.msc_command.specs.Scenarios.{AreNotCharted, BeginsAll, BeginsScenarios, IsCharted, IsFormOf, IsImportOfAll, PrintsAll, PrintsScenarios, RefusesScenarios, wanted_of}
+use Rattle.msc_command.specs.Scenarios.{AreNotCharted, BeginsAll, IsCharted, IsFormOf, IsImportOfAll, PrintsCounted, RefusesScenarios, wanted_of}
 use Rattle.msc_command.specs.declared.ending.Refusal.{Refusal}
 use Rattle.msc_command.specs.declared.ending.Refusal.TheVariants as refusals
 use Rattle.msc_command.specs.declared.tasks.ScenarioWords.{ScenarioWords}
@@ -45,10 +45,10 @@ not_all file all s among (refusals.Instance name) said = absurd said
 not_all file all s among (refusals.Rounds f) said = absurd said
 not_all file all s among (refusals.Import e) said = absurd said
 
-module _ {W : Type 0} (contents : W → Option (List ℕ)) (x : ScenarioWords) (file text : List ℕ) (now : W) where
+module _ {W A : Type 0} (contents : W → Option (List ℕ)) (prints : A → List ℕ → Type 0) (begins : List ℕ → Type 0) (x : ScenarioWords) (text : List ℕ) (now : W) where
   -- where there are no scenarios, nothing is written
   pub none_drawn : (r : Refusal) → IsImportOfAll x text (Err r)
-      → AnswersWith contents (PrintsScenarios x file text) (BeginsScenarios x file text) (RefusesScenarios x text) (Err r) now now
+      → AnswersWith contents prints begins (RefusesScenarios x text) (Err r) now now
   none_drawn (refusals.Fault (Parse f)) said = absurd said
   none_drawn (refusals.Fault (Chart f)) said = absurd said
   none_drawn (refusals.Fault (NotStarted i)) said = absurd said
@@ -62,7 +62,7 @@ module _ {W : Type 0} (contents : W → Option (List ℕ)) (x : ScenarioWords) (
 
   -- and where one is no chart
   pub not_charted : ScenariosAreCharts → NoFaultIsFirst → (all : Scenarios) → imported_all (wanted_of x) text ≡ Ok all → (r : Refusal) → AreNotCharted all.list r
-      → AnswersWith contents (PrintsScenarios x file text) (BeginsScenarios x file text) (RefusesScenarios x text) (Err r) now now
+      → AnswersWith contents prints begins (RefusesScenarios x text) (Err r) now now
   not_charted charts none all is (refusals.Fault (Parse f)) said = absurd said
   not_charted charts none all is (refusals.Fault (Chart f)) (s, among, said) = absurd (none s.draft f (charts (wanted_of x) text all s is among) said)
   not_charted charts none all is (refusals.Fault (NotStarted i)) said = absurd said
@@ -74,16 +74,16 @@ module _ {W : Type 0} (contents : W → Option (List ℕ)) (x : ScenarioWords) (
   not_charted charts none all is (refusals.Rounds f) said = absurd said
   not_charted charts none all is (refusals.Import e) said = absurd said
 
-module _ {W : Type 0} (contents : W → Option (List ℕ)) (c : Checking) (file name : List ℕ) (ss : List Scenario) where
+module _ {W : Type 0} (contents : W → Option (List ℕ)) (c : Checking) (file name : List ℕ) (drawn : Bool) (ss : List Scenario) where
   -- what is told by the status alone
   pub passes_so : (quiet passed : Bool) (now : W) → quiet ≡ true → PassesScenarios ss c.queues c.question.allowed passed
-      → AnswersWith contents (PrintsAll quiet c file name ss) (BeginsAll quiet c file name ss) (λ refusal. ⊥) (Ok (ended_by passed)) now now
-  passes_so quiet passed now is says = rw is ([], (passed, refl, says, refl), nothing_more _)
+      → AnswersWith contents (PrintsCounted quiet c file name drawn ss) (BeginsAll quiet c file name drawn ss) (λ refusal. ⊥) (Ok (record { status = ended_by passed; listed = 0 })) now now
+  passes_so quiet passed now is says = rw is ([], (passed, refl, refl, says, refl), nothing_more _)
 
   -- what was not written to its end
-  pub not_told : (form : DiagramForm) → IsFormOf c file form → (quiet : Bool) → quiet ≡ false → (f : WriteFault) (old new : W)
+  pub not_told : (form : DiagramForm) → IsFormOf c file drawn form → (quiet : Bool) → quiet ≡ false → (f : WriteFault) (old new : W)
       → TellsScenarios contents (JudgesScenarios name ss c.queues c.question form) (BeginsOf name ss c.queues c.question form) (Err f) old new
-      → AnswersWith contents (PrintsAll quiet c file name ss) (BeginsAll quiet c file name ss) (λ refusal. ⊥) (Err (refusals.Fault (of_writing f))) old new
+      → AnswersWith contents (PrintsCounted quiet c file name drawn ss) (BeginsAll quiet c file name drawn ss) (λ refusal. ⊥) (Err (refusals.Fault (of_writing f))) old new
   not_told form its quiet is writing.Memory old new (inl same) = inl same
   not_told form its quiet is writing.Memory old new (inr (printed, says, begun)) = inr (printed, rw is (form, its, says), begun)
   not_told form its quiet is writing.Device old new said = tt

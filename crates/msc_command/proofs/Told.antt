@@ -1,18 +1,22 @@
 -- What the status tells of an answer.
-use Rattle.std.proofs.Common.{◌≡◌, ℕ, Bool, true, false, List, Option, Result, Ok, Err, inl, inr, sym, subst}
+use Rattle.std.proofs.Common.{◌≡◌, ℕ, Bool, true, false, nat_eq, List, Option, Some, None, Result, Ok, Err, inl, inr, refl, sym, subst}
 use Rattle.clap.specs.declared.parser.matches.Found.{Found}
 use Rattle.msc_report.specs.declared.fault.Fault.TheVariants.{Parse, Chart, NotStarted, Memory, Device}
 use Rattle.msc_diagram.specs.declared.scenario.Scenario.{Scenario}
+use Rattle.std.specs.Io.KnownBytes.{Appends}
+use Rattle.msc_markdown.specs.Markdowns.{Found as Markdown}
 use Rattle.msc_command.specs.Scenarios.{PrintsAll}
+use Rattle.msc_command.specs.Surveys.{many_in, Surveys}
 use Rattle.msc_command.specs.declared.tasks.Checking.{Checking}
 use Rattle.msc_command.specs.declared.ending.Refusal.{Refusal}
 use Rattle.msc_command.specs.declared.ending.Refusal.TheVariants as refusals
 use Rattle.msc_command.specs.declared.ending.Status.{Status}
 use Rattle.msc_command.specs.declared.ending.Status.TheVariants.{Done, Races, Refused, Unfinished, Failed}
 use Rattle.msc_command.specs.declared.tasks.Ask.TheVariants as asks
+use Rattle.msc_command.specs.declared.tasks.ScenarioWords.{ScenarioWords}
 use Rattle.msc_command.specs.declared.tasks.Task.{Task}
 use Rattle.msc_command.specs.declared.tasks.Task.TheVariants as tasks
-use Rattle.msc_command.specs.Answering.{ends_with, Performs, Prints}
+use Rattle.msc_command.specs.Answering.{ends_with, Performs, Prints, PrintsDiagrams}
 use Rattle.msc_command.specs.Ending.{ended_by, finished_by, status_code}
 use Rattle.msc_command.specs.Program.{Obeys, Tells, TellsAnswer, TellsRefused}
 use Rattle.msc_command.specs.Refused.{form_of, TellsIn}
@@ -30,29 +34,42 @@ never_finished true same = cc
 never_finished false same = cc
 
 -- and none of scenarios
-never_surveyed : (quiet : Bool) (c : Checking) (file name : List ℕ) (ss : List Scenario) (printed : List ℕ) → PrintsAll quiet c file name ss Refused printed → ⊥
-never_surveyed true c file name ss printed (passed, same, says, none) = never_ended passed same
-never_surveyed false c file name ss printed (form, its, passed, same, says) = never_ended passed same
+never_surveyed : (quiet : Bool) (c : Checking) (file name : List ℕ) (drawn : Bool) (ss : List Scenario) (printed : List ℕ) → PrintsAll quiet c file name drawn ss Refused printed → ⊥
+never_surveyed true c file name drawn ss printed (n, (passed, same, zero, says, none)) = never_ended passed same
+never_surveyed false c file name drawn ss printed (n, (form, its, same, says)) = never_ended (nat_eq n 0) same
 
--- so nothing that is printed for a task is
-never_printed : (task : Task) (file text printed : List ℕ) → Prints task file text Refused printed → ⊥
-never_printed tasks.Read file text printed (draft, has, same, is) = cc
-never_printed (tasks.Chart (asks.Check c)) file text printed (d, of_text, (format, its, marks, are, passed, same, says)) = never_ended passed same
-never_printed (tasks.Chart (asks.Quiet x)) file text printed (d, of_text, (marks, are, passed, same, says, none)) = never_ended passed same
-never_printed (tasks.Chart (asks.Explain x)) file text printed (d, of_text, (e, f, two, style, its, enforced, same, says)) = never_ended enforced same
-never_printed (tasks.Chart (asks.Run queues patience)) file text printed (d, of_text, (finished, same, says)) = never_finished finished same
-never_printed (tasks.Chart (asks.List placed)) file text printed (d, of_text, (sites, are, same, is)) = cc
-never_printed (tasks.Chart (asks.Ready x)) file text printed (d, of_text, (only, are, style, its, passed, same, says)) = never_ended passed same
-never_printed (tasks.Draw drawn) file text printed (d, is, (same, says)) = cc
-never_printed (tasks.Import x) file text printed (same, says) = cc
-never_printed (tasks.Scenarios x) file text printed (all, is, charts, says) = never_surveyed x.quiet x.checking file _ _ printed says
+-- one of several diagrams is refused
+abbrev pub RefusesOne : List ℕ → Type 0
+RefusesOne printed = (x : ScenarioWords) × (file : List ℕ) × (text : List ℕ) × (f : Markdown) × (many_in x text ≡ Some f) × Surveys x file text f.numbers Done Refused printed
+
+diagram_refused : (many : Option Markdown) (x : ScenarioWords) (file text printed : List ℕ) → many_in x text ≡ many
+    → PrintsDiagrams many x file text Refused printed → RefusesOne printed
+diagram_refused None x file text printed is (all, of_text, charts, says) = absurd (never_surveyed x.quiet x.checking file _ _ _ printed says)
+diagram_refused (Some f) x file text printed is says = (x, file, text, f, is, says)
+
+-- so of what is printed for a task only several diagrams are
+printed_refused : (task : Task) (file text printed : List ℕ) → Prints task file text Refused printed → RefusesOne printed
+printed_refused tasks.Read file text printed (draft, has, same, is) = absurd cc
+printed_refused (tasks.Chart (asks.Check c)) file text printed (d, of_text, (format, its, marks, are, passed, same, says)) = absurd (never_ended passed same)
+printed_refused (tasks.Chart (asks.Quiet x)) file text printed (d, of_text, (marks, are, passed, same, says, none)) = absurd (never_ended passed same)
+printed_refused (tasks.Chart (asks.Explain x)) file text printed (d, of_text, (e, f, two, style, its, enforced, same, says)) = absurd (never_ended enforced same)
+printed_refused (tasks.Chart (asks.Run queues patience)) file text printed (d, of_text, (finished, same, says)) = absurd (never_finished finished same)
+printed_refused (tasks.Chart (asks.List placed)) file text printed (d, of_text, (sites, are, same, is)) = absurd cc
+printed_refused (tasks.Chart (asks.Ready x)) file text printed (d, of_text, (only, are, style, its, passed, same, says)) = absurd (never_ended passed same)
+printed_refused (tasks.Draw drawn) file text printed (d, is, (same, says)) = absurd cc
+printed_refused (tasks.Import x) file text printed (same, says) = absurd cc
+printed_refused (tasks.Scenarios x) file text printed says = diagram_refused (many_in x text) x file text printed refl says
 
 module _ {W : Type 0} (contents : W → Option (List ℕ)) where
   -- of a refusal that was told, nothing or its lines went out
   refused_told : (form : Form) (file text : List ℕ) (refusal : Refusal) (old new : W) → TellsIn contents form file text refusal old new → TellsRefused contents old new
   refused_told forms.Text file text refusal old new same = inl same
   refused_told forms.Count file text refusal old new same = inl same
-  refused_told forms.Lines file text refusal old new (printed, is, wrote) = inr (file, text, refusal, printed, is, wrote)
+  refused_told forms.Lines file text refusal old new (printed, is, wrote) = inr (inl (file, text, refusal, printed, is, wrote))
+
+  -- and of several diagrams of which one is refused all that is printed did
+  several_told : (printed : List ℕ) (old new : W) → RefusesOne printed → Appends (contents old) (contents new) printed → TellsRefused contents old new
+  several_told printed old new (x, file, text, f, is, says) wrote = inr (inr (x, file, text, f, is, printed, says, wrote))
 
   -- the status tells of what was performed
   tells : (task : Task) (file : List ℕ) (reads : List ℕ → Type 0) (answer : Result Status Refusal) (old new : W)
@@ -60,7 +77,8 @@ module _ {W : Type 0} (contents : W → Option (List ℕ)) where
   tells task file reads (Ok Done) old new said = tt
   tells task file reads (Ok Races) old new (inl (text, read, (printed, says, wrote))) = (task, file, text, printed, says, wrote)
   tells task file reads (Ok Races) old new (inr (never, same)) = absurd never
-  tells task file reads (Ok Refused) old new (inl (text, read, (printed, says, wrote))) = absurd (never_printed task file text printed says)
+  tells task file reads (Ok Refused) old new (inl (text, read, (printed, says, wrote))) =
+      several_told printed old new (printed_refused task file text printed says) wrote
   tells task file reads (Ok Refused) old new (inr (never, same)) = absurd never
   tells task file reads (Ok Unfinished) old new (inl (text, read, (printed, says, wrote))) = (task, file, text, printed, says, wrote)
   tells task file reads (Ok Unfinished) old new (inr (never, same)) = absurd never

@@ -1,5 +1,5 @@
 -- What is answered for a task.
-use Rattle.std.specs.Prelude.{◌≡◌, ◌<◌, ◌⊎◌, ℕ, Bool, true, List, [], length, Option, Result, Ok, Err}
+use Rattle.std.specs.Prelude.{◌≡◌, ◌<◌, ◌⊎◌, ◌++◌, ℕ, Bool, true, List, [], length, Option, None, Some, Result, Ok, Err}
 use Rattle.std.specs.Io.KnownBytes.{Appends}
 use Rattle.msc_chart.specs.Drawings.{Drawing}
 use Rattle.msc_chart.specs.Faults.{IsFirstFault}
@@ -10,6 +10,7 @@ use Rattle.msc_parser.specs.Parsing.{HasDraft, HasParseFault}
 use Rattle.msc_judge.specs.Pages.{WritesBeginning}
 use Rattle.msc_mark.specs.declared.fault.MarkFault.{MarkFault}
 use Rattle.msc_mark.specs.declared.mark.Mark.{Mark}
+use Rattle.msc_markdown.specs.Markdowns.{Found}
 use Rattle.msc_report.specs.declared.fault.Fault.TheVariants.{Parse, NotStarted, Memory, Device}
 use Rattle.msc_report.specs.declared.fault.Fault.TheVariants as faults
 use Rattle.msc_place.specs.Sites.{SitesIn}
@@ -30,10 +31,11 @@ use Rattle.msc_command.specs.Importing.{PrintsImportPage, RefusesImport}
 use Rattle.msc_command.specs.Marked.{AreMarked, HasFaultyMark}
 use Rattle.msc_command.specs.Naming.{AreTwoNamed, IsNamedFault}
 use Rattle.msc_command.specs.Readied.{names_of, AreReady, IsFirstUnknown}
-use Rattle.msc_command.specs.Refused.{TellsRefusal, TellsUnread}
+use Rattle.msc_command.specs.Refused.{form_of, TellsRefusal, TellsUnread}
 use Rattle.msc_command.specs.Rounds.{LacksRounds}
 use Rattle.msc_command.specs.Scenarios.{BeginsScenarios, PrintsScenarios, RefusesScenarios}
 use Rattle.msc_command.specs.Sited.{AreSited, IsStyle}
+use Rattle.msc_command.specs.Surveys.{many_in, refused_text, AreLinesIn, BeginsSurvey, Surveys}
 use Rattle.msc_command.specs.declared.ending.Refusal.{Refusal}
 use Rattle.msc_command.specs.declared.ending.Refusal.TheVariants as refusals
 use Rattle.msc_command.specs.declared.ending.Status.{Status}
@@ -41,6 +43,7 @@ use Rattle.msc_command.specs.declared.ending.Status.TheVariants.{Done}
 use Rattle.msc_command.specs.declared.tasks.Ask.{Ask}
 use Rattle.msc_command.specs.declared.tasks.Ask.TheVariants.{Check, Quiet, Explain, Run, List as Listing, Ready}
 use Rattle.msc_command.specs.declared.tasks.Quieting.{Quieting}
+use Rattle.msc_command.specs.declared.tasks.ScenarioWords.{ScenarioWords}
 use Rattle.msc_command.specs.declared.tasks.Task.{Task}
 use Rattle.msc_command.specs.declared.tasks.Task.TheVariants.{Read, Chart, Draw, Import, Scenarios}
 
@@ -102,6 +105,22 @@ RefusesOf ask s (refusals.Rounds fault) = RefusesRounds ask s.chart fault
 RefusesOf ask s (refusals.Fault (NotStarted i)) = FailsToStart ask s.chart i
 RefusesOf ask s refusal = ⊥
 
+-- what is printed of the diagrams of a text: of all of them, if it holds such of which all are checked; else of
+-- the one
+abbrev pub PrintsDiagrams : Option Found → ScenarioWords → List ℕ → List ℕ → Status → List ℕ → Type 0
+PrintsDiagrams None x file text status printed = PrintsScenarios x file text status printed
+PrintsDiagrams (Some f) x file text status printed = Surveys x file text f.numbers Done status printed
+
+-- what begins that, where memory ran out
+abbrev pub BeginsDiagrams : Option Found → ScenarioWords → List ℕ → List ℕ → List ℕ → Type 0
+BeginsDiagrams None x file text printed = BeginsScenarios x file text printed
+BeginsDiagrams (Some f) x file text printed = BeginsSurvey x file text f.numbers printed
+
+-- why nothing is printed of them: where all are checked, one that is refused keeps none from being printed
+abbrev pub RefusesDiagrams : Option Found → ScenarioWords → List ℕ → Refusal → Type 0
+RefusesDiagrams None x text refusal = RefusesScenarios x text refusal
+RefusesDiagrams (Some f) x text refusal = ⊥
+
 -- what is printed of the text of a file for a task: its draft's canonical text, or what is asked of
 -- its chart
 abbrev pub Prints : Task → List ℕ → List ℕ → Status → List ℕ → Type 0
@@ -112,13 +131,13 @@ Prints (Chart ask) file text status printed =
 Prints (Draw drawn) file text status printed =
     (d : Drawing) × (is : IsChartOf text d) × PrintsPage drawn is.draft (source_text MscPr text d) status printed
 Prints (Import x) file text status printed = PrintsImportPage x file text status printed
-Prints (Scenarios x) file text status printed = PrintsScenarios x file text status printed
+Prints (Scenarios x) file text status printed = PrintsDiagrams (many_in x text) x file text status printed
 
 -- why a text is refused for a task, with its first fault: it has no draft, or its draft is no chart,
 -- or of its chart that is not to be had which is asked; nothing is imported of it
 abbrev pub Refuses : Task → List ℕ → Refusal → Type 0
 Refuses (Import x) text refusal = RefusesImport x text refusal
-Refuses (Scenarios x) text refusal = RefusesScenarios x text refusal
+Refuses (Scenarios x) text refusal = RefusesDiagrams (many_in x text) x text refusal
 Refuses task text (refusals.Fault (Parse f)) = HasParseFault text f
 Refuses (Chart ask) text (refusals.Fault (faults.Chart f)) = (draft : Tree) × HasDraft text draft × IsFirstFault draft f
 Refuses (Chart ask) text refusal = (d : Drawing) × IsChartOf text d × RefusesOf ask (source_text MscPr text d) refusal
@@ -130,11 +149,11 @@ Refuses Read text refusal = ⊥
 -- it, and when it is refused: such a text went behind the known bytes of a writer; or memory ran out,
 -- and the writer has had no call or has a beginning of a text that begins it; or the writer failed; or
 -- it is refused, and the writer has had no call.
-abbrev pub AnswersWith : {W : Type 0} → (W → Option (List ℕ)) → (Status → List ℕ → Type 0) → (List ℕ → Type 0) → (Refusal → Type 0)
-    → Result Status Refusal → W → W → Type 0
-AnswersWith contents prints begins refuses (Ok status) old new =
-    (printed : List ℕ) × prints status printed × Appends (contents old) (contents new) printed
-AnswersWith {W} contents prints begins refuses (Err (refusals.Fault Memory)) old new =
+abbrev pub AnswersWith : {W A : Type 0} → (W → Option (List ℕ)) → (A → List ℕ → Type 0) → (List ℕ → Type 0) → (Refusal → Type 0)
+    → Result A Refusal → W → W → Type 0
+AnswersWith contents prints begins refuses (Ok a) old new =
+    (printed : List ℕ) × prints a printed × Appends (contents old) (contents new) printed
+AnswersWith {W} {A} contents prints begins refuses (Err (refusals.Fault Memory)) old new =
     (new ≡ old) ⊎ ((printed : List ℕ) × begins printed × WritesBeginning (contents old) (contents new) printed)
 AnswersWith contents prints begins refuses (Err (refusals.Fault Device)) old new = Unit {0}
 AnswersWith contents prints begins refuses (Err refusal) old new = refuses refusal × (new ≡ old)
@@ -157,9 +176,9 @@ TellsQuietly x s (Err (refusals.Rounds fault)) = LacksRounds x.again s.chart fau
 TellsQuietly x s (Err refusal) = ⊥
 
 -- what begins what is printed of the text of a file for a task: of scenarios what is printed of the first
--- of them, else that itself
+-- of them, of diagrams what is of the first of these, else that itself
 abbrev pub Begins : Task → List ℕ → List ℕ → List ℕ → Type 0
-Begins (Scenarios x) file text printed = BeginsScenarios x file text printed
+Begins (Scenarios x) file text printed = BeginsDiagrams (many_in x text) x file text printed
 Begins task file text printed = (status : Status) × Prints task file text status printed
 
 -- a task was done for the text of a file
@@ -200,3 +219,13 @@ EndsAs contents task file reads status old new =
 abbrev pub IsPut : {W : Type 0} → (W → Option (List ℕ)) → List ℕ → Status → Result Status Refusal → W → W → Type 0
 IsPut contents bytes status (Ok s) old new = (s ≡ status) × Appends (contents old) (contents new) bytes
 IsPut contents bytes status (Err refusal) old new = refusal ≡ refusals.Fault Device
+
+-- A diagram of several that is refused was told so: its text and its lines went behind the known bytes of a writer;
+-- or memory ran out, with nothing or its text behind them; or the writer failed.
+abbrev pub TellsBlock : {W : Type 0} → (W → Option (List ℕ)) → ScenarioWords → List ℕ → List ℕ → ℕ → Refusal
+    → Result (Unit {0}) Refusal → W → W → Type 0
+TellsBlock contents x file text n refusal (Ok u) old new =
+    (lines : List ℕ) × AreLinesIn (form_of (Scenarios x)) file text refusal lines × Appends (contents old) (contents new) (refused_text x file n ++ lines)
+TellsBlock contents x file text n refusal (Err other) old new =
+    ((other ≡ refusals.Fault Memory) × ((new ≡ old) ⊎ Appends (contents old) (contents new) (refused_text x file n)))
+    ⊎ (other ≡ refusals.Fault Device)

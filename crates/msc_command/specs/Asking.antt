@@ -273,6 +273,15 @@ pub record IsImporting (found : Found) (x : ImportWords) : Type 0 where
   pub gives : lacks_choices (first_value found (word_name words.Choose)) ≡ false
   pub list : IsFlag found (word_name words.Listed) x.list
 
+-- how many races of a diagram are shown by runs, if no word gives a number: all if the words ask for a run in
+-- words or for a short one, else none
+pub record AreRunsShown (found : Found) (shown : ℕ) : Type 0 where
+  pub in_words : Bool
+  pub words_wanted : IsFlag found (word_name words.Words) in_words
+  pub short : Bool
+  pub short_wanted : IsFlag found (word_name words.Short) short
+  pub number : shown ≡ cond (in_words || short) unlimited 0
+
 -- what the words of `check` ask of the scenarios of a diagram
 pub record IsSurvey (found : Found) (x : ScenarioWords) : Type 0 where
   pub diagram : IsDiagram found x.diagram
@@ -280,7 +289,9 @@ pub record IsSurvey (found : Found) (x : ScenarioWords) : Type 0 where
   pub gives : lacks_rounds (first_value found (word_name words.Rounds)) ≡ false
   pub limit : IsOptionNumber found (word_name words.Limit) default_limit x.limit
   pub within : is_limit x.limit ≡ true
-  pub checking : IsChecking found 0 x.checking
+  pub shown : ℕ
+  pub runs : AreRunsShown found shown
+  pub checking : IsChecking found shown x.checking
   pub unmarked : x.checking.accept ≡ false
   pub once : x.checking.again ≡ false
   pub quiet : IsFlag found (word_name words.Quiet) x.quiet

@@ -13,6 +13,7 @@ pub mod Drawing
 pub mod Ending
 pub mod Refused
 pub mod Scenarios
+pub mod Surveys
 pub mod Answering
 pub mod Program
 -- what the code keeps

@@ -6,15 +6,18 @@ use Rattle.clap.specs.declared.error.kind.ErrorKind.{ErrorKind}
 use Rattle.clap.specs.declared.error.kind.ErrorKind.TheVariants.{DisplayHelp, DisplayVersion, OutOfMemory}
 use Rattle.clap.specs.declared.parser.matches.ArgMatches.{ArgMatches}
 use Rattle.clap.specs.declared.parser.matches.Found.{Found}
+use Rattle.msc_markdown.specs.Markdowns.{Found as Markdown}
 use Rattle.msc_source.specs.Inputs.{IsReadFrom}
 use Rattle.msc_command.specs.Answering.{EndsAs, Prints}
 use Rattle.msc_command.specs.Asking.{file_of, AsksFor, IsNoCommand}
 use Rattle.msc_command.specs.Grammar.{AreAnswered, AreTaken}
 use Rattle.msc_command.specs.Refused.{IsRefusalText}
+use Rattle.msc_command.specs.Surveys.{many_in, Surveys}
 use Rattle.msc_command.specs.Words.{verb_of_word}
 use Rattle.msc_command.specs.declared.ending.Refusal.{Refusal}
 use Rattle.msc_command.specs.declared.ending.Status.{Status}
 use Rattle.msc_command.specs.declared.ending.Status.TheVariants.{Done, Races, Refused, Unfinished, Failed}
+use Rattle.msc_command.specs.declared.tasks.ScenarioWords.{ScenarioWords}
 use Rattle.msc_command.specs.declared.tasks.Task.{Task}
 use Rattle.msc_command.specs.declared.words.Verb.{Verb}
 
@@ -87,12 +90,20 @@ Tells contents status old new =
     (task : Task) × (file : List ℕ) × (text : List ℕ) × (printed : List ℕ)
     × Prints task file text status printed × Appends (contents old) (contents new) printed
 
+-- what is printed of all sequence diagrams of a Markdown text went behind the known bytes of a writer, if one of
+-- them is refused
+abbrev pub TellsRefusedDiagram : {W : Type 0} → (W → Option (List ℕ)) → W → W → Type 0
+TellsRefusedDiagram contents old new =
+    (x : ScenarioWords) × (file : List ℕ) × (text : List ℕ) × (f : Markdown) × (many_in x text ≡ Some f) × (printed : List ℕ)
+    × Surveys x file text f.numbers Done Refused printed × Appends (contents old) (contents new) printed
+
 -- where a task is refused the writer has had no call, or has the lines of a refusal behind its known
--- bytes
+-- bytes; where one of several diagrams is, it has what is printed of all of them there
 abbrev pub TellsRefused : {W : Type 0} → (W → Option (List ℕ)) → W → W → Type 0
 TellsRefused contents old new =
-    (new ≡ old) ⊎ ((file : List ℕ) × (text : List ℕ) × (refusal : Refusal) × (printed : List ℕ)
+    (new ≡ old) ⊎ (((file : List ℕ) × (text : List ℕ) × (refusal : Refusal) × (printed : List ℕ)
     × IsRefusalText file text refusal printed × Appends (contents old) (contents new) printed)
+    ⊎ TellsRefusedDiagram contents old new)
 
 -- what the status tells of the answer that went out
 abbrev pub TellsAnswer : {W : Type 0} → (W → Option (List ℕ)) → Status → W → W → Type 0

@@ -1,8 +1,7 @@
 -- What a refusal is told as on the output, in the form of lines for editors.
 use Rattle.std.specs.Prelude.{◌≡◌, ◌⊎◌, ℕ, ◌++◌, Bool, true, false, cond, List, Option, None, Some, Result, Ok, Err}
 use Rattle.std.specs.Io.KnownBytes.{Appends}
-use Rattle.msc_mermaid.specs.declared.fault.ImportFault.{ImportFault}
-use Rattle.msc_mermaid.specs.declared.fault.ImportFault.TheVariants as imports
+use Rattle.msc_import_notes.specs.Places.{fault_line}
 use Rattle.msc_mark.specs.declared.fault.MarkFault.{MarkFault}
 use Rattle.msc_mark.specs.declared.fault.MarkFault.TheVariants as marks
 use Rattle.msc_notes.specs.Faults.{parse_place, IsChartPlace}
@@ -33,24 +32,10 @@ IsPlaceOf text (refusals.Fault (Chart f)) place = (t : Tree) → HasDraft text t
 IsPlaceOf text (refusals.Mark f) place = place ≡ mark_place f
 IsPlaceOf text refusal place = place ≡ None
 
--- the line of a diagram's text on which a fault of an import stands; the first, where it stands on none
-abbrev pub import_line : ImportFault → ℕ
-import_line (imports.Expected line what) = line
-import_line (imports.Unsupported line head) = line
-import_line (imports.Unended line) = line
-import_line (imports.Outside line word) = line
-import_line (imports.TooDeep line) = line
-import_line (imports.TooManyLines line) = line
-import_line (imports.Cross line) = line
-import_line (imports.Choice line choice most) = line
-import_line (imports.TooManyArrows line) = line
-import_line (imports.Shared line at) = line
-import_line fault = 1
-
--- this is the position of a refusal of the text: where the line of a fault of an import begins; else that of
--- its place, or the beginning of the text where it has none
+-- this is the position of a refusal of the text: of a fault of an import one on its line; else that of its
+-- place, or the beginning of the text where it has none
 abbrev pub IsRefusalPosition : List ℕ → Refusal → Position → Type 0
-IsRefusalPosition text (refusals.Import e) p = p ≡ record { line = import_line e.fault; column = 1 }
+IsRefusalPosition text (refusals.Import e) p = p.line ≡ fault_line e.fault
 IsRefusalPosition text refusal p = (place : Option ℕ) × IsPlaceOf text refusal place × IsFaultPosition text place p
 
 -- The lines of a refusal of the text of a file: the first is its fixed line behind its position; notes and

@@ -1,5 +1,5 @@
 -- What is asked of the races of all scenarios of a diagram.
-use Rattle.std.specs.Prelude.{◌≡◌, ℕ, Bool, true, false, List, [], map, option_map, Result, Ok, Err, Option}
+use Rattle.std.specs.Prelude.{◌≡◌, ℕ, Bool, true, false, ◌&&◌, not, List, [], map, option_map, Result, Ok, Err, is_ok, nat_eq}
 use Rattle.std.specs.List.{All}
 use Rattle.msc_chart.specs.Drawings.{chart_of}
 use Rattle.msc_chart.specs.Faults.{IsFaultless, IsFirstFault}
@@ -10,6 +10,8 @@ use Rattle.msc_diagram.specs.declared.judging.Form.TheVariants as diagrams
 use Rattle.msc_diagram.specs.declared.scenario.Scenario.{Scenario}
 use Rattle.msc_import.specs.Importing.{seen}
 use Rattle.msc_import.specs.Whole.{WantedAll, imported_all}
+use Rattle.msc_import.specs.declared.plan.Par.{Par}
+use Rattle.msc_import.specs.declared.plan.Par.TheVariants as pars
 use Rattle.msc_import.specs.declared.whole.Scenario.{Scenario as Drawn}
 use Rattle.msc_import.specs.declared.whole.Scenarios.{Scenarios}
 use Rattle.msc_place.specs.Sites.{sites_in}
@@ -19,6 +21,7 @@ use Rattle.msc_command.specs.Importing.{IsNotImported, rounds_of}
 use Rattle.msc_command.specs.declared.ending.Refusal.{Refusal}
 use Rattle.msc_command.specs.declared.ending.Refusal.TheVariants as refusals
 use Rattle.msc_command.specs.declared.ending.Status.{Status}
+use Rattle.msc_command.specs.declared.scenarios.Surveyed.{Surveyed}
 use Rattle.msc_command.specs.declared.tasks.Checking.{Checking}
 use Rattle.msc_command.specs.declared.tasks.Form.TheVariants as forms
 use Rattle.msc_command.specs.declared.tasks.Form.{Form}
@@ -62,30 +65,58 @@ AreNotCharted all (refusals.Fault (Chart f)) = (s : Drawn) × Occurs all s × Is
 AreNotCharted all (refusals.Fault Memory) = Unit {0}
 AreNotCharted all refusal = ⊥
 
--- the form in which scenarios are told, of the file of this name
-abbrev pub IsFormIn : Form → Bool → List ℕ → DiagramForm → Type 0
-IsFormIn forms.Text wordy file (diagrams.Lines w) = w ≡ wordy
-IsFormIn forms.Count wordy file (diagrams.Count name) = name.now ≡ file
-IsFormIn forms.Lines wordy file diagrams.Editor = Unit {0}
-IsFormIn form wordy file of_diagram = ⊥
+-- the same is wanted, but parallel branches are refused that would be drawn one below the other
+abbrev pub refusing : WantedAll → WantedAll
+refusing x = record {
+  language = x.language;
+  fence = x.fence;
+  cross = x.cross;
+  manner = record { own = x.manner.own; par = pars.Refused };
+  rounds = x.rounds;
+  limit = x.limit;
+  name = x.name;
+}
 
-abbrev pub IsFormOf : Checking → List ℕ → DiagramForm → Type 0
-IsFormOf c file form = IsFormIn c.form c.look.words file form
+-- parallel branches may be drawn one below the other
+abbrev pub may_draw : Par → Bool
+may_draw pars.Refused = false
+may_draw pars.Drawn = true
 
--- what is printed of the races of these scenarios, of a diagram of this name, and how the run ends: nothing
--- where the status alone tells
-abbrev pub PrintsAll : Bool → Checking → List ℕ → List ℕ → List Scenario → Status → List ℕ → Type 0
-PrintsAll true c file name scenarios status printed =
-    (passed : Bool) × (status ≡ ended_by passed) × PassesScenarios scenarios c.queues c.question.allowed passed × (printed ≡ [])
-PrintsAll false c file name scenarios status printed =
-    (form : DiagramForm) × IsFormOf c file form
-    × (passed : Bool) × (status ≡ ended_by passed) × JudgesScenarios name scenarios c.queues c.question form passed printed
+-- some are, in a scenario of the text: there would be no scenarios if such branches were refused
+abbrev pub draws_branches : ScenarioWords → List ℕ → Bool
+draws_branches x text = may_draw x.diagram.manner.par && not (is_ok (imported_all (refusing (wanted_of x)) text))
+
+-- the form in which scenarios are told, of the file of this name, and whether parallel branches are drawn one
+-- below the other
+abbrev pub IsFormIn : Form → Bool → List ℕ → Bool → DiagramForm → Type 0
+IsFormIn forms.Text wordy file drawn (diagrams.Lines look) = (look.words ≡ wordy) × (look.drawn ≡ drawn)
+IsFormIn forms.Count wordy file drawn (diagrams.Count name) = name.now ≡ file
+IsFormIn forms.Lines wordy file drawn diagrams.Editor = Unit {0}
+IsFormIn form wordy file drawn of_diagram = ⊥
+
+abbrev pub IsFormOf : Checking → List ℕ → Bool → DiagramForm → Type 0
+IsFormOf c file drawn form = IsFormIn c.form c.look.words file drawn form
+
+-- What is printed of the races of these scenarios, of a diagram of this name, how the check of them ends, and
+-- how many places of races are listed: nothing is where the status alone tells.
+abbrev pub PrintsCounted : Bool → Checking → List ℕ → List ℕ → Bool → List Scenario → Surveyed → List ℕ → Type 0
+PrintsCounted true c file name drawn scenarios one printed =
+    (passed : Bool) × (one.status ≡ ended_by passed) × (one.listed ≡ 0)
+    × PassesScenarios scenarios c.queues c.question.allowed passed × (printed ≡ [])
+PrintsCounted false c file name drawn scenarios one printed =
+    (form : DiagramForm) × IsFormOf c file drawn form
+    × (one.status ≡ ended_by (nat_eq one.listed 0)) × JudgesScenarios name scenarios c.queues c.question form one.listed printed
+
+-- what is printed of them, and how the run ends
+abbrev pub PrintsAll : Bool → Checking → List ℕ → List ℕ → Bool → List Scenario → Status → List ℕ → Type 0
+PrintsAll quiet c file name drawn scenarios status printed =
+    (listed : ℕ) × PrintsCounted quiet c file name drawn scenarios (record { status = status; listed = listed }) printed
 
 -- what that begins with, where memory ran out
-abbrev pub BeginsAll : Bool → Checking → List ℕ → List ℕ → List Scenario → List ℕ → Type 0
-BeginsAll true c file name scenarios printed = ⊥
-BeginsAll false c file name scenarios printed =
-    (form : DiagramForm) × IsFormOf c file form × BeginsOf name scenarios c.queues c.question form printed
+abbrev pub BeginsAll : Bool → Checking → List ℕ → List ℕ → Bool → List Scenario → List ℕ → Type 0
+BeginsAll true c file name drawn scenarios printed = ⊥
+BeginsAll false c file name drawn scenarios printed =
+    (form : DiagramForm) × IsFormOf c file drawn form × BeginsOf name scenarios c.queues c.question form printed
 
 -- the scenarios of a text, all of them charts, of which this is said
 abbrev pub OfScenarios : ScenarioWords → List ℕ → List ℕ → (List ℕ → List Scenario → Type 0) → Type 0
@@ -96,11 +127,11 @@ OfScenarios x file text says =
 -- what is printed of a text of this file
 abbrev pub PrintsScenarios : ScenarioWords → List ℕ → List ℕ → Status → List ℕ → Type 0
 PrintsScenarios x file text status printed =
-    OfScenarios x file text (λ name scenarios. PrintsAll x.quiet x.checking file name scenarios status printed)
+    OfScenarios x file text (λ name scenarios. PrintsAll x.quiet x.checking file name (draws_branches x text) scenarios status printed)
 
 abbrev pub BeginsScenarios : ScenarioWords → List ℕ → List ℕ → List ℕ → Type 0
 BeginsScenarios x file text printed =
-    OfScenarios x file text (λ name scenarios. BeginsAll x.quiet x.checking file name scenarios printed)
+    OfScenarios x file text (λ name scenarios. BeginsAll x.quiet x.checking file name (draws_branches x text) scenarios printed)
 
 -- why nothing is printed: there are no scenarios. Each of them is a chart
 abbrev pub RefusesScenarios : ScenarioWords → List ℕ → Refusal → Type 0

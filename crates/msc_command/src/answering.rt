@@ -1,18 +1,21 @@
 //! The answers of tasks: the text is read once, its chart is made, and what is asked of it is
 //! answered and printed.
 
-ghost use Rattle.std.specs.Prelude.{◌≡◌, ℕ, List, option_map, IfErr, OnOk};
+ghost use Rattle.std.specs.Prelude.{◌≡◌, ℕ, List, option_map, IfErr, Ok, OnOk};
 ghost use Rattle.std.specs.Io.KnownBytes.{Keeps};
 ghost use Rattle.msc_chart.specs.Drawings.{chart_of};
-ghost use Rattle.msc_command.specs.Answering.{Answers, AnswersOf, Delivers, Does, EndsAs, IsPut};
-ghost use Rattle.msc_command.specs.Answering.{TellsQuietly};
+ghost use Rattle.msc_command.specs.Answering.{Answers, AnswersOf, AnswersWith, Delivers, Does};
+ghost use Rattle.msc_command.specs.Answering.{EndsAs, IsPut, TellsBlock, TellsQuietly};
 ghost use Rattle.msc_command.specs.Drawing.{PrintsPage, RefusesDrawn};
 ghost use Rattle.msc_command.specs.Ending.{ends_as};
 ghost use Rattle.msc_command.specs.Formats.{IsFormat};
 ghost use Rattle.msc_command.specs.Importing.{PrintsImportPage, RefusesImport};
 ghost use Rattle.msc_command.specs.Marked.{AreMarked};
 ghost use Rattle.msc_command.specs.Rounds.{AreRounds};
-ghost use Rattle.msc_command.specs.Refused.{IsToldIn, TellsThat, TellsUnread, TellsUnreadIn};
+ghost use Rattle.msc_command.specs.Refused.{form_of, IsToldIn, TellsThat, TellsUnread};
+ghost use Rattle.msc_command.specs.Refused.{TellsUnreadIn};
+ghost use Rattle.msc_command.specs.Surveys.{BeginsOne, BeginsSurvey, Surveys, SurveysOne};
+ghost use Rattle.msc_markdown.specs.Markdowns.{markdown};
 ghost use Rattle.msc_report.specs.Refusals.{of_reading};
 ghost use Rattle.msc_source.specs.Inputs.{IsReadFrom};
 
@@ -26,15 +29,18 @@ use crate::readied::{first_unknown, lent, lines_named};
 use crate::recorded::TellsFailure;
 use crate::refused::refusal_lines;
 use crate::rounds::rounds_of;
-use crate::scenarios::check_scenarios;
+use crate::scenarios::{Surveyed, check_scenarios};
 use crate::sited::{sites_of, style_of};
+use crate::surveying::{behind, blocks_of, check_block, of_block, refused_page, worse};
 use crate::tasks::{
-    Ask, Checking, Drawn, Explaining, Form, ImportWords, Quieting, Readying, Request, Task, form_of,
+    Ask, Checking, Drawn, Explaining, Form, ImportWords, Quieting, Readying, Request,
+    ScenarioWords, Task, form_of,
 };
 use msc_chart::Chart;
 use msc_instance::AlwaysOpen;
 use msc_judge::Page;
 use msc_mark::Marks;
+use msc_markdown::Markdown;
 use msc_parser::Draft;
 use msc_place::Sites;
 use msc_place::writing::write_file;
@@ -277,40 +283,10 @@ fn import<O: Write>(
     put(output, &page, Status::Done)
 }
 
-/// Writes the answer of a task to the text of a file of this name.
-fn answer<'w, R: Threads + Wait + Sync, O: Write>(
-    rt: &R,
-    alloc: Global,
-    task: Task<'w>,
-    file: &str,
-    text: &[u8],
-    output: &mut O,
-) -> Result<Status, Refusal<'w>>
-    ensures { Does O.contents task.entry file.now text.now result output.old output.new }
-{
-    match task {
-        Task::Read => {
-            let read = Reading::of(alloc, Language::MscPr, text)?;
-            write_reading(alloc, &read, output)?;
-            Ok(Status::Done)
-        }
-        Task::Chart(ask) => {
-            let source = Source::of(alloc, Language::MscPr, text)?;
-            answer_chart(rt, alloc, ask, file, &source, output)
-        }
-        Task::Draw(drawn) => {
-            let read = Reading::of(alloc, Language::MscPr, text)?;
-            let source = Source::of_reading(alloc, &read)?;
-            draw(alloc, drawn, read.draft(), &source, output)
-        }
-        Task::Import(words) => import(alloc, words, file, text, output),
-        Task::Scenarios(words) => check_scenarios(alloc, words, file, text, output),
-    }
-}
-
 /// Lets the lines of a refusal for editors go out.
 fn tell_lines<O: Write>(
     alloc: Global,
+    task: Task<'_>,
     file: &str,
     text: &[u8],
     refusal: Refusal<'_>,
@@ -319,7 +295,7 @@ fn tell_lines<O: Write>(
     ensures { IsToldIn O.contents Form.Lines file.now text.now refusal.entry result
         output.old output.new }
 {
-    let page = refusal_lines(alloc, file, text, refusal)?;
+    let page = refusal_lines(alloc, task, file, text, refusal)?;
     let _ = put(output, &page, Status::Refused)?;
     flush(output)
 }
@@ -327,17 +303,17 @@ fn tell_lines<O: Write>(
 /// Tells a refusal on the output, where its form has it there.
 fn tell_in<O: Write>(
     alloc: Global,
-    form: Form,
+    task: Task<'_>,
     file: &str,
     text: &[u8],
     refusal: Refusal<'_>,
     output: &mut O,
 ) -> Result<(), Refusal<'static>>
-    ensures { IsToldIn O.contents form file.now text.now refusal.entry result
+    ensures { IsToldIn O.contents (form_of task.entry) file.now text.now refusal.entry result
         output.old output.new }
 {
-    match form {
-        Form::Lines => tell_lines(alloc, file, text, refusal, output),
+    match form_of(task) {
+        Form::Lines => tell_lines(alloc, task, file, text, refusal, output),
         Form::Text | Form::Count => Ok(()),
     }
 }
@@ -346,45 +322,21 @@ fn tell_in<O: Write>(
 /// that.
 fn tell_refusal<'w, O: Write>(
     alloc: Global,
-    form: Form,
+    task: Task<'_>,
     file: &str,
     text: &[u8],
     refusal: Refusal<'w>,
     output: &mut O,
 ) -> Refusal<'w>
-    ensures { TellsThat O.contents form file.now text.now refusal.entry result
+    ensures { TellsThat O.contents (form_of task.entry) file.now text.now refusal.entry result
         output.old output.new }
 {
     if is_spent(refusal) {
         return refusal;
     }
-    match tell_in(alloc, form, file, text, refusal, output) {
+    match tell_in(alloc, task, file, text, refusal, output) {
         Ok(()) => refusal,
         Err(other) => other,
-    }
-}
-
-/// Lets the answer of a task go out, to the text of a file of this name, or tells why it is refused,
-/// before it is told how the run ends.
-fn deliver<'w, R: Threads + Wait + Sync, O: Write>(
-    rt: &R,
-    alloc: Global,
-    task: Task<'w>,
-    file: &str,
-    text: &[u8],
-    output: &mut O,
-) -> Result<Status, Refusal<'w>>
-    ensures { Delivers O.contents task.entry file.now text.now result output.old output.new }
-{
-    match answer(rt, alloc, task, file, text, output) {
-        Ok(status) => {
-            flush(output)?;
-            Ok(status)
-        }
-        Err(refusal) => {
-            let form = form_of(task);
-            Err(tell_refusal(alloc, form, file, text, refusal, output))
-        }
     }
 }
 
@@ -411,7 +363,7 @@ fn end_told<O: TellsFailure, E: Write>(
 {
     let status = end_refused(faults, refusal).0;
     if request.notes {
-        let _ = write_notes(alloc, faults, request.file, text, refusal);
+        let _ = write_notes(alloc, faults, request, text, refusal);
         tell_failure(faults, refusal, output);
     }
     status
@@ -455,6 +407,187 @@ pub(crate) fn end_unread_task<O: Write, E: Write>(
     end_unread(faults, request.file, fault, request.notes)
 }
 
+/// Tells on the output that the diagram of this number is refused.
+fn tell_block<O: Write>(
+    alloc: Global,
+    words: ScenarioWords<'_>,
+    file: &str,
+    text: &[u8],
+    number: usize,
+    refusal: Refusal<'_>,
+    output: &mut O,
+) -> Result<(), Refusal<'static>>
+    ensures { TellsBlock O.contents words.entry file.now text.now number refusal.entry result
+        output.old output.new }
+{
+    let page = refused_page(alloc, words, file, number)?;
+    let _ = put(output, &page, Status::Refused)?;
+    let task = Task::Scenarios(of_block(words, number));
+    tell_in(alloc, task, file, text, refusal, output)
+}
+
+/// Tells in `faults` that the diagram of this number is refused.
+fn end_block<O: TellsFailure, E: Write>(
+    alloc: Global,
+    request: Request<'_>,
+    words: ScenarioWords<'_>,
+    text: &[u8],
+    refusal: Refusal<'_>,
+    output: &O,
+    faults: &mut E,
+) {
+    let request = Request {
+        task: Task::Scenarios(words),
+        file: request.file,
+        notes: request.notes,
+    };
+    let _ = end_told(alloc, request, text, refusal, output, faults);
+}
+
+/// Checks the diagram of this number, and tells so if it is refused.
+fn survey_block<O: TellsFailure, E: Write>(
+    alloc: Global,
+    request: Request<'_>,
+    words: ScenarioWords<'_>,
+    found: &Markdown<'_>,
+    number: usize,
+    output: &mut O,
+    faults: &mut E,
+) -> Result<Surveyed, Refusal<'static>>
+    requires { markdown found.now.text ≡ Ok found.now }
+    ensures { AnswersWith O.contents
+        (SurveysOne words.entry request.entry.file.now found.now.text number)
+        (BeginsOne words.entry request.entry.file.now found.now.text number)
+        (λ refusal. ⊥) result output.old output.new }
+{
+    let refusal = match check_block(alloc, words, found, request.file, number, output) {
+        Ok(surveyed) => return Ok(surveyed),
+        Err(refusal) => refusal,
+    };
+    if is_spent(refusal) {
+        return Err(refusal);
+    }
+    let text = found.text();
+    tell_block(alloc, words, request.file, text, number, refusal, output)?;
+    end_block(
+        alloc,
+        request,
+        of_block(words, number),
+        text,
+        refusal,
+        output,
+        faults,
+    );
+    Ok(Surveyed {
+        status: Status::Refused,
+        listed: 0,
+    })
+}
+
+/// Checks all sequence diagrams of a text of Markdown; answers the worst of their ends.
+fn survey<O: TellsFailure, E: Write>(
+    alloc: Global,
+    request: Request<'_>,
+    words: ScenarioWords<'_>,
+    found: &Markdown<'_>,
+    output: &mut O,
+    faults: &mut E,
+) -> Result<Status, Refusal<'static>>
+    requires { markdown found.now.text ≡ Ok found.now }
+    ensures { AnswersWith O.contents
+        (Surveys words.entry request.entry.file.now found.now.text found.now.numbers Status.Done)
+        (BeginsSurvey words.entry request.entry.file.now found.now.text found.now.numbers)
+        (λ refusal. ⊥) result output.old output.new }
+{
+    let numbers = found.numbers();
+    let mut words = words;
+    let mut worst = Status::Done;
+    for number in numbers {
+        let one = survey_block(alloc, request, words, found, *number, output, faults)?;
+        worst = worse(worst, one.status);
+        words = behind(words, one.listed);
+    }
+    Ok(worst)
+}
+
+/// Writes what is asked of the races of the diagrams of a text: of all, if the words ask for that
+/// and it is Markdown with some; else of the one.
+fn check_diagrams<O: TellsFailure, E: Write>(
+    alloc: Global,
+    request: Request<'_>,
+    words: ScenarioWords<'_>,
+    text: &[u8],
+    output: &mut O,
+    faults: &mut E,
+) -> Result<Status, Refusal<'static>>
+    ensures { Does O.contents (Task.Scenarios words.entry) request.entry.file.now text.now result
+        output.old output.new }
+{
+    let blocks = blocks_of(alloc, words, text)?;
+    match blocks {
+        None => check_scenarios(alloc, words, request.file, text, output),
+        Some(found) => survey(alloc, request, words, &found, output, faults),
+    }
+}
+
+/// Writes the answer of what is requested of a text.
+fn answer<'w, R: Threads + Wait + Sync, O: TellsFailure, E: Write>(
+    rt: &R,
+    alloc: Global,
+    request: Request<'w>,
+    text: &[u8],
+    output: &mut O,
+    faults: &mut E,
+) -> Result<Status, Refusal<'w>>
+    ensures { Does O.contents request.entry.task request.entry.file.now text.now result
+        output.old output.new }
+{
+    let file = request.file;
+    match request.task {
+        Task::Read => {
+            let read = Reading::of(alloc, Language::MscPr, text)?;
+            write_reading(alloc, &read, output)?;
+            Ok(Status::Done)
+        }
+        Task::Chart(ask) => {
+            let source = Source::of(alloc, Language::MscPr, text)?;
+            answer_chart(rt, alloc, ask, file, &source, output)
+        }
+        Task::Draw(drawn) => {
+            let read = Reading::of(alloc, Language::MscPr, text)?;
+            let source = Source::of_reading(alloc, &read)?;
+            draw(alloc, drawn, read.draft(), &source, output)
+        }
+        Task::Import(words) => import(alloc, words, file, text, output),
+        Task::Scenarios(words) => check_diagrams(alloc, request, words, text, output, faults),
+    }
+}
+
+/// Lets the answer of what is requested of a text go out, or tells why it is refused, before it is
+/// told how the run ends.
+fn deliver<'w, R: Threads + Wait + Sync, O: TellsFailure, E: Write>(
+    rt: &R,
+    alloc: Global,
+    request: Request<'w>,
+    text: &[u8],
+    output: &mut O,
+    faults: &mut E,
+) -> Result<Status, Refusal<'w>>
+    ensures { Delivers O.contents request.entry.task request.entry.file.now text.now result
+        output.old output.new }
+{
+    match answer(rt, alloc, request, text, output, faults) {
+        Ok(status) => {
+            flush(output)?;
+            Ok(status)
+        }
+        Err(refusal) => {
+            let (task, file) = (request.task, request.file);
+            Err(tell_refusal(alloc, task, file, text, refusal, output))
+        }
+    }
+}
+
 /// Does what is requested over an input, which is read once, and tells how the run ended. What went
 /// wrong goes to `faults`.
 pub(crate) fn perform<R: Threads + Wait + Sync, I: Read, O: TellsFailure, E: Write>(
@@ -472,14 +605,7 @@ pub(crate) fn perform<R: Threads + Wait + Sync, I: Read, O: TellsFailure, E: Wri
         Ok(text) => text,
         Err(fault) => return end_unread_task(request, fault, output, faults),
     };
-    match deliver(
-        rt,
-        alloc,
-        request.task,
-        request.file,
-        text.as_slice(),
-        output,
-    ) {
+    match deliver(rt, alloc, request, text.as_slice(), output, faults) {
         Ok(status) => status,
         Err(refusal) => end_told(alloc, request, text.as_slice(), refusal, output, faults),
     }

@@ -21,6 +21,7 @@ mod refused;
 mod rounds;
 mod scenarios;
 mod sited;
+mod surveying;
 mod tasks;
 mod words;
 

@@ -125,7 +125,7 @@ pub(crate) fn tell_misuse<E: Write>(faults: &mut E, verb: Verb, words: &ArgMatch
     if let Verb::Check = verb {
         let _ = write_no_check(faults, words);
     }
-    if let Verb::Explain = verb {
+    if let Verb::Explain | Verb::Reverse = verb {
         let _ = tell_no_name(faults, words, Word::FirstEvent)
             || tell_no_name(faults, words, Word::SecondEvent);
     }

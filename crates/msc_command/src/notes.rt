@@ -3,18 +3,33 @@
 //! What is told of a fault is promised by `msc_notes`; where memory runs out, or a write fails, the
 //! line of the refusal stands alone, or a beginning of this behind it.
 
+ghost use Rattle.std.specs.Prelude.{◌≡◌, IfOk, IfSome};
+ghost use Rattle.msc_import_notes.specs.Places.{fault_line, IsOnLine};
+ghost use Rattle.msc_notes.specs.Faults.{parse_place};
+ghost use Rattle.msc_parser.specs.Parsing.{HasParseFault};
+
+use crate::choices::rounds_of;
 use crate::ending::Refusal;
+use crate::importing::fence_of;
 use crate::refused::mark_place;
+use crate::tasks::{Ask, Request, Task};
 use listed::Listed;
 use msc_chart::ChartFault;
+use msc_import::Refused;
+use msc_import_notes::{
+    block_text, is_sequence_diagram, tell_import, tell_other_way, tell_scenarios, with_block_notes,
+    with_plain_lines, with_whole_lines,
+};
 use msc_mark::MarkFault;
+use msc_markdown::Markdown;
+use msc_mermaid::ImportFault;
 use msc_notes::writing::{write_further, write_told};
 use msc_notes::{Told, tell_chart, tell_further, tell_parse};
 use msc_parser::{ParseFault, parse};
 use msc_place::writing::write_file;
 use msc_place::{Lines, Places, excerpt};
 use msc_report::{Fault, write_fault};
-use std::alloc::Global;
+use std::alloc::{AllocError, Global};
 use std::io;
 use std::io::Write;
 
@@ -34,16 +49,38 @@ fn write_told_of<E: Write>(
     write_told(faults, file.as_bytes(), lines, told, shown.as_slice())
 }
 
+/// Whether a task is asked of a chart by `msc check`.
+fn is_check(task: Task<'_>) -> bool {
+    matches!(task, Task::Chart(Ask::Check(_) | Ask::Quiet(_)))
+}
+
+/// What is told of the first fault of a text: of one that is a diagram, what reads it.
+pub(crate) fn told_of_parse(
+    alloc: Global,
+    task: Task<'_>,
+    text: &[u8],
+    fault: ParseFault,
+) -> Result<Told, AllocError>
+    ensures { IfOk result (λ told. HasParseFault text.now fault → told.place ≡ parse_place fault) }
+{
+    let told = tell_parse(alloc, text, fault)?;
+    if is_sequence_diagram(alloc, text)? {
+        return tell_other_way(alloc, told, is_check(task));
+    }
+    Ok(told)
+}
+
 /// Writes what is said of the first fault of a text.
 fn write_parse_notes<E: Write>(
     alloc: Global,
     faults: &mut E,
-    file: &str,
+    request: Request<'_>,
     text: &[u8],
     fault: ParseFault,
 ) -> io::Result<()> {
+    let file = request.file;
     let lines = Lines::of(alloc, text)?;
-    let told = tell_parse(alloc, text, fault)?;
+    let told = told_of_parse(alloc, request.task, text, fault)?;
     write_told_of(alloc, faults, file, &lines, &told)
 }
 
@@ -87,17 +124,106 @@ fn write_mark_notes<E: Write>(
     write_told_of(alloc, faults, file, &lines, &told)
 }
 
-/// Writes what is said of a refusal of the text of a file of this name.
+/// The number of the diagram that a task takes of Markdown, if it is given.
+fn fence_in(task: Task<'_>) -> Option<usize> {
+    match task {
+        Task::Import(words) => fence_of(words.diagram.fence),
+        Task::Scenarios(words) => fence_of(words.diagram.fence),
+        _ => None,
+    }
+}
+
+/// What a text holds, unless it is too long.
+fn held(alloc: Global, text: &[u8]) -> Result<Option<Markdown<'_>>, AllocError> {
+    match Markdown::of(alloc, text) {
+        Ok(found) => Ok(Some(found)),
+        Err(ImportFault::Memory) => Err(AllocError),
+        Err(_) => Ok(None),
+    }
+}
+
+/// The number of the block that a task takes of a text: the one that it names, or the only one.
+fn number_in(task: Task<'_>, found: &Markdown<'_>) -> Option<usize> {
+    if let Some(number) = fence_in(task) {
+        return Some(number);
+    }
+    match found.numbers() {
+        [number] if !found.is_diagram() => Some(*number),
+        _ => None,
+    }
+}
+
+/// The text of the diagram that a task takes of a text, with its bytes where they stand in it.
+pub(crate) fn diagram_text(
+    alloc: Global,
+    task: Task<'_>,
+    text: &[u8],
+) -> Result<Vec<u8>, AllocError> {
+    let Some(found) = held(alloc, text)? else {
+        return with_plain_lines(alloc, text);
+    };
+    match number_in(task, &found) {
+        Some(number) => block_text(alloc, text, &found, number),
+        None => with_plain_lines(alloc, text),
+    }
+}
+
+/// What is told of a fault of an import of a text, of which this is the text of the diagram.
+pub(crate) fn told_of_import(
+    alloc: Global,
+    task: Task<'_>,
+    text: &[u8],
+    plain: &[u8],
+    fault: ImportFault,
+) -> Result<Told, AllocError>
+    ensures { IfOk result (λ told. IfSome told.place
+        (λ at. IsOnLine plain.now (fault_line fault) at)) }
+{
+    let told = match (fault, task) {
+        (ImportFault::TooManyScenarios(_), Task::Scenarios(words)) => {
+            let rounds = rounds_of(alloc, words.rounds)?;
+            tell_scenarios(alloc, plain, words.diagram.cross, rounds.as_slice())?
+        }
+        _ => tell_import(alloc, plain, fault)?,
+    };
+    let whole = with_plain_lines(alloc, text)?;
+    let told = with_whole_lines(alloc, whole.as_slice(), plain, told)?;
+    match held(alloc, text)? {
+        Some(found) => with_block_notes(alloc, &found, fence_in(task), fault, told),
+        None => Ok(told),
+    }
+}
+
+/// Writes what is said of why nothing is imported of a text.
+fn write_import_notes<E: Write>(
+    alloc: Global,
+    faults: &mut E,
+    request: Request<'_>,
+    text: &[u8],
+    refused: Refused,
+) -> io::Result<()> {
+    let plain = diagram_text(alloc, request.task, text)?;
+    let told = told_of_import(alloc, request.task, text, plain.as_slice(), refused.fault)?;
+    let whole = with_plain_lines(alloc, text)?;
+    let lines = Lines::of(alloc, whole.as_slice())?;
+    write_told_of(alloc, faults, request.file, &lines, &told)
+}
+
+/// Writes what is said of a refusal of what is asked of a text.
 pub(crate) fn write_notes<E: Write>(
     alloc: Global,
     faults: &mut E,
-    file: &str,
+    request: Request<'_>,
     text: &[u8],
     refusal: Refusal<'_>,
 ) -> io::Result<()> {
+    let file = request.file;
     match refusal {
-        Refusal::Fault(Fault::Parse(fault)) => write_parse_notes(alloc, faults, file, text, fault),
+        Refusal::Fault(Fault::Parse(fault)) => {
+            write_parse_notes(alloc, faults, request, text, fault)
+        }
         Refusal::Fault(Fault::Chart(fault)) => write_chart_notes(alloc, faults, file, text, fault),
+        Refusal::Import(refused) => write_import_notes(alloc, faults, request, text, refused),
         Refusal::Mark(fault) => write_mark_notes(alloc, faults, file, text, fault),
         _ => Ok(()),
     }

@@ -193,10 +193,10 @@ pub fn refuse_words<E: Write>(faults: &mut E, error: &io::Error) -> u8
 /// `--plain` does not stand, what is said of the fault; where that writing fails the status stays.
 /// The status is 0 where the answer or the help asked for was written, 1 where there are races that
 /// are not left out, or E is not enforced before F, or a system of ready instances can stick or has
-/// races left, 2 where the text, its rounds, the pair or a name was refused or the words are no
-/// command, 3 where some instance of the execution has not finished, and 4 where memory ran out, a
-/// thread could not be started, a file could not be opened or read, or the output could not be
-/// written.
+/// races left, 2 where the text, a sequence diagram of a Markdown text, its rounds, the pair or a
+/// name was refused or the words are no command, 3 where some instance of the execution has not
+/// finished, and 4 where memory ran out, a thread could not be started, a file could not be opened
+/// or read, or the output could not be written.
 pub fn command<R: Files + Threads + Wait + Sync, I: Read, O: TellsFailure, E: Write + IsTerminal>(
     rt: &R,
     alloc: Global,

@@ -4,18 +4,22 @@
 ghost use Rattle.std.specs.Prelude.{◌≡◌, ℕ, List, [], Option, ◌++◌, IfOk, OnOk};
 ghost use Rattle.msc_command.specs.Ending.{refusal_line};
 ghost use Rattle.msc_command.specs.Extending.{BeginsSo, Extends};
-ghost use Rattle.msc_command.specs.Refused.{import_line, mark_place, IsRefusalText};
+ghost use Rattle.msc_command.specs.Refused.{mark_place, IsRefusalText};
+ghost use Rattle.msc_import_notes.specs.Places.{fault_line};
 ghost use Rattle.msc_notes.specs.Texts.{error_text};
 ghost use Rattle.msc_parser.specs.Parsing.{HasDraft};
 
 use crate::ending::{Refusal, write_refusal};
+use crate::notes::{diagram_text, told_of_import, told_of_parse};
+use crate::tasks::Task;
 use msc_chart::ChartFault;
 use msc_import::Refused;
+use msc_import_notes::fault_line;
 use msc_judge::Page;
 use msc_mark::MarkFault;
 use msc_mermaid::ImportFault;
 use msc_notes::writing::{write_error, write_note_line};
-use msc_notes::{Note, Told, ToldFault, tell_chart, tell_further, tell_parse};
+use msc_notes::{Note, Told, ToldFault, tell_chart, tell_further};
 use msc_parser::laws::one_parsing;
 use msc_parser::{Draft, ParseFault, parse};
 use msc_place::writing::write_place;
@@ -103,6 +107,7 @@ fn put_further(
 /// The lines of the first fault of a text.
 fn parse_lines(
     alloc: Global,
+    task: Task<'_>,
     file: &str,
     text: &[u8],
     fault: ParseFault,
@@ -111,7 +116,7 @@ fn parse_lines(
         (Refusal.Fault (Fault.Parse fault)) page.bytes.items) }
 {
     let lines = Lines::of(alloc, text)?;
-    let told = tell_parse(alloc, text, fault)?;
+    let told = told_of_parse(alloc, task, text, fault)?;
     let mut page = Page::new(alloc);
     let refusal = Refusal::Fault(Fault::Parse(fault));
     put_told(&mut page, file, &lines, &told, refusal)?;
@@ -186,21 +191,6 @@ pub(crate) fn mark_place(fault: MarkFault) -> Option<usize>
     }
 }
 
-/// The line of a diagram's text on which a fault of an import stands; the first, where it stands on
-/// none.
-fn import_line(fault: ImportFault) -> usize
-    ensures { result ≡ import_line fault }
-{
-    match fault {
-        ImportFault::Expected(line, _) | ImportFault::Unsupported(line, _) => line,
-        ImportFault::Unended(line) | ImportFault::Outside(line, _) => line,
-        ImportFault::TooDeep(line) | ImportFault::TooManyLines(line) => line,
-        ImportFault::Cross(line) | ImportFault::Choice(line, _, _) => line,
-        ImportFault::TooManyArrows(line) | ImportFault::Shared(line, _) => line,
-        _ => 1,
-    }
-}
-
 /// Puts what stands before the line of a fault for editors behind a page, at this position.
 fn put_position(page: &mut Page, file: &str, position: Position) -> Result<(), AllocError>
     ensures { OnOk result (page.new.bytes.items
@@ -213,25 +203,64 @@ fn put_position(page: &mut Page, file: &str, position: Position) -> Result<(), A
     Ok(())
 }
 
-/// The line of why nothing is imported, at the line of the text that it speaks of.
-fn import_lines(alloc: Global, file: &str, refused: Refused) -> Result<Page, AllocError>
-    ensures { IfOk result (λ page. (text : List ℕ) → IsRefusalText file.now text
+/// Puts why nothing is imported behind a page: its line behind this position.
+fn put_import(
+    page: &mut Page,
+    file: &str,
+    position: Position,
+    refused: Refused,
+) -> Result<(), AllocError>
+    ensures { OnOk result (page.new.bytes.items ≡ page.old.bytes.items
+        ++ (error_text file.now position ++ refusal_line (Refusal.Import refused))) }
+{
+    put_position(page, file, position)?;
+    match write_refusal(page, Refusal::Import(refused)) {
+        Ok(()) => Ok(()),
+        Err(_) => Err(AllocError),
+    }
+}
+
+/// The position of a fault of an import: that of its place, if it has one on its line; else the
+/// beginning of the line.
+fn import_position(lines: &Lines<'_>, place: Option<usize>, fault: ImportFault) -> Position
+    ensures { result.line ≡ fault_line fault }
+{
+    let line = fault_line(fault);
+    if let Some(at) = place
+        && at <= lines.text().len()
+    {
+        let column = lines.position(at).column;
+        return Position { line, column };
+    }
+    Position { line, column: 1 }
+}
+
+/// Why nothing is imported, with its notes.
+fn import_lines(
+    alloc: Global,
+    task: Task<'_>,
+    file: &str,
+    text: &[u8],
+    refused: Refused,
+) -> Result<Page, AllocError>
+    ensures { IfOk result (λ page. IsRefusalText file.now text.now
         (Refusal.Import refused) page.bytes.items) }
 {
-    let position = Position {
-        line: import_line(refused.fault),
-        column: 1,
-    };
+    let plain = diagram_text(alloc, task, text)?;
+    let lines = Lines::of(alloc, plain.as_slice())?;
+    let told = told_of_import(alloc, task, text, plain.as_slice(), refused.fault)?;
+    let position = import_position(&lines, told.place, refused.fault);
     let mut page = Page::new(alloc);
-    put_position(&mut page, file, position)?;
-    let written = write_refusal(&mut page, Refusal::Import(refused));
-    page.if_written(written)
+    put_import(&mut page, file, position, refused)?;
+    put_notes(&mut page, file, &lines, &told)?;
+    Ok(page)
 }
 
 /// The lines of a refusal of the text of a file of this name. An error is a growth of memory that
 /// was refused.
 pub(crate) fn refusal_lines(
     alloc: Global,
+    task: Task<'_>,
     file: &str,
     text: &[u8],
     refusal: Refusal<'_>,
@@ -239,9 +268,9 @@ pub(crate) fn refusal_lines(
     ensures { IfOk result (λ page. IsRefusalText file.now text.now refusal.entry page.bytes.items) }
 {
     match refusal {
-        Refusal::Fault(Fault::Parse(fault)) => parse_lines(alloc, file, text, fault),
+        Refusal::Fault(Fault::Parse(fault)) => parse_lines(alloc, task, file, text, fault),
         Refusal::Fault(Fault::Chart(fault)) => chart_lines(alloc, file, text, fault),
-        Refusal::Import(refused) => import_lines(alloc, file, refused),
+        Refusal::Import(refused) => import_lines(alloc, task, file, text, refused),
         Refusal::Mark(fault) => bare_lines(alloc, file, text, mark_place(fault), refusal),
         _ => bare_lines(alloc, file, text, None, refusal),
     }

@@ -1,6 +1,6 @@
 //! What a command line asks for, by the words that `clap` took.
 
-ghost use Rattle.std.specs.Prelude.{◌≡◌, MatchOption, Some, false, map, true};
+ghost use Rattle.std.specs.Prelude.{◌≡◌, ◌||◌, MatchOption, Some, cond, false, map, true};
 ghost use Rattle.clap.specs.Matches.{first_value, found_of};
 ghost use Rattle.msc_command.specs.Asking.{architecture, file_of, form, names_kind, AreAllowed};
 ghost use Rattle.msc_command.specs.Asking.{AsksFor, IsDrawnForm, IsEventWord, IsFlag, IsLook, IsNoCommand, LacksWords};
@@ -8,9 +8,9 @@ ghost use Rattle.msc_command.specs.Asking.{chart_named, cross_named, lacks_choic
 ghost use Rattle.msc_command.specs.Asking.{own_named, par_named, IsChecking, IsDiagram, IsQuieting};
 ghost use Rattle.msc_command.specs.Asking.{default_limit, is_limit, is_of_scenarios, lacks_from};
 ghost use Rattle.msc_command.specs.Asking.{lacks_rounds, stands, IsNumberGiven};
-ghost use Rattle.msc_command.specs.Asking.{tells_notes, IsTwofold, WantsNotes};
+ghost use Rattle.msc_command.specs.Asking.{tells_notes, unlimited, AreRunsShown, IsTwofold};
 ghost use Rattle.msc_command.specs.Asking.{IsNameText, IsNoName, IsNoNumber, IsNumberText};
-ghost use Rattle.msc_command.specs.Asking.{words_of, IsOptionNumber, IsQuestion, LacksEvent};
+ghost use Rattle.msc_command.specs.Asking.{words_of, IsOptionNumber, IsQuestion, LacksEvent, WantsNotes};
 ghost use Rattle.msc_command.specs.Refused.{form_of};
 ghost use Rattle.msc_command.specs.Words.{form_of_word, form_word, word_name};
 
@@ -478,6 +478,23 @@ pub(crate) fn limit_of(words: &ArgMatches) -> u32
     number_of(words, Word::Limit, DEFAULT_LIMIT)
 }
 
+/// How many races of a diagram are shown by runs, if no word gives a number: all if a run in words or a
+/// short one is asked for, else none.
+fn shown_by(in_words: bool, short: bool) -> u32
+    ensures { result ≡ cond (in_words || short) unlimited 0 }
+{
+    if in_words || short { u32::MAX } else { 0 }
+}
+
+/// How many races of a diagram are shown by runs by these words, if they give no number.
+fn runs_shown(words: &ArgMatches) -> u32
+    ensures { AreRunsShown (found_of words.now) result }
+{
+    let in_words = is_given(words, Word::Words);
+    let short = is_given(words, Word::Short);
+    shown_by(in_words, short)
+}
+
 /// What the words of `msc check` ask of a diagram, if they can be asked of one.
 fn scenarios_of<'w>(queues: Queues, words: &'w ArgMatches) -> Option<Task<'w>>
     requires { is_of_scenarios (found_of words.now) ≡ true }
@@ -486,7 +503,7 @@ fn scenarios_of<'w>(queues: Queues, words: &'w ArgMatches) -> Option<Task<'w>>
         (AsksFor Verb.Check (found_of words.entry.now)) }
 {
     let limit = limit_of(words);
-    let checking = checking_of(queues, words, 0);
+    let checking = checking_of(queues, words, runs_shown(words));
     if checking.accept || checking.again || lacks_rounds(words) || !is_limit(limit) {
         return None;
     }

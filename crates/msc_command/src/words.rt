@@ -179,7 +179,7 @@ impl Word {
             }
             Word::Most => "List the first N races alone",
             Word::Show => {
-                "Print a run for each of the first N races; without it, for all, with --from for none"
+                "Print a run for the first N races; without it, for all, with --from if --words or --short"
             }
             Word::ShowSticks => {
                 "Print a run for each of the first N sticks that are first; without it, for all"

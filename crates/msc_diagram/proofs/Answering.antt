@@ -1,5 +1,5 @@
 -- What was put of all scenarios is what is printed of them.
-use Rattle.std.proofs.Common.{◌≡◌, ℕ, Bool, nat_eq, List, [], ◌++◌, Option, Result, Ok, Err, length, take, refl, sym, ap, ◌∙◌, inr, subst, append_assoc, arith}
+use Rattle.std.proofs.Common.{◌≡◌, ℕ, List, [], ◌++◌, Option, Result, Ok, Err, length, take, refl, sym, ap, ◌∙◌, inr, subst, append_assoc, arith}
 use Rattle.std.specs.Io.KnownBytes.{Appends}
 use Rattle.std.proofs.lemmas.List.{take_all}
 use Rattle.msc_chart.specs.declared.queue.Queues.{Queues}
@@ -7,62 +7,76 @@ use Rattle.msc_judge.proofs.Putting.{pages_in, pages_out, pages_then}
 use Rattle.msc_judge.specs.declared.page.WriteFault.{WriteFault}
 use Rattle.msc_judge.specs.declared.page.WriteFault.TheVariants.{Memory, Device}
 use Rattle.msc_judge.specs.declared.question.Question.{Question}
-use Rattle.msc_diagram.specs.Judging.{asked, bottom_text, listed_of, told_so_far, BeginsScenarios, JudgesScenarios, TellsScenarios}
-use Rattle.msc_diagram.specs.Scenarios.{asked_of, cases_text, places_from, AreCases, Case}
+use Rattle.msc_diagram.specs.Counts.{place_counts}
+use Rattle.msc_diagram.specs.Judging.{asked, bottom_text, told_so_far, AreCountsAbove, BeginsScenarios, JudgesScenarios, TellsScenarios}
+use Rattle.msc_diagram.specs.Scenarios.{cases_text, passed_of, AreCases, Case}
 use Rattle.msc_diagram.specs.Telling.{telling_by, PutsCases, TellsCases}
 use Rattle.msc_diagram.specs.declared.cases.Asked.{Asked}
 use Rattle.msc_diagram.specs.declared.judging.Form.{Form}
+use Rattle.msc_diagram.specs.declared.numbers.PlaceCounts.{PlaceCounts}
 use Rattle.msc_diagram.specs.declared.place.Place.{Place}
 use Rattle.msc_diagram.specs.declared.scenario.Scenario.{Scenario}
 
 module _ {W : Type 0} (contents : W → Option (List ℕ)) (name : List ℕ) (scenarios : List Scenario) (queues : Queues) (q : Question) (form : Form) (a : Asked) (page : List ℕ)
-    (are : (l : List Scenario) (cases : List Case) → AreCases a.queues a.question.short l cases → AreCases queues (asked form q).short l cases)
-    (so_far : (cases : List Case) → told_so_far form name queues q (length scenarios) cases ≡ page ++ cases_text (telling_by a.shape) a.queues a.question 1 [] cases)
-    (number : (cases : List Case) → listed_of queues (asked form q) cases ≡ length (places_from (asked_of a.queues a.question) [] cases)) where
+    (are : (l : List Scenario) (cases : List Case) → AreCases a.queues a.question.short l cases → AreCases queues (asked form q).short l cases) where
   -- how an answer is told
-  abbrev pub TellsAll : Result Bool WriteFault → W → W → Type 0
+  abbrev pub TellsAll : Result ℕ WriteFault → W → W → Type 0
   TellsAll = TellsScenarios contents (JudgesScenarios name scenarios queues q form) (BeginsScenarios name scenarios queues q form)
 
-  -- where a fault came while scenarios were put
-  pub all_stop : (f : WriteFault) (old new : W) (below : List (Place × Place)) (last : List ℕ)
-      → TellsCases a scenarios [] below (contents old) (contents new) page last (Err f) → TellsAll (Err f) old new
-  all_stop Memory old new below last stops = inr (
-    page ++ cases_text (telling_by a.shape) a.queues a.question 1 [] stops.cases,
-    record { first = stops.first; cases = stops.cases; are = are (take stops.first scenarios) stops.cases stops.are; text = sym (so_far stops.cases) },
-    stops.begun,
-  )
-  all_stop Device old new below last stops = tt
+  -- what is told of the first scenarios is the page and their text
+  abbrev pub IsSoFar : PlaceCounts → List Case → Type 0
+  IsSoFar counts cases = told_so_far form name queues q (length scenarios) counts cases ≡ page ++ cases_text (telling_by a.shape) a.queues a.question 1 [] cases
 
-  -- or behind them
-  pub all_stop_below : (old new : W) (below : List (Place × Place)) (last : List ℕ) (passed : ℕ)
-      → PutsCases a scenarios [] below (contents old) (contents new) page last passed → TellsAll (Err Memory) old new
-  all_stop_below old new below last passed p =
-      let text = cases_text (telling_by a.shape) a.queues a.question 1 [] p.cases in
-      inr (
-        page ++ text,
-        record {
-          first = length scenarios;
-          cases = p.cases;
-          are = subst (λ (l : List Scenario). AreCases queues (asked form q).short l p.cases) (sym (take_all (length scenarios) scenarios (omega arith))) (are scenarios p.cases p.are);
-          text = sym (so_far p.cases);
-        },
-        (p.put.0, last, p.put.1, p.put.2),
-      )
+  module _ (counts : PlaceCounts) (above : AreCountsAbove form scenarios queues q counts) (so_far : (cases : List Case) → IsSoFar counts cases) where
+    -- where a fault came while scenarios were put
+    pub all_stop : (f : WriteFault) (old new : W) (below : List (Place × Place)) (last : List ℕ)
+        → TellsCases a scenarios [] below (contents old) (contents new) page last (Err f) → TellsAll (Err f) old new
+    all_stop Memory old new below last stops = inr (
+      page ++ cases_text (telling_by a.shape) a.queues a.question 1 [] stops.cases,
+      record {
+        counts = counts;
+        above = above;
+        first = stops.first;
+        cases = stops.cases;
+        are = are (take stops.first scenarios) stops.cases stops.are;
+        text = sym (so_far stops.cases);
+      },
+      stops.begun,
+    )
+    all_stop Device old new below last stops = tt
+
+    -- or behind them
+    pub all_stop_below : (old new : W) (below : List (Place × Place)) (last : List ℕ) (passed : ℕ)
+        → PutsCases a scenarios [] below (contents old) (contents new) page last passed → TellsAll (Err Memory) old new
+    all_stop_below old new below last passed p =
+        let text = cases_text (telling_by a.shape) a.queues a.question 1 [] p.cases in
+        inr (
+          page ++ text,
+          record {
+            counts = counts;
+            above = above;
+            first = length scenarios;
+            cases = p.cases;
+            are = subst (λ (l : List Scenario). AreCases queues (asked form q).short l p.cases) (sym (take_all (length scenarios) scenarios (omega arith))) (are scenarios p.cases p.are);
+            text = sym (so_far p.cases);
+          },
+          (p.put.0, last, p.put.1, p.put.2),
+        )
 
   -- and where all went out
-  pub all_end : (old mid new : W) (below : List (Place × Place)) (last final bottom : List ℕ) (passed : ℕ) (answer : Bool)
-      → (p : PutsCases a scenarios [] below (contents old) (contents mid) page last passed) → final ≡ last ++ bottom
-      → bottom ≡ bottom_text form queues (asked form q) p.cases → answer ≡ nat_eq (length below) 0
-      → Appends (contents mid) (contents new) final → TellsAll (Ok answer) old new
-  all_end old mid new below last final bottom passed answer p ended is none out =
+  pub all_end : (old mid new : W) (below : List (Place × Place)) (last final bottom : List ℕ) (passed answer : ℕ)
+      → (p : PutsCases a scenarios [] below (contents old) (contents mid) page last passed) → IsSoFar (place_counts queues (asked form q) p.cases) p.cases
+      → final ≡ last ++ bottom → bottom ≡ bottom_text form queues (place_counts queues (asked form q) p.cases) (passed_of queues q.allowed p.cases)
+      → answer ≡ (place_counts queues (asked form q) p.cases).listed → Appends (contents mid) (contents new) final → TellsAll (Ok answer) old new
+  all_end old mid new below last final bottom passed answer p so_far ended is none out =
       let text = cases_text (telling_by a.shape) a.queues a.question 1 [] p.cases in (
         page ++ (text ++ bottom),
         record {
           cases = p.cases;
           are = are scenarios p.cases p.are;
-          answered = none ∙ ap (λ (l : List (Place × Place)). nat_eq (length l) 0) p.seen ∙ ap (λ (n : ℕ). nat_eq n 0) (sym (number p.cases));
-          text = sym (append_assoc page text bottom) ∙ ap (λ (t : List ℕ). t ++ bottom) (sym (so_far p.cases))
-              ∙ ap (λ (t : List ℕ). told_so_far form name queues q (length scenarios) p.cases ++ t) is;
+          answered = none;
+          text = sym (append_assoc page text bottom) ∙ ap (λ (t : List ℕ). t ++ bottom) (sym so_far)
+              ∙ ap (λ (t : List ℕ). told_so_far form name queues q (length scenarios) (place_counts queues (asked form q) p.cases) p.cases ++ t) is;
         },
         pages_out (contents old) (contents mid) (contents new) page final (text ++ bottom) (page ++ (text ++ bottom)) refl
             (pages_then (contents old) (contents mid) (contents mid) page last final text bottom p.put (pages_in (contents mid) last final bottom ended)) out,

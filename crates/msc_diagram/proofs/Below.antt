@@ -6,6 +6,7 @@ use Rattle.std.proofs.lemmas.Option.{slice_get-get_or}
 use Rattle.msc_race.proofs.Listing.Raced.{races_after, races_below}
 use Rattle.msc_race.specs.Views.{races_of, AreRacesOf}
 use Rattle.msc_race.specs.Wired.{EnforcedChart}
+use Rattle.msc_reason.proofs.Filtered.{filter_parts}
 use Rattle.msc_reason.proofs.Sums.{kept_below}
 use Rattle.msc_judge.proofs.Asked.{race_events}
 use Rattle.msc_diagram.proofs.Fresh.{fresh_behind}
@@ -38,3 +39,7 @@ pub told_step : (text : ℕ → ℕ × ℕ → List ℕ) (head : List ℕ) (most
 told_step text head most n m b s above all below rest same size is =
     ap (told_text text head most n) (ap (fresh s above) same ∙ fresh_behind s above below rest)
     ∙ told_more text head most n m b (fresh s above below) (fresh s (above_with s above below) rest) size is
+
+-- those of some races that pass a test are races
+pub kept_are : (e : EnforcedChart) (test : ℕ × ℕ → Bool) (races : List (ℕ × ℕ)) → AreRacesOf e races → AreRacesOf e (filter test races)
+kept_are e test races are x y there = are x y (filter_parts test races (x, y) there).0

@@ -1,5 +1,5 @@
 -- Whether no race of a scenario counts, of what was found of its chart.
-use Rattle.std.proofs.Common.{◌≡◌, Bool, false, true, nat_eq, List, length, refl, ap₂, subst, Result, Ok, Err}
+use Rattle.std.proofs.Common.{◌≡◌, Bool, false, nat_eq, length, refl, ap₂, subst, Result, Ok, Err}
 use Rattle.std.specs.Prelude.{IfOk, OnOk}
 use Rattle.msc_chart.specs.declared.queue.Queues.{Queues}
 use Rattle.msc_chart.specs.Drawings.{Drawing, IsAccepted}
@@ -13,10 +13,11 @@ use Rattle.msc_reason.specs.Marked.{lack_in}
 use Rattle.msc_reason.specs.declared.kinds.KindSet.{KindSet}
 use Rattle.msc_judge.proofs.Asked.{all_tables, are_shown, tables_of}
 use Rattle.msc_judge.specs.Findings.{run_of}
+use Rattle.msc_judge.specs.declared.question.Question.{Question}
 use Rattle.msc_diagram.specs.Judging.{PassesCase}
 use Rattle.msc_diagram.specs.Places.{above_with}
 use Rattle.msc_diagram.specs.Telling.{SeesCase}
-use Rattle.msc_diagram.specs.declared.place.Place.{Place}
+use Rattle.msc_diagram.specs.declared.answer.Answer.{Answer}
 use Rattle.msc_diagram.specs.declared.scenario.Scenario.{Scenario}
 
 -- what holds of an answer holds of one that is right where that is
@@ -30,23 +31,27 @@ success_holds (Ok a) then p = then p
 success_holds (Err e) then p = tt
 
 -- by the enforced order it is known what of a scenario was seen
-pub case_seen : (queues : Queues) (allowed : KindSet) (s : Scenario) (e : EnforcedChart) (all all' closest closest' : List (Place × Place))
+pub case_seen : (queues : Queues) (q : Question) (s : Scenario) (e : EnforcedChart) (old new : Answer)
     → e.chart ≡ s.chart → e.queues ≡ queues → IsEnforced e → IsAccepted e.chart → AChosenRunExists → AShortRunExists
-    → all' ≡ above_with s all (races_of e) → closest' ≡ above_with s closest (listed e (of_kinds allowed) true (lack_in e))
-    → SeesCase s queues allowed all all' closest closest'
-case_seen queues allowed s e all all' closest closest' chart its is accepted exists shorts seen few =
+    → new.all ≡ above_with s old.all (races_of e) → new.counting ≡ above_with s old.counting (counting e (of_kinds q.allowed) (lack_in e))
+    → new.listed ≡ above_with s old.listed (listed e (of_kinds q.allowed) q.closest (lack_in e)) → SeesCase s queues q old new
+case_seen queues q s e old new chart its is accepted exists shorts all some few =
     let same : e ≡ enforced_chart s.chart queues e.order = ap₂ (λ (d : Drawing) (a : Queues). enforced_chart d a e.order) chart its in
     let now = enforced_chart s.chart queues e.order in
-    let found = subst (λ (x : EnforcedChart). IsEnforced x × IsAccepted x.chart × (all' ≡ above_with s all (races_of x)) × (closest' ≡ above_with s closest (listed x (of_kinds allowed) true (lack_in x))))
-    same (is, accepted, seen, few) in
+    let found = subst (λ (x : EnforcedChart). IsEnforced x × IsAccepted x.chart × (new.all ≡ above_with s old.all (races_of x))
+    × (new.counting ≡ above_with s old.counting (counting x (of_kinds q.allowed) (lack_in x)))
+    × (new.listed ≡ above_with s old.listed (listed x (of_kinds q.allowed) q.closest (lack_in x))))
+    same (is, accepted, all, some, few) in
     let known = all_tables now found.0 found.1 exists shorts in
-    let tables = tables_of now known.0 known.1 in (
-      record { scenario = s; order = e.order; runs = run_of false tables },
-      refl,
-      record { enforced = found.0; lacks = known.2.lacks; shown = are_shown false now tables known.2 },
-      found.2,
-      found.3,
-    )
+    let tables = tables_of now known.0 known.1 in
+    record {
+      known = record { scenario = s; order = e.order; runs = run_of q.short tables };
+      scenario = refl;
+      is = record { accepted = found.1; enforced = found.0; lacks = known.2.lacks; shown = are_shown q.short now tables known.2 };
+      all = found.2;
+      counting = found.3;
+      listed = found.4;
+    }
 
 -- by the enforced order it is known whether none counts
 pub case_passes : (queues : Queues) (allowed : KindSet) (s : Scenario) (e : EnforcedChart) (none : Bool)
@@ -60,6 +65,6 @@ case_passes queues allowed s e none chart its is accepted exists shorts told =
     let tables = tables_of now all.0 all.1 in (
       record { scenario = s; order = e.order; runs = run_of false tables },
       refl,
-      record { enforced = found.0; lacks = all.2.lacks; shown = are_shown false now tables all.2 },
+      record { accepted = found.1; enforced = found.0; lacks = all.2.lacks; shown = are_shown false now tables all.2 },
       found.2,
     )

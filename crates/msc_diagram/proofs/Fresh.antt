@@ -9,7 +9,7 @@ use Rattle.msc_diagram.specs.declared.scenario.Scenario.{Scenario}
 
 module _ (s : Scenario) where
   -- the places of a race that is new are above those behind it
-  above_first : (above : List (Place × Place)) (p : ℕ × ℕ) (rest : List (ℕ × ℕ))
+  pub above_first : (above : List (Place × Place)) (p : ℕ × ℕ) (rest : List (ℕ × ℕ))
       → (above ++ places_in s p ∷ []) ++ map (places_in s) rest ≡ above ++ map (places_in s) (p ∷ rest)
   above_first above p rest = append_assoc above (places_in s p ∷ []) (map (places_in s) rest)
 

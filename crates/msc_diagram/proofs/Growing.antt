@@ -12,7 +12,8 @@ use Rattle.msc_judge.specs.declared.page.WriteFault.{WriteFault}
 use Rattle.msc_judge.specs.declared.page.WriteFault.TheVariants.{Memory, Device}
 use Rattle.msc_judge.specs.declared.question.Question.{Question}
 use Rattle.msc_diagram.specs.Places.{above_with}
-use Rattle.msc_diagram.specs.Scenarios.{all_of, asked_of, case_text, cases_text, passed_of, places_from, AreCases, Case, IsCase, Telling}
+use Rattle.msc_reason.specs.declared.kinds.KindSet.{KindSet}
+use Rattle.msc_diagram.specs.Scenarios.{asked_of, case_text, cases_text, counting_of, passed_of, places_from, AreCases, Case, IsCase, Telling}
 use Rattle.msc_diagram.specs.Telling.{telling_by, PutsCase, PutsCases, TellsCase, TellsCases}
 use Rattle.msc_diagram.specs.declared.cases.Asked.{Asked}
 use Rattle.msc_diagram.specs.declared.place.Place.{Place}
@@ -36,11 +37,11 @@ cases_more t queues q i j above (d ∷ cases) c is =
     ∙ sym (append_assoc (case_text t queues q i above d) (cases_text t queues q (i + 1) (above_with d.scenario above (asked_of queues q d)) cases)
     (case_text t queues q j (places_from (asked_of queues q) (above_with d.scenario above (asked_of queues q d)) cases) c))
 
--- one scenario more has no race, or has some
-pub passed_more : (queues : Queues) (cases : List Case) (c : Case)
-    → passed_of queues (cases ++ c ∷ []) ≡ passed_of queues cases + cond (nat_eq (length (all_of queues c)) 0) 1 0
-passed_more queues cases c =
-    let both = sum_by-append (λ (x : Case). cond (nat_eq (length (all_of queues x)) 0) 1 0) cases (c ∷ []) in
+-- one scenario more has no race that counts, or has some
+pub passed_more : (queues : Queues) (kinds : KindSet) (cases : List Case) (c : Case)
+    → passed_of queues kinds (cases ++ c ∷ []) ≡ passed_of queues kinds cases + cond (nat_eq (length (counting_of queues kinds c)) 0) 1 0
+passed_more queues kinds cases c =
+    let both = sum_by-append (λ (x : Case). cond (nat_eq (length (counting_of queues kinds x)) 0) 1 0) cases (c ∷ []) in
     omega (arith, both)
 
 -- what holds of one holds of each of it alone
@@ -66,12 +67,12 @@ module _ (a : Asked) (scenarios : List Scenario) (k : ℕ) (d : Scenario) (withi
       omega (arith, size, few, within)
 
   -- one scenario more is put behind them
-  pub cases_grow : (later : List (Place × Place)) (new : List ℕ) (passed races more : ℕ)
+  pub cases_grow : (later : List (Place × Place)) (new : List ℕ) (passed count more : ℕ)
       → PutsCases a (take k scenarios) above now before mid old one passed
-      → PutsCase a (k + 1) (get_or scenarios k d) now later mid after one new races
-      → more ≡ passed + cond (nat_eq races 0) 1 0
+      → PutsCase a (k + 1) (get_or scenarios k d) now later mid after one new count
+      → more ≡ passed + cond (nat_eq count 0) 1 0
       → PutsCases a (take (k + 1) scenarios) above later before after old new more
-  cases_grow later new passed races more p c is =
+  cases_grow later new passed count more p c is =
       let q = a.question in
       let t = telling_by a.shape in
       let many = so_many p.cases p.are in
@@ -79,7 +80,7 @@ module _ (a : Asked) (scenarios : List Scenario) (k : ℕ) (d : Scenario) (withi
       record {
         cases = p.cases ++ c.known ∷ [];
         are = known_more a.queues q.short scenarios k p.cases c.known d p.are c.is within c.scenario;
-        counted = is ∙ ap₂ (λ (x r : ℕ). x + cond (nat_eq r 0) 1 0) p.counted c.counted ∙ sym (passed_more a.queues p.cases c.known);
+        counted = is ∙ ap₂ (λ (x r : ℕ). x + cond (nat_eq r 0) 1 0) p.counted c.counted ∙ sym (passed_more a.queues q.allowed p.cases c.known);
         seen = c.seen ∙ ap (λ (l : List (Place × Place)). above_with c.known.scenario l (asked_of a.queues q c.known)) p.seen
             ∙ sym (places_more (asked_of a.queues q) above p.cases c.known);
         put = subst (Pages before after old new) (sym (cases_more t a.queues q 1 (k + 1) above p.cases c.known number))

@@ -7,7 +7,7 @@ use Rattle.msc_race.specs.Laws.{AChosenRunExists}
 use Rattle.msc_race.specs.ShortLaws.{AShortRunExists}
 use Rattle.msc_race.specs.Views.{races_of, wiring_of}
 use Rattle.msc_race.specs.Wired.{enforced_chart, EnforcedChart, IsEnforced}
-use Rattle.msc_reason.specs.Counting.{listed}
+use Rattle.msc_reason.specs.Counting.{counting, listed}
 use Rattle.msc_reason.specs.LeftOut.{of_kinds}
 use Rattle.msc_reason.specs.Marked.{lack_in}
 use Rattle.msc_reason.specs.Selected.{Selected}
@@ -18,13 +18,13 @@ use Rattle.msc_judge.specs.Telling.{race_text}
 use Rattle.msc_judge.specs.declared.page.WriteFault.{WriteFault}
 use Rattle.msc_judge.specs.declared.page.WriteFault.TheVariants.{Memory, Device}
 use Rattle.msc_diagram.specs.Places.{fresh}
-use Rattle.msc_diagram.specs.Scenarios.{all_of, asked_of, case_text, head_text, told_text, Case, IsCase}
+use Rattle.msc_diagram.specs.Scenarios.{asked_of, case_text, counting_of, head_text, told_text, Case, IsCase}
 use Rattle.msc_diagram.specs.Telling.{telling_by, TellsCase}
 use Rattle.msc_diagram.specs.declared.cases.Asked.{Asked}
 use Rattle.msc_diagram.specs.declared.place.Place.{Place}
 use Rattle.msc_diagram.specs.declared.scenario.Scenario.{Scenario}
 
-module _ (a : Asked) (i : ℕ) (s : Scenario) (above : List (Place × Place)) (races : ℕ) (Q : List ℕ → Type 0) where
+module _ (a : Asked) (i : ℕ) (s : Scenario) (above : List (Place × Place)) (races count : ℕ) (Q : List ℕ → Type 0) where
   -- the races of a chart under an architecture that are asked for
   abbrev pub listed_by : EnforcedChart → List (ℕ × ℕ)
   listed_by e = listed e (of_kinds a.question.allowed) a.question.closest (lack_in e)
@@ -47,7 +47,8 @@ module _ (a : Asked) (i : ℕ) (s : Scenario) (above : List (Place × Place)) (r
   pub record Found (e : EnforcedChart) : Type 0 where
     pub is : IsEnforced e
     pub accepted : IsAccepted e.chart
-    pub counted : races ≡ length (races_of e)
+    pub raced : races ≡ length (races_of e)
+    pub counted : count ≡ length (counting e (of_kinds a.question.allowed) (lack_in e))
     pub put : (runs : ℕ × ℕ → List ℕ) → AreShown a.question.short (wiring_of e) runs → Q (text_by e runs)
 
   -- what is known of the scenario then
@@ -55,7 +56,7 @@ module _ (a : Asked) (i : ℕ) (s : Scenario) (above : List (Place × Place)) (r
     pub known : Case
     pub scenario : known.scenario ≡ s
     pub is : IsCase a.queues a.question.short known
-    pub counted : races ≡ length (all_of a.queues known)
+    pub counted : count ≡ length (counting_of a.queues a.question.allowed known)
     pub asked : listed_by e ≡ asked_of a.queues a.question known
     pub put : Q (case_text (telling_by a.shape) a.queues a.question i above known)
 
@@ -69,11 +70,11 @@ module _ (a : Asked) (i : ℕ) (s : Scenario) (above : List (Place × Place)) (r
       record {
         known = record { scenario = s; order = order; runs = runs };
         scenario = refl;
-        is = record { enforced = found.is; lacks = all.2.lacks; shown = shown };
+        is = record { accepted = found.accepted; enforced = found.is; lacks = all.2.lacks; shown = shown };
         counted = found.counted;
         asked = refl;
         put = subst (λ (n : ℕ). Q (told_text (race_text ((telling_by a.shape).texts s) e a.question runs)
-            (head_text (cond (telling_by a.shape).heads (Some i) None) s.choices n) a.question.most (length above) (fresh s above (listed_by e)))) found.counted
+            (head_text (cond (telling_by a.shape).heads (Some i) None) s.choices n) a.question.most (length above) (fresh s above (listed_by e)))) found.raced
             (found.put runs shown);
       }
 
@@ -83,7 +84,7 @@ module _ (a : Asked) (i : ℕ) (s : Scenario) (above : List (Place × Place)) (r
       subst IsKnown (sym same) (of_order exists shorts e.order (subst Found same found))
 
 -- where a fault came while it was put
-pub case_stops : (a : Asked) (i : ℕ) (s : Scenario) (above below : List (Place × Place)) (races : ℕ) (f : WriteFault) (before after : Option (List ℕ)) (old new last : List ℕ) (e : EnforcedChart)
-    → IsKnown a i s above races (Puts {A = Unit {0}} (Err f) before after old new) e → TellsCase a i s above below before after old last (Err f)
-case_stops a i s above below races Memory before after old new last e known = inr (known.known, known.scenario, known.is, known.put)
-case_stops a i s above below races Device before after old new last e known = tt
+pub case_stops : (a : Asked) (i : ℕ) (s : Scenario) (above below : List (Place × Place)) (races count : ℕ) (f : WriteFault) (before after : Option (List ℕ)) (old new last : List ℕ) (e : EnforcedChart)
+    → IsKnown a i s above races count (Puts {A = Unit {0}} (Err f) before after old new) e → TellsCase a i s above below before after old last (Err f)
+case_stops a i s above below races count Memory before after old new last e known = inr (known.known, known.scenario, known.is, known.put)
+case_stops a i s above below races count Device before after old new last e known = tt

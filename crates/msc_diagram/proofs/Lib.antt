@@ -5,4 +5,7 @@ pub mod Below
 pub mod Knowing
 pub mod Growing
 pub mod Clearing
+pub mod Same
+pub mod Above
+pub mod Adding
 pub mod Answering

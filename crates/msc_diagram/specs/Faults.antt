@@ -22,23 +22,26 @@ several_line count =
 -- the line of a fault of an import, and of the name that it speaks of
 abbrev pub import_fault_line : ImportFault → List ℕ → List ℕ
 import_fault_line imports.TooLong name = text_line (codes "import fault 1: text longer than 1048576 bytes")
-import_fault_line (imports.Expected line what) name = codes "import fault 2 at " ++ (decimal line ++ (codes ": expected " ++ text_line (expectation what)))
-import_fault_line (imports.Unsupported line head) name = codes "import fault 3 at " ++ (decimal line ++ (codes ": " ++ (head_text head ++ text_line (codes " is not supported"))))
-import_fault_line (imports.Unended line) name = import_line 4 line (codes "block without end")
-import_fault_line (imports.Outside line word) name = codes "import fault 5 at " ++ (decimal line ++ (codes ": " ++ (closer_word word ++ text_line (codes " outside of its block"))))
-import_fault_line (imports.TooDeep line) name = import_line 6 line (codes "more than 10 blocks inside each other")
-import_fault_line (imports.TooManyLines line) name = import_line 7 line (codes "more than 32 instances")
-import_fault_line (imports.Cross line) name = import_line 9 line (codes "say --cross lost or --cross arrives")
+import_fault_line (imports.Expected here what) name = codes "import fault 2 at " ++ (decimal here.line ++ (codes ": expected " ++ text_line (expectation what)))
+import_fault_line (imports.Unsupported here head) name = codes "import fault 3 at " ++ (decimal here.line ++ (codes ": " ++ (head_text head ++ text_line (codes " is not supported"))))
+import_fault_line (imports.Entity here) name = codes "import fault 3 at " ++ (decimal here.line ++ (codes ": " ++ (name ++ text_line (codes " is not supported"))))
+import_fault_line (imports.Unended here) name = import_line 4 here.line (codes "block without end")
+import_fault_line (imports.Outside here word) name = codes "import fault 5 at " ++ (decimal here.line ++ (codes ": " ++ (closer_word word ++ text_line (codes " outside of its block"))))
+import_fault_line (imports.Stray here) name = import_line 5 here.line (codes "sequenceDiagram outside of its block")
+import_fault_line (imports.TooDeep here) name = import_line 6 here.line (codes "more than 10 blocks inside each other")
+import_fault_line (imports.TooManyLines here) name = import_line 7 here.line (codes "more than 32 instances")
 import_fault_line (imports.TooManyScenarios limit) name =
     codes "import fault 11: more than " ++ (decimal limit ++ text_line (codes " scenarios"))
 import_fault_line (imports.Several count) name = several_line count
-import_fault_line (imports.Choice line choice most) name =
-    codes "import fault 13 at " ++ (decimal line ++ (codes ": choice " ++ (decimal choice ++ (codes " is more than " ++ text_line (decimal most)))))
+import_fault_line (imports.Choice here choice most) name =
+    codes "import fault 13 at " ++ (decimal here.line ++ (codes ": choice " ++ (decimal choice ++ (codes " is more than " ++ text_line (decimal most)))))
 import_fault_line (imports.TooManyChoices given met) name =
     codes "import fault 14: " ++ (decimal given ++ (codes " choices for " ++ (decimal met ++ text_line (codes " blocks"))))
-import_fault_line (imports.TooManyArrows line) name = import_line 15 line (codes "more than 1024 arrows")
-import_fault_line (imports.Shared line at) name = codes "import fault 16 at " ++ (decimal line ++ (codes ": parallel branches share " ++ text_line name))
+import_fault_line (imports.TooManyArrows here) name = import_line 15 here.line (codes "more than 1024 arrows")
+import_fault_line (imports.Shared here at) name = codes "import fault 16 at " ++ (decimal here.line ++ (codes ": parallel branches share " ++ text_line name))
 import_fault_line (imports.NoDiagram number) name = codes "import fault 17: no diagram " ++ text_line (decimal number)
+import_fault_line (imports.SeveralDiagrams count) name =
+    codes "import fault 20: " ++ (decimal count ++ text_line (codes " diagrams, say --fence"))
 import_fault_line imports.Memory name = text_line (codes "memory fault")
 
 -- the line of why nothing is imported

@@ -2,5 +2,7 @@
 pub mod Faults
 pub mod Places
 pub mod Scenarios
+pub mod Counts
 pub mod Judging
 pub mod Telling
+pub mod Laws

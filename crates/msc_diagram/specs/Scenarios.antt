@@ -3,12 +3,14 @@ use Rattle.std.specs.Prelude.{◌≡◌, ℕ, ◌+◌, Bool, cond, List, [], ◌
 use Rattle.std.specs.Fmt.{decimal}
 use Rattle.std.specs.List.{flat_map, All}
 use Rattle.msc_chart.specs.declared.queue.Queues.{Queues}
+use Rattle.msc_chart.specs.Drawings.{IsAccepted}
 use Rattle.msc_order.specs.Tables.{Table}
 use Rattle.msc_race.specs.Views.{races_of, wiring_of}
 use Rattle.msc_race.specs.Wired.{enforced_chart, EnforcedChart, IsEnforced}
-use Rattle.msc_reason.specs.Counting.{listed, AreLacks}
+use Rattle.msc_reason.specs.Counting.{counting, listed, AreLacks}
 use Rattle.msc_reason.specs.LeftOut.{of_kinds}
 use Rattle.msc_reason.specs.Marked.{lack_in}
+use Rattle.msc_reason.specs.declared.kinds.KindSet.{KindSet}
 use Rattle.msc_judge.specs.Findings.{AreShown, Texts}
 use Rattle.msc_judge.specs.Telling.{race_text, told_from}
 use Rattle.msc_judge.specs.declared.question.Question.{Question}
@@ -29,8 +31,9 @@ pub record Case : Type 0 where
 abbrev pub judged_in : Queues → Case → EnforcedChart
 judged_in queues c = enforced_chart c.scenario.chart queues c.order
 
--- it is what they are: the enforced order, what each race lacks by it, and the runs
+-- it is what they are: the enforced order of a chart, what each race lacks by it, and the runs
 pub record IsCase (queues : Queues) (short : Bool) (c : Case) : Type 0 where
+  pub accepted : IsAccepted c.scenario.chart
   pub enforced : IsEnforced (judged_in queues c)
   pub lacks : AreLacks (judged_in queues c) (lack_in (judged_in queues c))
   pub shown : AreShown short (wiring_of (judged_in queues c)) c.runs
@@ -47,6 +50,10 @@ asked_of queues q c = let e = judged_in queues c in listed e (of_kinds q.allowed
 -- all races of a scenario
 abbrev pub all_of : Queues → Case → List (ℕ × ℕ)
 all_of queues c = races_of (judged_in queues c)
+
+-- the races of a scenario that count: those of none of these kinds
+abbrev pub counting_of : Queues → KindSet → Case → List (ℕ × ℕ)
+counting_of queues kinds c = let e = judged_in queues c in counting e (of_kinds kinds) (lack_in e)
 
 -- the places of the races of scenarios that are listed, of those that these are: of each two places once
 abbrev pub places_from : (Case → List (ℕ × ℕ)) → List (Place × Place) → List Case → List (Place × Place)
@@ -98,17 +105,11 @@ cases_text t queues q i above (c ∷ cases) =
     case_text t queues q i above c
     ++ cases_text t queues q (i + 1) (above_with c.scenario above (asked_of queues q c)) cases
 
--- how many scenarios have no race
-abbrev pub passed_of : Queues → List Case → ℕ
-passed_of queues cases = count_by (λ c. nat_eq (length (all_of queues c)) 0) cases
+-- how many scenarios have no race that counts
+abbrev pub passed_of : Queues → KindSet → List Case → ℕ
+passed_of queues kinds cases = count_by (λ c. nat_eq (length (counting_of queues kinds c)) 0) cases
 
 -- what stands above all scenarios
 abbrev pub diagram_head : List ℕ → Queues → ℕ → List ℕ
 diagram_head name queues count =
     (codes "diagram " ++ text_line name) ++ (queues_line queues ++ (codes "scenarios " ++ text_line (decimal count)))
-
--- what stands below them, of so many scenarios: whether all pass, or how many races are listed and how many pass
-abbrev pub diagram_end : ℕ → ℕ → ℕ → List ℕ
-diagram_end count listed passed =
-    cond (nat_eq passed count) (text_line (codes "pass"))
-    ((codes "listed " ++ text_line (decimal listed)) ++ (codes "passed " ++ text_line (decimal passed)))

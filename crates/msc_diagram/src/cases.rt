@@ -19,7 +19,7 @@ use msc_chart::Queues;
 use msc_judge::{Page, Question, Teller, WriteFault};
 use msc_race::Enforced;
 use msc_race::laws::{short_runs_show, the_chosen_run_reverses};
-use msc_reason::{LeftOut, Listing};
+use msc_reason::{LeftOut, Listing, count_counting};
 use msc_report::{Editor, Lines, Style};
 use std::alloc::Global;
 use std::io::Write;
@@ -163,7 +163,7 @@ fn put_shape<W: Write>(
     }
 }
 
-/// Puts a scenario behind a page by its number, and answers how many races it has.
+/// Puts a scenario behind a page by its number, and answers how many of its races count.
 fn put_case<W: Write>(
     alloc: Global,
     writer: &mut W,
@@ -183,15 +183,16 @@ fn put_case<W: Write>(
     enforced.enforced();
     let races = enforced.count_races();
     let left = LeftOut::of_kinds(asked.question.allowed);
+    let counting = count_counting(alloc, &enforced, left, races)?;
     let listing = &Listing::of(alloc, enforced, left, asked.question.closest)?;
     put_shape(
         alloc, writer, page, seen, listing, asked, scenario, number, races,
     )?;
-    Ok(races)
+    Ok(counting)
 }
 
-/// Puts scenarios behind a page, one below the other, and answers how many of them have no race. Full
-/// pages go out.
+/// Puts scenarios behind a page, one below the other, and answers how many of them have no race that
+/// counts. Full pages go out.
 pub(crate) fn put_cases<W: Write>(
     alloc: Global,
     writer: &mut W,
@@ -206,8 +207,8 @@ pub(crate) fn put_cases<W: Write>(
 {
     let mut passed = 0;
     for (i, scenario) in scenarios.iter().enumerate() {
-        let races = put_case(alloc, writer, page, seen, asked, scenario, i + 1)?;
-        if races == 0 {
+        let counting = put_case(alloc, writer, page, seen, asked, scenario, i + 1)?;
+        if counting == 0 {
             passed += 1;
         }
     }

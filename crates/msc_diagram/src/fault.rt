@@ -1,6 +1,6 @@
 //! The lines of faults of imports.
 
-ghost use Rattle.std.specs.Prelude.{[], OnOk};
+ghost use Rattle.std.specs.Prelude.{[], ◌++◌, codes, OnOk};
 ghost use Rattle.std.specs.Io.KnownBytes.{Appends};
 ghost use Rattle.msc_import.specs.Importing.{seen};
 ghost use Rattle.msc_diagram.specs.Faults.{import_fault_line, import_line, import_refusal_line};
@@ -9,42 +9,48 @@ ghost use Rattle.msc_report.specs.Texts.{text_line};
 
 use msc_import::Refused;
 use msc_mermaid::{Closer, Expectation, Head, ImportFault};
+use msc_place::Position;
 use msc_scenarios::SCENARIO_LIMIT;
 use std::io;
 use std::io::Write;
 
-/// Writes the line of a fault by its number, on a line of the text.
-fn write_on_line<W: Write>(writer: &mut W, number: u32, line: usize, words: &str) -> io::Result<()>
+/// Writes the line of a fault by its number, at a place of the text.
+fn write_at<W: Write>(writer: &mut W, number: u32, here: Position, words: &str) -> io::Result<()>
     ensures { OnOk result (Appends (W.contents writer.old) (W.contents writer.new)
-        (import_line number line words.now)) }
+        (import_line number here.line words.now)) }
 {
-    writeln!(writer, "import fault {number} at {line}: {words}")
+    writeln!(writer, "import fault {number} at {}: {words}", here.line)
 }
 
-/// Writes the line for what was expected on a line of the text.
-fn write_wanted<W: Write>(writer: &mut W, line: usize, what: Expectation) -> io::Result<()>
+/// Writes the line for what was expected at a place of the text.
+fn write_wanted<W: Write>(writer: &mut W, here: Position, what: Expectation) -> io::Result<()>
     ensures { OnOk result (Appends (W.contents writer.old) (W.contents writer.new)
-        (import_fault_line (ImportFault.Expected line what) [])) }
+        (import_fault_line (ImportFault.Expected here what) [])) }
 {
-    writeln!(writer, "import fault 2 at {line}: expected {what}")
+    writeln!(writer, "import fault 2 at {}: expected {what}", here.line)
 }
 
 /// Writes the line for an arrow that is not taken.
-fn write_untaken<W: Write>(writer: &mut W, line: usize, head: Head) -> io::Result<()>
+fn write_untaken<W: Write>(writer: &mut W, here: Position, head: Head) -> io::Result<()>
     ensures { OnOk result (Appends (W.contents writer.old) (W.contents writer.new)
-        (import_fault_line (ImportFault.Unsupported line head) [])) }
-{
-    writeln!(writer, "import fault 3 at {line}: {head} is not supported")
-}
-
-/// Writes the line for a word that stands outside of its block.
-fn write_outside<W: Write>(writer: &mut W, line: usize, word: Closer) -> io::Result<()>
-    ensures { OnOk result (Appends (W.contents writer.old) (W.contents writer.new)
-        (import_fault_line (ImportFault.Outside line word) [])) }
+        (import_fault_line (ImportFault.Unsupported here head) [])) }
 {
     writeln!(
         writer,
-        "import fault 5 at {line}: {word} outside of its block"
+        "import fault 3 at {}: {head} is not supported",
+        here.line
+    )
+}
+
+/// Writes the line for a word that stands outside of its block.
+fn write_outside<W: Write>(writer: &mut W, here: Position, word: Closer) -> io::Result<()>
+    ensures { OnOk result (Appends (W.contents writer.old) (W.contents writer.new)
+        (import_fault_line (ImportFault.Outside here word) [])) }
+{
+    writeln!(
+        writer,
+        "import fault 5 at {}: {word} outside of its block",
+        here.line
     )
 }
 
@@ -59,14 +65,20 @@ fn write_several<W: Write>(writer: &mut W, count: usize) -> io::Result<()>
     writer.write_all(b"import fault 12: more than 4096 scenarios, say --choose\n")
 }
 
-/// Writes the line for a choice of a block on a line of the text that is more than there are.
-fn write_choice<W: Write>(writer: &mut W, line: usize, choice: usize, most: usize) -> io::Result<()>
+/// Writes the line for a choice of a block at a place of the text that is more than there are.
+fn write_choice<W: Write>(
+    writer: &mut W,
+    here: Position,
+    choice: usize,
+    most: usize,
+) -> io::Result<()>
     ensures { OnOk result (Appends (W.contents writer.old) (W.contents writer.new)
-        (import_fault_line (ImportFault.Choice line choice most) [])) }
+        (import_fault_line (ImportFault.Choice here choice most) [])) }
 {
     writeln!(
         writer,
-        "import fault 13 at {line}: choice {choice} is more than {most}"
+        "import fault 13 at {}: choice {choice} is more than {most}",
+        here.line
     )
 }
 
@@ -79,15 +91,35 @@ fn write_name<W: Write>(writer: &mut W, name: &[u8]) -> io::Result<()>
     writer.write_all(b"\n")
 }
 
-/// Writes the line for parallel branches on a line of the text that share a line of the diagram.
-fn write_shared<W: Write>(writer: &mut W, line: usize, at: usize, name: &[u8]) -> io::Result<()>
+/// Writes the line for parallel branches at a place of the text that share a line of the diagram.
+fn write_shared<W: Write>(writer: &mut W, here: Position, at: usize, name: &[u8]) -> io::Result<()>
     ensures { OnOk result (Appends (W.contents writer.old) (W.contents writer.new)
-        (import_fault_line (ImportFault.Shared line at) name.now)) }
+        (import_fault_line (ImportFault.Shared here at) name.now)) }
 {
     writer.write_all(b"import fault 16 at ")?;
-    write!(writer, "{line}")?;
+    write!(writer, "{}", here.line)?;
     writer.write_all(b": parallel branches share ")?;
     write_name(writer, name)
+}
+
+/// Writes what is not supported, and the end of the line.
+fn write_unsupported<W: Write>(writer: &mut W, name: &[u8]) -> io::Result<()>
+    ensures { OnOk result (Appends (W.contents writer.old) (W.contents writer.new)
+        (name.now ++ text_line (codes " is not supported"))) }
+{
+    writer.write_all(name)?;
+    writer.write_all(b" is not supported\n")
+}
+
+/// Writes the line of an entity of HTML.
+fn write_entity<W: Write>(writer: &mut W, here: Position, name: &[u8]) -> io::Result<()>
+    ensures { OnOk result (Appends (W.contents writer.old) (W.contents writer.new)
+        (import_fault_line (ImportFault.Entity here) name.now)) }
+{
+    writer.write_all(b"import fault 3 at ")?;
+    write!(writer, "{}", here.line)?;
+    writer.write_all(b": ")?;
+    write_unsupported(writer, name)
 }
 
 /// Writes the line of a fault of an import, and of the name that it speaks of.
@@ -99,33 +131,33 @@ fn write_named<W: Write>(writer: &mut W, fault: ImportFault, name: &[u8]) -> io:
         ImportFault::TooLong => {
             writer.write_all(b"import fault 1: text longer than 1048576 bytes\n")
         }
-        ImportFault::Expected(line, what) => write_wanted(writer, line, what),
-        ImportFault::Unsupported(line, head) => write_untaken(writer, line, head),
-        ImportFault::Unended(line) => write_on_line(writer, 4, line, "block without end"),
-        ImportFault::Outside(line, word) => write_outside(writer, line, word),
-        ImportFault::TooDeep(line) => {
-            write_on_line(writer, 6, line, "more than 10 blocks inside each other")
+        ImportFault::Expected(here, what) => write_wanted(writer, here, what),
+        ImportFault::Unsupported(here, head) => write_untaken(writer, here, head),
+        ImportFault::Entity(here) => write_entity(writer, here, name),
+        ImportFault::Unended(here) => write_at(writer, 4, here, "block without end"),
+        ImportFault::Outside(here, word) => write_outside(writer, here, word),
+        ImportFault::Stray(here) => {
+            write_at(writer, 5, here, "sequenceDiagram outside of its block")
         }
-        ImportFault::TooManyLines(line) => {
-            write_on_line(writer, 7, line, "more than 32 instances")
+        ImportFault::TooDeep(here) => {
+            write_at(writer, 6, here, "more than 10 blocks inside each other")
         }
-        ImportFault::Cross(line) => {
-            write_on_line(writer, 9, line, "say --cross lost or --cross arrives")
-        }
+        ImportFault::TooManyLines(here) => { write_at(writer, 7, here, "more than 32 instances") }
         ImportFault::TooManyScenarios(limit) => {
             writeln!(writer, "import fault 11: more than {limit} scenarios")
         }
         ImportFault::Several(count) => write_several(writer, count),
-        ImportFault::Choice(line, choice, most) => write_choice(writer, line, choice, most),
+        ImportFault::Choice(here, choice, most) => write_choice(writer, here, choice, most),
         ImportFault::TooManyChoices(given, met) => {
             writeln!(writer, "import fault 14: {given} choices for {met} blocks")
         }
-        ImportFault::TooManyArrows(line) => {
-            write_on_line(writer, 15, line, "more than 1024 arrows")
-        }
-        ImportFault::Shared(line, at) => write_shared(writer, line, at, name),
+        ImportFault::TooManyArrows(here) => { write_at(writer, 15, here, "more than 1024 arrows") }
+        ImportFault::Shared(here, at) => write_shared(writer, here, at, name),
         ImportFault::NoDiagram(number) => {
             writeln!(writer, "import fault 17: no diagram {number}")
+        }
+        ImportFault::SeveralDiagrams(count) => {
+            writeln!(writer, "import fault 20: {count} diagrams, say --fence")
         }
         ImportFault::Memory => writer.write_all(b"memory fault\n"),
     }

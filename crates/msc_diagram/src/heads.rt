@@ -5,10 +5,13 @@ ghost use Rattle.std.specs.Fmt.{decimal};
 ghost use Rattle.std.specs.Io.KnownBytes.{Appends};
 ghost use Rattle.std.specs.List.{flat_map};
 ghost use Rattle.msc_report.specs.Texts.{text_line};
-ghost use Rattle.msc_diagram.specs.Scenarios.{choices_text, diagram_end, diagram_head};
-ghost use Rattle.msc_diagram.specs.Scenarios.{scenario_head};
+ghost use Rattle.msc_diagram.specs.Counts.{counts_text, diagram_end, number_line, option_line};
+ghost use Rattle.msc_diagram.specs.Counts.{options_text, pass_line};
+ghost use Rattle.msc_diagram.specs.Scenarios.{choices_text, diagram_head, scenario_head};
 
+use crate::numbers::{PlaceCounts, chooses};
 use msc_chart::Queues;
+use msc_judge::Question;
 use msc_report::write_queues_line;
 use std::io;
 use std::io::Write;
@@ -78,20 +81,85 @@ pub(crate) fn write_diagram_head<W: Write>(
     writeln!(writer, "scenarios {count}")
 }
 
-/// Writes what stands below so many scenarios: whether all pass, or how many races are listed and how
-/// many of the scenarios pass.
+/// Writes the line of a word and a number.
+fn write_number<W: Write>(writer: &mut W, word: &str, number: u32) -> io::Result<()>
+    ensures { OnOk result (Appends (W.contents writer.old) (W.contents writer.new)
+        (number_line word.now number)) }
+{
+    writeln!(writer, "{word}{number}")
+}
+
+/// Writes the line of a word and a number that an option asks for, if it does.
+fn write_option<W: Write>(writer: &mut W, word: &str, number: Option<u32>) -> io::Result<()>
+    ensures { OnOk result (Appends (W.contents writer.old) (W.contents writer.new)
+        (option_line word.now number)) }
+{
+    match number {
+        Some(number) => write_number(writer, word, number),
+        None => Ok(()),
+    }
+}
+
+/// Writes how many places are allowed, and how many are those of closest races, as options ask.
+fn write_options<W: Write>(writer: &mut W, counts: PlaceCounts) -> io::Result<()>
+    ensures { OnOk result (Appends (W.contents writer.old) (W.contents writer.new)
+        (options_text counts)) }
+{
+    write_option(writer, "allowed ", counts.allowed)?;
+    write_option(writer, "closest ", counts.closest)
+}
+
+/// Writes how many places there are, if options choose among the races and there are some.
+pub(crate) fn write_counts<W: Write>(
+    writer: &mut W,
+    question: Question,
+    counts: PlaceCounts,
+) -> io::Result<()>
+    ensures { OnOk result (Appends (W.contents writer.old) (W.contents writer.new)
+        (counts_text question counts)) }
+{
+    if !chooses(question) || counts.races == 0 {
+        return Ok(());
+    }
+    write_number(writer, "races ", counts.races)?;
+    write_options(writer, counts)
+}
+
+/// Writes that a diagram has no race; and of one whose parallel branches are drawn one below the other
+/// that it is said of this drawing.
+fn write_pass<W: Write>(writer: &mut W, drawn: bool) -> io::Result<()>
+    ensures { OnOk result (Appends (W.contents writer.old) (W.contents writer.new)
+        (pass_line drawn)) }
+{
+    if drawn {
+        return writer.write_all(b"pass, parallel branches drawn one below the other\n");
+    }
+    writer.write_all(b"pass\n")
+}
+
+/// Writes how many places are listed, and how many scenarios pass.
+fn write_listed<W: Write>(writer: &mut W, listed: u32, passed: usize) -> io::Result<()>
+    ensures { OnOk result (Appends (W.contents writer.old) (W.contents writer.new)
+        (number_line (codes "listed ") listed ++ number_line (codes "passed ") passed)) }
+{
+    writeln!(writer, "listed {listed}")?;
+    writeln!(writer, "passed {passed}")
+}
+
+/// Writes what stands below all scenarios: that there are no races, or how many places are listed and
+/// how many scenarios pass.
 pub(crate) fn write_diagram_end<W: Write>(
     writer: &mut W,
-    count: usize,
-    listed: u32,
+    drawn: bool,
+    counts: PlaceCounts,
     passed: usize,
 ) -> io::Result<()>
     ensures { OnOk result (Appends (W.contents writer.old) (W.contents writer.new)
-        (diagram_end count listed passed)) }
+        (diagram_end drawn counts passed)) }
 {
-    if passed == count {
-        return writer.write_all(b"pass\n");
+    if counts.races == 0 {
+        write_pass(writer, drawn)?;
+        return write_options(writer, counts);
     }
-    writeln!(writer, "listed {listed}")?;
-    writeln!(writer, "passed {passed}")
+    write_listed(writer, counts.listed, passed)
 }

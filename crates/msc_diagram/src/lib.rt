@@ -2,11 +2,14 @@
 //! diagram's scenarios, each once.
 #![tactic(auto)]
 
+mod answer;
 mod cases;
 mod counting;
 mod fault;
 mod heads;
 mod judging;
+pub mod laws;
+mod numbers;
 mod passing;
 mod place;
 mod scenario;
@@ -14,6 +17,6 @@ mod seen;
 mod telling;
 
 pub use fault::write_import_fault;
-pub use judging::{Form, judge_scenarios};
+pub use judging::{Form, Look, judge_scenarios};
 pub use passing::scenarios_pass;
 pub use scenario::Scenario;

@@ -3,6 +3,7 @@
 ghost use Rattle.std.specs.Prelude.{◌≡◌, ◌+◌, ◌<◌, ◌≤◌, ◌^◌, [], ◌∷◌, ◌++◌, IfOk, OnOk, length};
 ghost use Rattle.std.specs.Prelude.{cond, not};
 ghost use Rattle.std.specs.List.{All, list_any};
+ghost use Rattle.msc_diagram.specs.Counts.{without};
 ghost use Rattle.msc_diagram.specs.Places.{above_with, fresh, same_places, AreAllPlaces};
 ghost use Rattle.msc_diagram.specs.declared.scenario.Scenario.{Scenario};
 
@@ -49,6 +50,19 @@ impl Seen {
         ensures few { length self.now ≤ 2 ^ 31 }
     {
         self.pairs.len() as u32
+    }
+
+    /// How many were seen here and not there. It takes no memory.
+    pub fn count_without(&self, other: &Seen) -> u32
+        ensures { result ≡ length (without self.now other.now) }
+    {
+        let mut count = 0;
+        for places in self.pairs.as_slice() {
+            if !other.pairs.contains(places) {
+                count += 1;
+            }
+        }
+        count
     }
 
     /// Sees the places of a race, and answers whether they are new. An error is a growth of memory

@@ -1,5 +1,5 @@
--- What a text is taken as by what it holds, and names that are held in place.
-use Rattle.std.proofs.Common.{◌≡◌, ◌≤◌, ℕ, min, take, ◌++◌, Bool, true, false, ◌||◌, List, [], ◌∷◌, length, map, nat_lt, Option, Result, Err, refl, sym, ap, ◌∙◌, subst, ⊎_elim, inl, inr, arith, tests}
+-- What a text is taken as by what it holds, its diagram, and names that are held in place.
+use Rattle.std.proofs.Common.{◌≡◌, ◌≤◌, ℕ, min, take, ◌++◌, Bool, true, false, ◌||◌, List, [], ◌∷◌, length, map, nat_lt, Option, Result, Ok, Err, refl, sym, ap, ◌∙◌, subst, ⊎_elim, inl, inr, arith, tests}
 use Rattle.std.specs.List.{list_any}
 use Rattle.std.proofs.Math.Nat.{min-eq_left, min-eq_right, min-le_left}
 use Rattle.std.proofs.Math.Seq.{take-append_seam}
@@ -13,7 +13,8 @@ use Rattle.msc_import.specs.declared.importing.Refused.{Refused}
 use Rattle.msc_mermaid.specs.declared.statement.Diagram.{Diagram}
 use Rattle.msc_mermaid.specs.declared.fault.ImportFault.{ImportFault}
 use Rattle.msc_mermaid.specs.Gives.{Fails}
-use Rattle.msc_import.specs.Importing.{RefusesSo, answered, begins_diagram, short_bytes, told_by_content}
+use Rattle.msc_markdown.specs.Markdowns.{Found, markdown}
+use Rattle.msc_import.specs.Importing.{Imports, Refusal, RefusesSo, answered, begins_at, begins_diagram, entity_of, found_as, short_bytes, told_by_content}
 use Rattle.msc_mermaid.specs.Lines.{lines_of}
 use Rattle.msc_mermaid.specs.White.{trimmed}
 use Rattle.msc_mermaid.specs.Mermaid.{is_head, mermaid}
@@ -28,7 +29,7 @@ module _ {X : Type 0} (view : X → List ℕ) (cross : Option Cross) (text : Lis
   begins_so b is = ap (list_any (λ line. is_head (trimmed line))) (sym of_text) ∙ list_any_map (λ line. is_head (trimmed line)) view lines ∙ is
 
   -- none of its lines begins a diagram
-  pub told_none : list_any (λ line. is_head (trimmed (view line))) lines ≡ false → told_by_content cross text ≡ Err (Expected (length (lines_of text)) AnyDiagram)
+  pub told_none : list_any (λ line. is_head (trimmed (view line))) lines ≡ false → told_by_content cross text ≡ Err (Expected (begins_at text) AnyDiagram)
   unfolding told_by_content
   told_none none =
       let a : nat_lt TEXT_LIMIT (length text) ≡ false = search (arith, tests) in
@@ -53,8 +54,20 @@ filled name n front rest size is =
     (cases_lt NAME_LIMIT (length name)) in
     first ∙ is ∙ same
 
--- a fault of a text is told without a name
-pub untold : {A : Type 0} (f : Diagram → Result A ImportFault) (e : Refused) (fault : ImportFault) (said : Result Diagram ImportFault) → e.fault ≡ fault → short_bytes e.name ≡ [] → Fails fault said → RefusesSo e (answered f said)
+-- a fault of a text is told with the entity that it speaks of
+pub untold : {A : Type 0} (found : Found) (f : Diagram → Result A ImportFault) (e : Refused) (fault : ImportFault) (said : Result Diagram ImportFault) → e.fault ≡ fault → short_bytes e.name ≡ entity_of found fault → Fails fault said → RefusesSo e (answered found f said)
 unfolding answered
-untold f e fault said is none (inl spent) = inl (is ∙ spent)
-untold f e fault said is none (inr same) = inr (rw (same, is, none) refl)
+untold found f e fault said is name (inl spent) = inl (is ∙ spent)
+untold found f e fault said is name (inr same) = inr (rw (same, is, name) refl)
+
+-- what is answered of what a text holds
+module _ {A : Type 0} (g : Found → Result A Refusal) (text : List ℕ) where
+  pub found_so : (r : Result A Refused) (x : Found) → markdown text ≡ Ok x → Imports r (g x) → Imports r (found_as g (markdown text))
+  unfolding found_as
+  found_so r x e h = subst (λ m. Imports r (found_as g m)) (sym e) h
+
+  -- a text that is too long holds nothing
+  pub found_none : (e : Refused) (fault : ImportFault) → e.fault ≡ fault → short_bytes e.name ≡ [] → Fails fault (markdown text) → RefusesSo e (found_as g (markdown text))
+  unfolding found_as
+  found_none e fault is name (inl spent) = inl (is ∙ spent)
+  found_none e fault is name (inr same) = inr (rw (same, is, name) refl)

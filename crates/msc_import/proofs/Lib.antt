@@ -5,3 +5,6 @@ pub mod OrderLemmas
 pub mod TogetherLemmas
 pub mod ImportLemmas
 pub mod WholeLemmas
+pub mod SegmentLemmas
+pub mod CourseSegments
+pub mod ArrowLemmas

@@ -138,7 +138,7 @@ unfolding Fits
 closed_kept par line p None q e h = kept_same p [] (closed_last par line p None) p q refl e (kept_none p p refl h)
 closed_kept par line p (Some f) q e h =
     let x : Plan = record { events = p.events; ends = joined_ends p f; frames = take (length p.frames - 1) p.frames } in
-    subst (Kept p []) (without_fault (is_refused par f) (Shared f.line line) x q e) (kept_none p x refl (joined (length p.events) (is_coregion f) f.start 0 p.ends h))
+    subst (Kept p []) (without_fault (is_refused par f) (Shared f.place line) x q e) (kept_none p x refl (joined (length p.events) (is_coregion f) f.start 0 p.ends h))
 
 module _ (manner : Manner) (line : ℕ) where
   step_kept : (s : Step) (p q : Plan) → planned manner line s p ≡ Ok q → Fits p → Kept p (ends_on manner.own line s) q

@@ -134,15 +134,19 @@ chart_name name = fitted (made name (codes "diagram"))
 abbrev pub tree_of : List ℕ → List Section → Tree
 tree_of name sections = record { name = chart_name name; header = []; sections = sections }
 
+-- the fault of a draft that is too long as a whole: no arrow of it is one too many
+abbrev pub too_long : ImportFault
+too_long = TooManyArrows (record { line = 0; column = 0 })
+
 -- the draft, where it has no more events than a text has bytes
 abbrev pub few_events : List ℕ → List Section → Result Tree ImportFault
 few_events name sections =
-    unless (nat_le (length (statements_of sections)) TEXT_LIMIT) (TooManyArrows 0) (tree_of name sections)
+    unless (nat_le (length (statements_of sections)) TEXT_LIMIT) too_long (tree_of name sections)
 
 -- A draft whose text is no longer than a text may be. The limits of arrows, lines and names leave none that
 -- is longer; it is looked at all the same, so that what is drawn is read again.
 abbrev pub short_enough : Tree → Result Tree ImportFault
-short_enough d = unless (nat_le (length (canonical d)) TEXT_LIMIT) (TooManyArrows 0) d
+short_enough d = unless (nat_le (length (canonical d)) TEXT_LIMIT) too_long d
 
 -- the draft of these lines
 abbrev pub drawn_as : List ℕ → List Section → Result Tree ImportFault

@@ -1,10 +1,10 @@
 -- Imports: the draft of one scenario of a text, with the places of its events, or why there is none.
-use Rattle.std.specs.Prelude.{◌≡◌, ◌⊎◌, ℕ, Bool, cond, ◌==◌, nat_lt, List, [], ◌∷◌, length, take, Option, None, Some, Result, Ok, Err, option_map}
+use Rattle.std.specs.Prelude.{◌≡◌, ◌⊎◌, ℕ, Bool, true, false, cond, ◌==◌, nat_lt, List, [], ◌∷◌, length, take, Option, None, Some, Result, Ok, Err, option_map}
 use Rattle.std.specs.List.{list_any}
 use Rattle.msc_lexer.specs.declared.TheConstants.{NAME_LIMIT, TEXT_LIMIT}
 use Rattle.msc_mermaid.specs.declared.fault.Expectation.TheVariants as expectations
 use Rattle.msc_mermaid.specs.declared.fault.ImportFault.{ImportFault}
-use Rattle.msc_mermaid.specs.declared.fault.ImportFault.TheVariants.{TooLong, Expected, Memory, Several, Shared}
+use Rattle.msc_mermaid.specs.declared.fault.ImportFault.TheVariants.{TooLong, Entity, Expected, Memory, Several, SeveralDiagrams, Shared}
 use Rattle.msc_import.specs.declared.importing.Imported.{Imported}
 use Rattle.msc_import.specs.declared.importing.Importing.{Importing}
 use Rattle.msc_import.specs.declared.importing.Language.{Language}
@@ -16,11 +16,12 @@ use Rattle.msc_mermaid.specs.declared.statement.Cross.{Cross}
 use Rattle.msc_mermaid.specs.declared.statement.Diagram.{Diagram}
 use Rattle.msc_scenarios.specs.Counting.{scenarios}
 use Rattle.msc_import.specs.Drafting.{drawn, line_name}
-use Rattle.msc_mermaid.specs.Fences.{fenced}
+use Rattle.msc_markdown.specs.Markdowns.{Found, diagram_of_block, entity_on, markdown}
 use Rattle.msc_mermaid.specs.Gives.{◌>>=◌}
 use Rattle.msc_mermaid.specs.Lines.{lines_of}
 use Rattle.msc_mermaid.specs.White.{trimmed}
-use Rattle.msc_mermaid.specs.Mermaid.{is_head, mermaid}
+use Rattle.msc_mermaid.specs.Mermaid.{end_of, first_line_place, is_head, mermaid}
+use Rattle.msc_place.specs.declared.position.Position.{Position}
 use Rattle.msc_scenarios.specs.Naming.{names_behind}
 use Rattle.msc_import.specs.Places.{places}
 
@@ -28,20 +29,40 @@ use Rattle.msc_import.specs.Places.{places}
 abbrev pub begins_diagram : List ℕ → Bool
 begins_diagram text = list_any (λ line. is_head (trimmed line)) (lines_of text)
 
+-- where the first byte of a text stands that is no white space, and else its end
+abbrev pub begins_at : List ℕ → Position
+begins_at text = first_line_place 1 (lines_of text) (end_of (lines_of text))
+
 -- the diagram of a text that is to be told by what it holds
 unfoldable pub told_by_content : Option Cross → List ℕ → Result Diagram ImportFault
 told_by_content cross text =
-    cond (nat_lt TEXT_LIMIT (length text)) (Err TooLong) (cond (begins_diagram text) (mermaid cross text) (Err (Expected (length (lines_of text)) expectations.AnyDiagram)))
+    cond (nat_lt TEXT_LIMIT (length text)) (Err TooLong) (cond (begins_diagram text) (mermaid cross text) (Err (Expected (begins_at text) expectations.AnyDiagram)))
 
 -- the diagram of a text in its language
 unfoldable pub diagram_by : Language → Option Cross → List ℕ → Result Diagram ImportFault
 diagram_by languages.Mermaid cross text = mermaid cross text
 diagram_by languages.Any cross text = told_by_content cross text
 
--- the same, where the text may be one of Markdown, of which the diagram of a number is wanted
+-- the text itself tells its language
+abbrev pub is_any : Language → Bool
+is_any languages.Mermaid = false
+is_any languages.Any = true
+
+-- the diagram of a text that is none as a whole, and has sequence diagrams of these numbers: the only one
+abbrev pub only_diagram : Language → Option Cross → Found → List ℕ → Result Diagram ImportFault
+only_diagram language cross f [] = diagram_by language cross f.text
+only_diagram language cross f (n ∷ []) = diagram_of_block (is_any language) cross n f
+only_diagram language cross f (n ∷ m ∷ ns) = Err (SeveralDiagrams (length (n ∷ m ∷ ns)))
+
+-- the diagram of a text that holds this: that of the block of a number, if one is given
+unfoldable pub diagram_from : Language → Option Cross → Option ℕ → Found → Result Diagram ImportFault
+diagram_from language cross None f =
+    cond f.whole (diagram_by language cross f.text) (only_diagram language cross f f.numbers)
+diagram_from language cross (Some number) f = diagram_of_block (is_any language) cross number f
+
+-- the diagram of a text
 unfoldable pub diagram_in : Language → Option Cross → Option ℕ → List ℕ → Result Diagram ImportFault
-diagram_in language cross None text = diagram_by language cross text
-diagram_in language cross (Some number) text = fenced number text >>= diagram_by language cross
+diagram_in language cross fence text = markdown text >>= diagram_from language cross fence
 
 -- the numbers of rounds that loops go, where scenarios are counted
 abbrev pub usual_rounds : List ℕ
@@ -112,14 +133,29 @@ abbrev pub told_of : {A : Type 0} → List (List ℕ) → Result A ImportFault �
 told_of lines (Ok x) = Ok x
 told_of lines (Err fault) = Err (with_name lines fault)
 
--- what is answered of a text by its diagram, if it has one
-unfoldable pub answered : {A : Type 0} → (Diagram → Result A ImportFault) → Result Diagram ImportFault → Result A Refusal
-answered f (Ok d) = told_of d.lines (f d)
-answered f (Err fault) = Err (record { fault = fault; name = [] })
+-- the entity of HTML that a fault of a text speaks of
+abbrev pub entity_of : Found → ImportFault → List ℕ
+entity_of f (Entity here) = take NAME_LIMIT (entity_on here.line f)
+entity_of f fault = []
+
+-- what is answered of a text that holds this by its diagram, if it has one
+unfoldable pub answered : {A : Type 0} → Found → (Diagram → Result A ImportFault) → Result Diagram ImportFault → Result A Refusal
+answered found f (Ok d) = told_of d.lines (f d)
+answered found f (Err fault) = Err (record { fault = fault; name = entity_of found fault })
+
+-- what is answered of a text by what it holds, if it is not too long
+unfoldable pub found_as : {A : Type 0} → (Found → Result A Refusal) → Result Found ImportFault → Result A Refusal
+found_as f (Ok found) = f found
+found_as f (Err fault) = Err (record { fault = fault; name = [] })
+
+-- what is imported of a text that holds this
+abbrev pub imported_from : Wanted → Found → Result Imported Refusal
+imported_from x f =
+    answered f (scenario_of x) (diagram_from x.language x.cross x.fence f)
 
 -- what is imported of a text
 abbrev pub imported : Wanted → List ℕ → Result Imported Refusal
-imported x text = answered (scenario_of x) (diagram_in x.language x.cross x.fence text)
+imported x text = found_as (imported_from x) (markdown text)
 
 -- what the code refuses is what the definition says, unless memory ran out
 abbrev pub RefusesSo : {A : Type 0} → Refused → Result A Refusal → Type 0

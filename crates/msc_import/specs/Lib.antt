@@ -5,3 +5,5 @@ pub mod Places
 pub mod Importing
 pub mod Whole
 pub mod Laws
+pub mod Segments
+pub mod ArrowEnds

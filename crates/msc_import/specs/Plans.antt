@@ -6,6 +6,7 @@ use Rattle.msc_scenarios.specs.declared.course.Step.{Step}
 use Rattle.msc_scenarios.specs.declared.course.Step.TheVariants as steps
 use Rattle.msc_mermaid.specs.declared.fault.ImportFault.{ImportFault}
 use Rattle.msc_mermaid.specs.declared.fault.ImportFault.TheVariants.{Shared}
+use Rattle.msc_place.specs.declared.position.Position.{Position}
 use Rattle.msc_import.specs.declared.plan.Frame.{Frame}
 use Rattle.msc_import.specs.declared.plan.Own.{Own}
 use Rattle.msc_import.specs.declared.plan.Own.TheVariants as owns
@@ -100,18 +101,18 @@ unfoldable pub met : Own → ℕ → Message → Plan → Plan
 met own line m p =
     cond (is_exchange m) (exchanged line m p) (with_sides m (single_sides own line m) p)
 
--- a par begins on this line of the text
-abbrev pub opened : ℕ → Plan → Plan
-opened line p = record {
+-- a par begins at this place of the text
+abbrev pub opened : Position → Plan → Plan
+opened place p = record {
   events = p.events;
   ends = p.ends;
-  frames = p.frames ++ record { line = line; start = length p.ends; mark = length p.ends; busy = false; several = false; wide = false } ∷ [];
+  frames = p.frames ++ record { place = place; start = length p.ends; mark = length p.ends; busy = false; several = false; wide = false } ∷ [];
 }
 
 -- the innermost par, behind one branch more, when there are so many segments
 abbrev pub marked : ℕ → Frame → Frame
 marked n f = record {
-  line = f.line;
+  place = f.place;
   start = f.start;
   mark = n;
   busy = f.busy || nat_lt f.mark n;
@@ -145,7 +146,7 @@ is_refused pars.Drawn f = false
 abbrev pub closed_last : Par → ℕ → Plan → Option Frame → Result Plan ImportFault
 closed_last par line p None = Ok p
 closed_last par line p (Some f) =
-    cond (is_refused par f) (Err (Shared f.line line)) (Ok (record { events = p.events; ends = joined_ends p f; frames = take (length p.frames - 1) p.frames }))
+    cond (is_refused par f) (Err (Shared f.place line)) (Ok (record { events = p.events; ends = joined_ends p f; frames = take (length p.frames - 1) p.frames }))
 
 -- the innermost par
 abbrev pub last_frame : Plan → Option Frame

@@ -10,11 +10,12 @@ use Rattle.msc_mermaid.specs.declared.statement.Diagram.{Diagram}
 use Rattle.msc_import.specs.declared.whole.ImportingAll.{ImportingAll}
 use Rattle.msc_import.specs.declared.whole.Scenario.{Scenario}
 use Rattle.msc_import.specs.declared.whole.Scenarios.{Scenarios}
+use Rattle.msc_markdown.specs.Markdowns.{Found, markdown}
 use Rattle.msc_scenarios.specs.Choosing.{all_choices}
 use Rattle.msc_scenarios.specs.Counting.{scenarios}
 use Rattle.msc_import.specs.Drafting.{chart_name}
 use Rattle.msc_mermaid.specs.Gives.{◌>>=◌}
-use Rattle.msc_import.specs.Importing.{Refusal, answered, diagram_in, drawn_at}
+use Rattle.msc_import.specs.Importing.{Refusal, answered, diagram_from, drawn_at, found_as}
 
 -- what is wanted of a text: in which language it is, of Markdown which diagram, what arrows with a cross
 -- are, how scenarios are drawn, the numbers of rounds that each loop goes, the most scenarios that there may
@@ -67,6 +68,11 @@ all_of x d = do
   found ← all_scenarios x d
   Ok (record { name = chart_name x.name; list = found })
 
+-- what is imported of a text that holds this, where all its scenarios are
+abbrev pub imported_all_from : WantedAll → Found → Result Scenarios Refusal
+imported_all_from x f =
+    answered f (all_of x) (diagram_from x.language x.cross x.fence f)
+
 -- what is imported of a text, where all its scenarios are
 abbrev pub imported_all : WantedAll → List ℕ → Result Scenarios Refusal
-imported_all x text = answered (all_of x) (diagram_in x.language x.cross x.fence text)
+imported_all x text = found_as (imported_all_from x) (markdown text)

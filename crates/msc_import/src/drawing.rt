@@ -4,7 +4,8 @@ ghost use Rattle.std.specs.Prelude.{◌≡◌, ◌+◌, ◌<◌, [], length, IfO
 ghost use Rattle.std.specs.List.{AllByRecursion, flat_map};
 ghost use Rattle.msc_parser.specs.Drafts.{IsSectionNamed, statements_in, statements_of};
 ghost use Rattle.msc_import.specs.Drafting.{chart_name, drawn, drawn_as, drawn_walk, few_events};
-ghost use Rattle.msc_import.specs.Drafting.{line_name, section_of, sections_on, short_enough, IsReadAgain};
+ghost use Rattle.msc_import.specs.Drafting.{line_name, section_of, sections_on, short_enough, too_long};
+ghost use Rattle.msc_import.specs.Drafting.{IsReadAgain};
 ghost use Rattle.msc_mermaid.specs.Gives.{Gives};
 ghost use Rattle.msc_mermaid.specs.Reading.{Leaves};
 
@@ -14,8 +15,16 @@ use listed::Listed;
 use msc_lexer::TEXT_LIMIT;
 use msc_mermaid::{Diagram, ImportFault, Placed};
 use msc_parser::{Draft, Item, Name, Section};
+use msc_place::Position;
 use msc_scenarios::{Walker, made, names_of};
 use std::alloc::{AllocError, Global};
+
+/// The fault of a draft that is too long as a whole: no arrow of it is one too many.
+fn too_long() -> ImportFault
+    ensures { result ≡ too_long }
+{
+    ImportFault::TooManyArrows(Position { line: 0, column: 0 })
+}
 
 /// How many events an item has.
 fn events_in(item: &Item) -> usize
@@ -108,7 +117,7 @@ fn sections_of(
 }
 
 /// The name of a chart, which is made of `name`.
-pub(crate) fn chart_name(alloc: Global, name: &[u8]) -> Result<Name, AllocError>
+pub fn chart_name(alloc: Global, name: &[u8]) -> Result<Name, AllocError>
     ensures { IfOk result (λ n. n ≡ chart_name name.now) }
 {
     let plain = made(alloc, name, "diagram".as_bytes())?;
@@ -121,7 +130,7 @@ fn few_events(alloc: Global, name: &[u8], sections: Vec<Section>) -> Result<Draf
     ensures { Gives (λ d. d) result (few_events name.now sections.items) }
 {
     if !is_few(sections.as_slice()) {
-        return Err(ImportFault::TooManyArrows(0));
+        return Err(too_long());
     }
     let name = chart_name(alloc, name)?;
     let header = Listed::from_vec(Vec::new(alloc));
@@ -135,7 +144,7 @@ fn short_enough(alloc: Global, draft: &Draft) -> Result<(), ImportFault>
 {
     let text = draft.write(alloc)?;
     if text.len() > TEXT_LIMIT {
-        return Err(ImportFault::TooManyArrows(0));
+        return Err(too_long());
     }
     Ok(())
 }

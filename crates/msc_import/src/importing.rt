@@ -4,8 +4,10 @@ ghost use Rattle.std.specs.Prelude.{◌≡◌, ◌⊎◌, [], IfOk, option_map};
 ghost use Rattle.std.specs.List.{list_any};
 ghost use Rattle.msc_import.specs.Drafting.{IsReadAgain};
 ghost use Rattle.msc_mermaid.specs.Gives.{Gives};
-ghost use Rattle.msc_import.specs.Importing.{Imports, chosen, diagram_by, diagram_in, drawn_at};
-ghost use Rattle.msc_import.specs.Importing.{imported, scenario_of, seen, short_bytes};
+ghost use Rattle.msc_import.specs.Importing.{Imports, chosen, diagram_by, diagram_from, drawn_at};
+ghost use Rattle.msc_import.specs.Importing.{entity_of};
+ghost use Rattle.msc_import.specs.Importing.{imported, imported_from, is_any, scenario_of, seen};
+ghost use Rattle.msc_import.specs.Importing.{short_bytes};
 ghost use Rattle.msc_import.specs.Importing.{told_by_content, wanted, with_name};
 ghost use Rattle.msc_mermaid.specs.White.{trimmed};
 ghost use Rattle.msc_mermaid.specs.Mermaid.{is_head};
@@ -19,8 +21,9 @@ use crate::plan::Manner;
 use crate::short_name::ShortName;
 use listed::Listed;
 use msc_lexer::TEXT_LIMIT;
+use msc_markdown::Markdown;
 use msc_mermaid::{
-    Cross, Diagram, Expectation, ImportFault, diagram_of, fenced, is_head, lines_of, trimmed,
+    Cross, Diagram, Expectation, ImportFault, beginning_of, diagram_of, is_head, lines_of, trimmed,
 };
 use msc_parser::Draft;
 use msc_place::Position;
@@ -40,7 +43,8 @@ pub enum Language {
 #[derive(Clone, Copy)]
 pub struct Importing<'a> {
     pub language: Language,
-    /// The number of the diagram that is wanted, from 1, where the text is Markdown.
+    /// The number of the block of Markdown that is wanted, from 1; where none is given, the text has
+    /// to be a diagram as a whole, or to have one block that is a sequence diagram.
     pub fence: Option<usize>,
     /// What arrows with a cross are; where it isn't said, one that may be either is a fault.
     pub cross: Option<Cross>,
@@ -59,8 +63,8 @@ pub struct Imported {
     pub places: Listed<Position>,
 }
 
-/// Why nothing was imported: the first fault, and the name of the line of the diagram that it speaks
-/// of, if it does.
+/// Why nothing was imported: the first fault, and the name of the line of the diagram or the entity
+/// of HTML that it speaks of, if it does.
 #[derive(Clone, Copy)]
 pub struct Refused {
     pub fault: ImportFault,
@@ -82,9 +86,11 @@ fn told_by_content(alloc: Global, cross: Option<Cross>, text: &[u8]) -> Result<D
     if text.len() > TEXT_LIMIT {
         return Err(ImportFault::TooLong);
     }
-    let lines = lines_of(alloc, text)?;
-    if !begins_diagram(lines.as_slice()) {
-        return Err(ImportFault::Expected(lines.len(), Expectation::AnyDiagram));
+    let found = lines_of(alloc, text)?;
+    let lines = found.as_slice();
+    if !begins_diagram(lines) {
+        let place = beginning_of(lines);
+        return Err(ImportFault::Expected(place, Expectation::AnyDiagram));
     }
     diagram_of(alloc, cross, text)
 }
@@ -105,23 +111,35 @@ fn diagram_by(
     }
 }
 
-/// The diagram of a text, or that of this number where the text is Markdown.
-#[tactic(auto, unfolding(crate::specs::Importing::diagram_in))]
-pub(crate) fn diagram_in(
+/// Whether the text itself tells its language.
+fn is_any(language: Language) -> bool
+    ensures { result ≡ is_any language }
+{
+    language == Language::Any
+}
+
+/// The diagram of a text: the text as a whole, or its only block that is a sequence diagram, or the
+/// block of this number.
+#[tactic(auto, unfolding(crate::specs::Importing::diagram_from))]
+pub(crate) fn diagram_from(
     alloc: Global,
     language: Language,
     cross: Option<Cross>,
     fence: Option<usize>,
-    text: &[u8],
+    found: &Markdown<'_>,
 ) -> Result<Diagram, ImportFault>
-    ensures { Gives (λ x. x) result (diagram_in language cross fence text.now) }
+    ensures { Gives (λ x. x) result (diagram_from language cross fence found.now) }
 {
-    match fence {
-        None => diagram_by(alloc, language, cross, text),
-        Some(number) => {
-            let part = fenced(alloc, text, number)?;
-            diagram_by(alloc, language, cross, part.as_slice())
-        }
+    if let Some(number) = fence {
+        return found.diagram(alloc, is_any(language), cross, number);
+    }
+    if found.is_diagram() {
+        return diagram_by(alloc, language, cross, found.text());
+    }
+    match found.numbers() {
+        [] => diagram_by(alloc, language, cross, found.text()),
+        [number] => found.diagram(alloc, is_any(language), cross, *number),
+        numbers => Err(ImportFault::SeveralDiagrams(numbers.len())),
     }
 }
 
@@ -207,12 +225,31 @@ pub(crate) fn unnamed(fault: ImportFault) -> Refused
     }
 }
 
-/// What is imported of a text: the draft of the scenario that is asked for, with the places of its
-/// events. An error is the first fault of the text; where no choices are given, that the diagram has
-/// several scenarios; the first fault of the scenario; or a growth of memory that was refused.
+/// A fault of a text, with the entity of HTML that it speaks of.
+pub(crate) fn unread(found: &Markdown<'_>, fault: ImportFault) -> Refused
+    ensures fault { result.fault ≡ fault }
+    ensures name { short_bytes result.name ≡ entity_of found.now fault }
+{
+    let ImportFault::Entity(here) = fault else {
+        return unnamed(fault);
+    };
+    Refused {
+        fault,
+        name: ShortName::of(found.entity(here.line)),
+    }
+}
+
+/// What is imported of a text of which it is known what it holds: the draft of the scenario that is
+/// asked for, with the places of its events. An error is the first fault of the diagram, or that the
+/// text has several, or not the one that is asked for; where no choices are given, that the diagram
+/// has several scenarios; the first fault of the scenario; or a growth of memory that was refused.
 #[tactic(auto, unfolding(crate::specs::Importing::answered))]
-pub fn import(alloc: Global, importing: Importing<'_>, text: &[u8]) -> Result<Imported, Refused>
-    ensures given { Imports result (imported (wanted importing.entry) text.now) }
+pub fn import_from(
+    alloc: Global,
+    importing: Importing<'_>,
+    found: &Markdown<'_>,
+) -> Result<Imported, Refused>
+    ensures given { Imports result (imported_from (wanted importing.entry) found.now) }
 
     // The text of the draft is read again, as this draft.
     ensures again { IfOk result (λ x. IsReadAgain x.draft) }
@@ -223,12 +260,28 @@ pub fn import(alloc: Global, importing: Importing<'_>, text: &[u8]) -> Result<Im
         fence,
         ..
     } = importing;
-    let diagram = match diagram_in(alloc, language, cross, fence, text) {
+    let diagram = match diagram_from(alloc, language, cross, fence, found) {
         Ok(diagram) => diagram,
-        Err(fault) => return Err(unnamed(fault)),
+        Err(fault) => return Err(unread(found, fault)),
     };
     match scenario_of(alloc, importing, &diagram) {
         Ok(imported) => Ok(imported),
         Err(fault) => Err(with_name(alloc, &diagram, fault)),
     }
+}
+
+/// What is imported of a text, as [`import_from`] has it. An error is also that the text is too
+/// long, before all others.
+#[tactic(auto, unfolding(crate::specs::Importing::found_as))]
+pub fn import(alloc: Global, importing: Importing<'_>, text: &[u8]) -> Result<Imported, Refused>
+    ensures given { Imports result (imported (wanted importing.entry) text.now) }
+
+    // The text of the draft is read again, as this draft.
+    ensures again { IfOk result (λ x. IsReadAgain x.draft) }
+{
+    let found = match Markdown::of(alloc, text) {
+        Ok(found) => found,
+        Err(fault) => return Err(unnamed(fault)),
+    };
+    import_from(alloc, importing, &found)
 }

@@ -1,7 +1,7 @@
 //! Imports: from a sequence diagram of another language (Mermaid, also in Markdown) to the drafts
 //! of charts.
 //!
-//! A text makes a diagram (`msc_mermaid`), a diagram has courses (`msc_scenarios`), and a course is
+//! A text holds diagrams (`msc_markdown`), each of which is read (`msc_mermaid`); a diagram has courses (`msc_scenarios`), and a course is
 //! drawn as a draft ([`import`]). Lines and columns of a text are numbered from 1, arrows from 1,
 //! choices and instances from 0.
 #![tactic(auto)]
@@ -15,12 +15,12 @@ mod plan;
 mod short_name;
 mod whole;
 
-pub use drawing::draw;
-pub use importing::{Imported, Importing, Language, Refused, import};
+pub use drawing::{chart_name, draw};
+pub use importing::{Imported, Importing, Language, Refused, import, import_from};
 pub use placing::places;
 pub use plan::{Manner, Own, Par};
 pub use short_name::ShortName;
-pub use whole::{ImportingAll, Scenario, Scenarios, import_all};
+pub use whole::{ImportingAll, Scenario, Scenarios, import_all, import_all_from};
 
 /// The numbers of rounds that loops go, where scenarios are counted: of other numbers there are no
 /// other races, by place.

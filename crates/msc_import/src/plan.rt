@@ -10,6 +10,7 @@ ghost use Rattle.msc_mermaid.specs.Gives.{Gives};
 ghost use Rattle.msc_mermaid.specs.Reading.{Leaves};
 
 use msc_mermaid::ImportFault;
+use msc_place::Position;
 use msc_scenarios::{Message, Step};
 use std::alloc::{AllocError, Global};
 use std::marker::Model;
@@ -68,7 +69,7 @@ pub(crate) struct Planned<'s> {
 /// branch; whether a branch has segments, whether several have, and whether one has several.
 #[derive(Clone, Copy)]
 pub(crate) struct Frame {
-    pub line: usize,
+    pub place: Position,
     pub start: usize,
     pub mark: usize,
     pub busy: bool,
@@ -154,7 +155,7 @@ fn marked(segments: usize, frame: Frame) -> Frame
     ensures { result ≡ marked segments frame }
 {
     Frame {
-        line: frame.line,
+        place: frame.place,
         start: frame.start,
         mark: segments,
         busy: frame.busy || frame.mark < segments,
@@ -247,13 +248,13 @@ impl<'s> Plan<'s> {
         Ok(())
     }
 
-    /// Begins a par, on this line of the text.
-    fn open(&mut self, line: usize) -> Result<(), AllocError>
-        ensures { OnOk result (self.new ≡ opened line self.old) }
+    /// Begins a par, at this place of the text.
+    fn open(&mut self, place: Position) -> Result<(), AllocError>
+        ensures { OnOk result (self.new ≡ opened place self.old) }
     {
         let segments = self.ends.len();
         self.frames.push(Frame {
-            line,
+            place,
             start: segments,
             mark: segments,
             busy: false,
@@ -282,7 +283,7 @@ impl<'s> Plan<'s> {
             return Ok(());
         };
         if par.is_refused(frame) {
-            return Err(ImportFault::Shared(frame.line, line));
+            return Err(ImportFault::Shared(frame.place, line));
         }
         if is_coregion(frame) {
             self.ends.truncate(frame.start);

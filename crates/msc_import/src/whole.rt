@@ -5,13 +5,14 @@ ghost use Rattle.std.specs.List.{All};
 ghost use Rattle.msc_import.specs.Drafting.{IsReadAgain};
 ghost use Rattle.msc_mermaid.specs.Gives.{Gives};
 ghost use Rattle.msc_import.specs.Importing.{Imports};
-ghost use Rattle.msc_import.specs.Whole.{all_of, all_scenarios, imported_all, scenario_with};
-ghost use Rattle.msc_import.specs.Whole.{scenarios_on, wanted_all};
+ghost use Rattle.msc_import.specs.Whole.{all_of, all_scenarios, imported_all, imported_all_from};
+ghost use Rattle.msc_import.specs.Whole.{scenario_with, scenarios_on, wanted_all};
 
 use crate::drawing::chart_name;
-use crate::importing::{Language, Refused, diagram_in, drawn_at, unnamed, with_name};
+use crate::importing::{Language, Refused, diagram_from, drawn_at, unnamed, unread, with_name};
 use crate::plan::Manner;
 use listed::Listed;
+use msc_markdown::Markdown;
 use msc_mermaid::{Cross, Diagram, ImportFault};
 use msc_parser::{Draft, Name};
 use msc_place::Position;
@@ -22,7 +23,7 @@ use std::alloc::Global;
 #[derive(Clone, Copy)]
 pub struct ImportingAll<'a> {
     pub language: Language,
-    /// The number of the diagram that is wanted, from 1, where the text is Markdown.
+    /// The number of the block of Markdown that is wanted, as [`Importing`](crate::Importing) has it.
     pub fence: Option<usize>,
     /// What arrows with a cross are; where it isn't said, one that may be either is a fault.
     pub cross: Option<Cross>,
@@ -135,16 +136,17 @@ fn all_of(
     })
 }
 
-/// What is imported of a text: all its scenarios, each once, in the order of their choices. An
-/// error is the first fault of the text; that the diagram has more scenarios than it may; the first
-/// fault of the first scenario that has one; or a growth of memory that was refused.
+/// What is imported of a text of which it is known what it holds: all its scenarios, each once, in
+/// the order of their choices. An error is the first fault of the diagram, or that the text has
+/// several, or not the one that is asked for; that the diagram has more scenarios than it may; the
+/// first fault of the first scenario that has one; or a growth of memory that was refused.
 #[tactic(auto, unfolding(crate::specs::Importing::answered))]
-pub fn import_all(
+pub fn import_all_from(
     alloc: Global,
     importing: ImportingAll<'_>,
-    text: &[u8],
+    found: &Markdown<'_>,
 ) -> Result<Scenarios, Refused>
-    ensures given { Imports result (imported_all (wanted_all importing.entry) text.now) }
+    ensures given { Imports result (imported_all_from (wanted_all importing.entry) found.now) }
 
     // The text of each draft is read again, as this draft.
     ensures again { IfOk result (λ x. All (λ s. IsReadAgain s.draft) x.list) }
@@ -155,12 +157,32 @@ pub fn import_all(
         fence,
         ..
     } = importing;
-    let diagram = match diagram_in(alloc, language, cross, fence, text) {
+    let diagram = match diagram_from(alloc, language, cross, fence, found) {
         Ok(diagram) => diagram,
-        Err(fault) => return Err(unnamed(fault)),
+        Err(fault) => return Err(unread(found, fault)),
     };
     match all_of(alloc, importing, &diagram) {
-        Ok(found) => Ok(found),
+        Ok(scenarios) => Ok(scenarios),
         Err(fault) => Err(with_name(alloc, &diagram, fault)),
     }
+}
+
+/// What is imported of a text, as [`import_all_from`] has it. An error is also that the text is too
+/// long, before all others.
+#[tactic(auto, unfolding(crate::specs::Importing::found_as))]
+pub fn import_all(
+    alloc: Global,
+    importing: ImportingAll<'_>,
+    text: &[u8],
+) -> Result<Scenarios, Refused>
+    ensures given { Imports result (imported_all (wanted_all importing.entry) text.now) }
+
+    // The text of each draft is read again, as this draft.
+    ensures again { IfOk result (λ x. All (λ s. IsReadAgain s.draft) x.list) }
+{
+    let found = match Markdown::of(alloc, text) {
+        Ok(found) => found,
+        Err(fault) => return Err(unnamed(fault)),
+    };
+    import_all_from(alloc, importing, &found)
 }

@@ -14,11 +14,10 @@ use Rattle.msc_mermaid.specs.declared.TheConstants.{DEPTH_LIMIT}
 use Rattle.msc_scenarios.specs.declared.course.Message.{Message}
 use Rattle.msc_scenarios.specs.declared.course.Step.TheVariants as steps
 use Rattle.msc_mermaid.specs.declared.fault.ImportFault.{ImportFault}
-use Rattle.msc_mermaid.specs.declared.fault.ImportFault.TheVariants.{TooManyArrows}
 use Rattle.msc_import.specs.declared.plan.Manner.{Manner}
 use Rattle.msc_mermaid.specs.declared.statement.Diagram.{Diagram}
 use Rattle.msc_scenarios.specs.Courses.{Walk, line_at, walk, at_rest, unended}
-use Rattle.msc_import.specs.Drafting.{drawn, drawn_walk, fitted, few_events, sections_on, short_enough, tree_of}
+use Rattle.msc_import.specs.Drafting.{drawn, drawn_walk, fitted, few_events, sections_on, short_enough, too_long, tree_of}
 use Rattle.msc_mermaid.specs.Gives.{◌>>=◌, unless}
 use Rattle.msc_scenarios.specs.Laws.{walked}
 use Rattle.msc_scenarios.specs.Naming.{names_behind, number_name}
@@ -32,7 +31,7 @@ use Rattle.msc_import_laws.specs.Outlined.{IsOutlined}
 use Rattle.msc_import_laws.proofs.Growth.{Grows}
 use Rattle.msc_import_laws.proofs.Names.{names_apart}
 use Rattle.msc_import_laws.proofs.Numbers.{fitted_number}
-use Rattle.msc_import_laws.proofs.Told.{end_of_arrow, is_drawn_down}
+use Rattle.msc_import_laws.proofs.Told.{DrawnEnd, drawn_end, end_of_arrow, is_drawn_down}
 use Rattle.msc_import_laws.proofs.MetArrows.{IsMet, Meets}
 use Rattle.msc_import_laws.proofs.Walks.{walks_meet}
 
@@ -46,7 +45,7 @@ unless_is true e x y h = let same : x ≡ y = cc in (refl, same)
 unless_is false e x y h = cc
 
 -- a line that is there has a place
-line_there : (lines : List (List ℕ)) (x : List ℕ) → Occurs lines x → line_at lines x < length lines
+pub line_there : (lines : List (List ℕ)) (x : List ℕ) → Occurs lines x → line_at lines x < length lines
 line_there [] x (j, h) = cc
 line_there (l ∷ lines) x o =
     by_test (bytes_eq l x)
@@ -73,13 +72,16 @@ module _ (d : Diagram) (out : IsOutlined d) (given : List ℕ) where
   steps_new : (walked d given).steps ≡ grown.new
   steps_new = grown.steps
 
+  pub walked_lines : (walked d given).lines ≡ d.lines
+  walked_lines = grown.lines
+
   -- what is drawn of a number is the number
   drawn_number : (m : Message) → IsMet d.lines (DEPTH_LIMIT + 1) d.statements [] m → fitted m.number ≡ m.number
   drawn_number m h =
       let is : m.number ≡ number_name h.placed.number h.more = ap (λ (x : Message). x.number) h.is in
       ap fitted is ∙ fitted_number h.placed.number h.more h.low h.short (let few = h.few in omega (arith, few)) ∙ sym is
 
-  met : (i : ℕ) (m : Message) → StandsAt (walked d given).steps i (steps.Meets m) → IsMet d.lines (DEPTH_LIMIT + 1) d.statements [] m
+  pub met : (i : ℕ) (m : Message) → StandsAt (walked d given).steps i (steps.Meets m) → IsMet d.lines (DEPTH_LIMIT + 1) d.statements [] m
   met i m h = grown.made.each i m (subst (λ ss. StandsAt ss i (steps.Meets m)) steps_new h)
 
   few : sum_by messages_in (walked d given).steps ≤ 1024
@@ -115,8 +117,8 @@ module _ (d : Diagram) (out : IsOutlined d) (given : List ℕ) where
         let b = bound (unended w w.ending) _ draft a.2 in
         let sections : List Section = sections_on w.lines (names_behind [] w.lines) d.statements 0 a.0 [] in
         let c = bound (few_events name sections) short_enough draft b.2 in
-        let first = (unless_is (nat_le (length (statements_of sections)) TEXT_LIMIT) (TooManyArrows 0) (tree_of name sections) c.0 c.1).1 in
-        let second = (unless_is (nat_le (length (canonical c.0)) TEXT_LIMIT) (TooManyArrows 0) c.0 draft c.2).1 in
+        let first = (unless_is (nat_le (length (statements_of sections)) TEXT_LIMIT) too_long (tree_of name sections) c.0 c.1).1 in
+        let second = (unless_is (nat_le (length (canonical c.0)) TEXT_LIMIT) too_long c.0 draft c.2).1 in
         (a.0, a.1, first ∙ second)
 
     pub draft_drawn : drawn manner name d given ≡ Ok draft → IsDrawnDown (heights_in manner d given) draft
@@ -136,3 +138,13 @@ module _ (d : Diagram) (out : IsOutlined d) (given : List ℕ) where
         let planned : plans_of manner (walked d given).steps (length d.lines) ≡ Ok p.0 = subst (λ (l : List (List ℕ)). plans_of manner (walked d given).steps (length l) ≡ Ok p.0) same p.1 in
         let is : tree_of name (sections_on d.lines (names_behind [] d.lines) d.statements 0 p.0 []) ≡ draft = subst (λ (l : List (List ℕ)). tree_of name (sections_on l (names_behind [] l) d.statements 0 p.0 []) ≡ draft) same p.2 in
         end_of_arrow manner name d.lines (names_behind [] d.lines) d.statements (walked d given).steps p.0 planned apart e v (subst (λ (t : Tree). StandsAt (events_of t) e v) (sym is) h)
+
+    -- with the end itself
+    pub draft_ends : drawn manner name d given ≡ Ok draft → (e : ℕ) (v : DraftEvent) → StandsAt (events_of draft) e v
+        → DrawnEnd manner.own (names_behind [] d.lines) (length d.lines) (walked d given).steps e v
+    draft_ends made e v h =
+        let p = draft_is made in
+        let same : (walked d given).lines ≡ d.lines = grown.lines in
+        let planned : plans_of manner (walked d given).steps (length d.lines) ≡ Ok p.0 = subst (λ (l : List (List ℕ)). plans_of manner (walked d given).steps (length l) ≡ Ok p.0) same p.1 in
+        let is : tree_of name (sections_on d.lines (names_behind [] d.lines) d.statements 0 p.0 []) ≡ draft = subst (λ (l : List (List ℕ)). tree_of name (sections_on l (names_behind [] l) d.statements 0 p.0 []) ≡ draft) same p.2 in
+        drawn_end manner name d.lines (names_behind [] d.lines) d.statements (walked d given).steps p.0 planned apart e v (subst (λ (t : Tree). StandsAt (events_of t) e v) (sym is) h)

@@ -1,5 +1,5 @@
 -- What is imported of a text is a scenario of it; so it is a chart, the text is a run, and all order goes down.
-use Rattle.std.proofs.Common.{◌≡◌, ℕ, zero, suc, ◌/◌, ◌<◌, ◌≤◌, Bool, true, false, cond, nat_lt, sym, arith, inl, inr, List, [], ◌∷◌, ◌++◌, Result, Ok, Err, refl, ap, subst, ◌∙◌}
+use Rattle.std.proofs.Common.{◌≡◌, ℕ, zero, suc, ◌/◌, ◌<◌, ◌≤◌, Bool, true, false, cond, nat_lt, sym, arith, inl, inr, List, [], ◌∷◌, ◌++◌, Option, Result, Ok, Err, refl, ap, subst, ◌∙◌}
 use Rattle.msc_parser.specs.Grammar.{Tree}
 use Rattle.msc_chart.specs.declared.queue.Queues.{Queues}
 use Rattle.msc_chart.specs.Charts.{Visual}
@@ -18,12 +18,16 @@ use Rattle.msc_import.specs.declared.whole.Scenarios.{Scenarios}
 use Rattle.msc_scenarios.specs.Choosing.{all_choices}
 use Rattle.msc_scenarios.specs.Counting.{scenarios}
 use Rattle.msc_import.specs.Drafting.{drawn}
-use Rattle.msc_import.specs.Importing.{Wanted, answered, chosen, diagram_in, drawn_at, imported, scenario_of, told_of}
+use Rattle.msc_import.specs.declared.importing.Language.{Language}
+use Rattle.msc_mermaid.specs.declared.statement.Cross.{Cross}
+use Rattle.msc_mermaid.specs.Gives.{◌>>=◌}
+use Rattle.msc_markdown.specs.Markdowns.{Found, markdown}
+use Rattle.msc_import.specs.Importing.{Refusal, Wanted, answered, chosen, diagram_from, diagram_in, drawn_at, found_as, imported, imported_from, scenario_of, told_of}
 use Rattle.msc_import.specs.Places.{places}
 use Rattle.msc_place.specs.declared.position.Position.{Position}
 use Rattle.msc_scenarios.specs.Laws.{walked}
 use Rattle.msc_scenarios.specs.Naming.{names_behind}
-use Rattle.msc_import.specs.Whole.{WantedAll, all_of, all_scenarios, imported_all, scenario_with, scenarios_on}
+use Rattle.msc_import.specs.Whole.{WantedAll, all_of, all_scenarios, imported_all, imported_all_from, scenario_with, scenarios_on}
 use Rattle.msc_import_laws.specs.Apart.{IsDrawnDown}
 use Rattle.msc_import_laws.specs.Drawn.{heights_in}
 use Rattle.msc_import_laws.specs.Ends.{IsEndOfItsArrow}
@@ -39,10 +43,20 @@ told_ok : {A : Type 0} (lines : List (List ℕ)) (r : Result A ImportFault) (y :
 told_ok lines (Ok x) y e = let same : x ≡ y = cc in ap Ok same
 told_ok lines (Err f) y e = cc
 
-answered_ok : {A : Type 0} (f : Diagram → Result A ImportFault) (r : Result Diagram ImportFault) (y : A) → answered f r ≡ Ok y → (d : Diagram) × (r ≡ Ok d) × (f d ≡ Ok y)
+pub answered_ok : {A : Type 0} (found : Found) (f : Diagram → Result A ImportFault) (r : Result Diagram ImportFault) (y : A) → answered found f r ≡ Ok y → (d : Diagram) × (r ≡ Ok d) × (f d ≡ Ok y)
 unfolding answered
-answered_ok f (Ok d) y e = (d, refl, told_ok d.lines (f d) y e)
-answered_ok f (Err g) y e = cc
+answered_ok found f (Ok d) y e = (d, refl, told_ok d.lines (f d) y e)
+answered_ok found f (Err g) y e = cc
+
+-- and of what the text holds
+pub found_ok : {A : Type 0} (g : Found → Result A Refusal) (r : Result Found ImportFault) (y : A) → found_as g r ≡ Ok y → (x : Found) × (r ≡ Ok x) × (g x ≡ Ok y)
+unfolding found_as
+found_ok g (Ok x) y e = (x, refl, e)
+found_ok g (Err f) y e = cc
+
+pub diagram_found : (language : Language) (cross : Option Cross) (fence : Option ℕ) (text : List ℕ) (x : Found) (d : Diagram) → markdown text ≡ Ok x → diagram_from language cross fence x ≡ Ok d → diagram_in language cross fence text ≡ Ok d
+unfolding diagram_in
+diagram_found language cross fence text x d is e = ap (λ m. m >>= diagram_from language cross fence) is ∙ e
 
 -- what is drawn with its places is drawn
 drawn_with : (manner : Manner) (name : List ℕ) (d : Diagram) (given : List ℕ) (is : Imported) → drawn_at manner name d given ≡ Ok is → drawn manner name d given ≡ Ok is.draft
@@ -60,9 +74,10 @@ pub import_scenario : (x : Wanted) (text : List ℕ) (is : Imported) → importe
     → (d : Diagram) × (given : List ℕ) × (chosen x.choices d ≡ Ok given) × IsScenarioOf (read_as x) x.manner text d given is.draft
 unfolding scenario_of
 import_scenario x text is e =
-    let a = answered_ok (scenario_of x) (diagram_in x.language x.cross x.fence text) is e in
+    let h = found_ok (imported_from x) (markdown text) is e in
+    let a = answered_ok h.0 (scenario_of x) (diagram_from x.language x.cross x.fence h.0) is h.2 in
     let b = bound (chosen x.choices a.0) (drawn_at x.manner x.name a.0) is a.2 in
-    (a.0, b.0, b.1, record { name = x.name; diagram = a.1; scenario = drawn_with x.manner x.name a.0 b.0 is b.2 })
+    (a.0, b.0, b.1, record { name = x.name; diagram = diagram_found x.language x.cross x.fence text h.0 a.0 h.1 a.1; scenario = drawn_with x.manner x.name a.0 b.0 is b.2 })
 
 -- one of all scenarios
 with_scenario : (manner : Manner) (name : List ℕ) (d : Diagram) (given : List ℕ) (s : Scenario) → scenario_with manner name d given ≡ Ok s → drawn manner name d s.choices ≡ Ok s.draft
@@ -91,12 +106,13 @@ pub all_scenario : (x : WantedAll) (text : List ℕ) (all : Scenarios) (s : Scen
     → (d : Diagram) × IsScenarioOf (all_read_as x) x.manner text d s.choices s.draft
 unfolding all_of all_scenarios
 all_scenario x text all s e o =
-    let a = answered_ok (all_of x) (diagram_in x.language x.cross x.fence text) all e in
+    let h = found_ok (imported_all_from x) (markdown text) all e in
+    let a = answered_ok h.0 (all_of x) (diagram_from x.language x.cross x.fence h.0) all h.2 in
     let d : Diagram = a.0 in
     let b = bound (all_scenarios x d) _ all a.2 in
     let list : b.0 ≡ all.list = cc in
     let made : scenarios_on x.manner x.name d [] (all_choices x.rounds d) ≡ Ok b.0 = few_enough (nat_lt x.limit (scenarios x.rounds d)) (TooManyScenarios x.limit) (scenarios_on x.manner x.name d [] (all_choices x.rounds d)) b.0 b.1 in
-    (d, record { name = x.name; diagram = a.1; scenario = each_scenario x.manner x.name d [] (all_choices x.rounds d) b.0 s (λ t k. absurd (none t k)) made (subst (λ l. Occurs l s) (sym list) o) })
+    (d, record { name = x.name; diagram = diagram_found x.language x.cross x.fence text h.0 d h.1 a.1; scenario = each_scenario x.manner x.name d [] (all_choices x.rounds d) b.0 s (λ t k. absurd (none t k)) made (subst (λ l. Occurs l s) (sym list) o) })
   where
     none : (t : Scenario) → Occurs [] t → ⊥
     none t (j, h) = cc

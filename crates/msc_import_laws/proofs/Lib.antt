@@ -23,4 +23,8 @@ pub mod Walks
 pub mod Drafts
 pub mod Reading
 pub mod Texts
+pub mod LineNames
 pub mod Imports
+pub mod PlanPlaces
+pub mod SpelledArrows
+pub mod WholeLines

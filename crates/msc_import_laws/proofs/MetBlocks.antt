@@ -11,6 +11,7 @@ use Rattle.msc_mermaid.specs.declared.row.Kind.{Kind}
 use Rattle.msc_mermaid.specs.declared.row.Kind.TheVariants as kinds
 use Rattle.msc_mermaid.specs.declared.statement.Placed.{Placed}
 use Rattle.msc_scenarios.specs.Courses.{Walk, Walker, block, branch_at, branches_in, broken, choice_of, choose, follow, form_of, formed, is_there, most_of, put, rounds_from, side_by_side, then, unbroken, with_choice}
+use Rattle.msc_place.specs.declared.position.Position.{Position}
 use Rattle.msc_import_laws.specs.Outlined.{AreDistinct}
 use Rattle.msc_import_laws.proofs.Distinct.{distinct_branch, distinct_branches, in_branch, in_branches, together}
 use Rattle.msc_import_laws.proofs.Growth.{Grows, grows_after, grows_none, grows_on, grows_put, grows_same, grows_then, grows_wider}
@@ -20,7 +21,7 @@ use Rattle.msc_import_laws.proofs.MetRounds.{IsInRounds, in_round, rounds_grow}
 use Rattle.msc_import_laws.proofs.MetBranches.{one_grows, options_grow, sides_grow}
 
 -- what follows the choice of a block, where one is taken that it has
-pub choice_grows : (R : Message → Type 0) (line most main : ℕ) (w : Walk) (f : ℕ → Walk → Walk) → ((c : ℕ) (v : Walk) → c ≤ most → v.lines ≡ w.lines → Grows R v (f c v)) → Grows R w (then (choose line most main w) (f (choice_of main w)))
+pub choice_grows : (R : Message → Type 0) (line : Position) (most main : ℕ) (w : Walk) (f : ℕ → Walk → Walk) → ((c : ℕ) (v : Walk) → c ≤ most → v.lines ≡ w.lines → Grows R v (f c v)) → Grows R w (then (choose line most main w) (f (choice_of main w)))
 unfolding choose
 choice_grows R line most main w f h =
     let c : ℕ = choice_of main w in
@@ -68,7 +69,7 @@ module _ (lines : List (List ℕ)) (d : ℕ) (inner : Walker) (good : Meets line
       (grows_wider (IsInRounds lines d body rounds 0 c) Inside w v (λ m h. met_wider lines (d + 1) (d + 1) body (together bs) rounds (omega arith) in_body m (in_round lines d inner good body (distinct_branch bs 0 distinct) (low_in (together bs) body in_body low) rounds short 0 c m (omega (arith, le)) h)) first)
       refl refl refl
 
-  formed_par : (line : ℕ) (w : Walk) → w.lines ≡ lines → Grows Inside w (formed inner line (form_of kinds.Par 0) bs rounds w)
+  formed_par : (line : Position) (w : Walk) → w.lines ≡ lines → Grows Inside w (formed inner line (form_of kinds.Par 0) bs rounds w)
   unfolding formed Inside
   formed_par line w same =
       let here : Message → Type 0 = IsMet lines d (together bs) rounds in
@@ -78,32 +79,32 @@ module _ (lines : List (List ℕ)) (d : ℕ) (inner : Walker) (good : Meets line
       let opened = grows_on (λ m. ⊥) here here w v u (grows_put (λ m. ⊥) (steps.Opens line) w refl) sides (λ m n g k e. g) (λ m g. absurd g) (λ m g. g) in
       grows_then here (λ m. ⊥) Inside w u (put steps.Closes) opened (grows_put (λ m. ⊥) steps.Closes u refl) (λ m n g k e. k) (met_wider lines d (d + 1) (together bs) (together bs) rounds (omega arith) (λ p o. o)) (λ m g. absurd g)
 
-  formed_plain : (line : ℕ) (w : Walk) → w.lines ≡ lines → Grows Inside w (formed inner line (form_of kinds.Plain 0) bs rounds w)
+  formed_plain : (line : Position) (w : Walk) → w.lines ≡ lines → Grows Inside w (formed inner line (form_of kinds.Plain 0) bs rounds w)
   unfolding formed Inside
   formed_plain line w same = one_grows lines d inner good rounds short bs distinct low 0 w (inner (branch_at bs 0) rounds w) same refl refl refl
 
-  formed_one : (line : ℕ) (w : Walk) → w.lines ≡ lines → Grows Inside w (formed inner line (form_of kinds.Alt 2) bs rounds w)
+  formed_one : (line : Position) (w : Walk) → w.lines ≡ lines → Grows Inside w (formed inner line (form_of kinds.Alt 2) bs rounds w)
   unfolding formed
   formed_one line w same = choice_grows Inside line (most_of (form_of kinds.Alt 2) (length bs)) 0 w (follow inner (form_of kinds.Alt 2) bs rounds) (λ c v le e. follow_one c v (e ∙ same))
 
-  formed_maybe : (line : ℕ) (w : Walk) → w.lines ≡ lines → Grows Inside w (formed inner line (form_of kinds.Opt 0) bs rounds w)
+  formed_maybe : (line : Position) (w : Walk) → w.lines ≡ lines → Grows Inside w (formed inner line (form_of kinds.Opt 0) bs rounds w)
   unfolding formed
   formed_maybe line w same = choice_grows Inside line (most_of (form_of kinds.Opt 0) (length bs)) 1 w (follow inner (form_of kinds.Opt 0) bs rounds) (λ c v le e. follow_maybe c v (e ∙ same))
 
-  formed_break : (line : ℕ) (w : Walk) → w.lines ≡ lines → Grows Inside w (formed inner line (form_of kinds.Break 0) bs rounds w)
+  formed_break : (line : Position) (w : Walk) → w.lines ≡ lines → Grows Inside w (formed inner line (form_of kinds.Break 0) bs rounds w)
   unfolding formed
   formed_break line w same = choice_grows Inside line (most_of (form_of kinds.Break 0) (length bs)) 0 w (follow inner (form_of kinds.Break 0) bs rounds) (λ c v le e. follow_break c v (e ∙ same))
 
-  formed_first : (line : ℕ) (w : Walk) → w.lines ≡ lines → Grows Inside w (formed inner line (form_of kinds.Critical 2) bs rounds w)
+  formed_first : (line : Position) (w : Walk) → w.lines ≡ lines → Grows Inside w (formed inner line (form_of kinds.Critical 2) bs rounds w)
   unfolding formed
   formed_first line w same = choice_grows Inside line (most_of (form_of kinds.Critical 2) (length bs)) 0 w (follow inner (form_of kinds.Critical 2) bs rounds) (λ c v le e. follow_first c v (e ∙ same))
 
-  formed_rounds : (line : ℕ) (w : Walk) → w.lines ≡ lines → Grows Inside w (formed inner line (form_of kinds.Loop 0) bs rounds w)
+  formed_rounds : (line : Position) (w : Walk) → w.lines ≡ lines → Grows Inside w (formed inner line (form_of kinds.Loop 0) bs rounds w)
   unfolding formed
   formed_rounds line w same = choice_grows Inside line ROUND_LIMIT 1 w (follow inner (form_of kinds.Loop 0) bs rounds) (λ c v le e. follow_rounds c v le (e ∙ same))
 
   -- a block of any kind
-  formed_grows : (line n : ℕ) (kind : Kind) (w : Walk) → w.lines ≡ lines → Grows Inside w (formed inner line (form_of kind n) bs rounds w)
+  formed_grows : (line : Position) (n : ℕ) (kind : Kind) (w : Walk) → w.lines ≡ lines → Grows Inside w (formed inner line (form_of kind n) bs rounds w)
   formed_grows line n kinds.Alt w same = by_test (nat_lt 1 n) (λ several. rw several (formed_one line w same)) (λ one. rw one (formed_maybe line w same))
   formed_grows line n kinds.Opt w same = formed_maybe line w same
   formed_grows line n kinds.Loop w same = formed_rounds line w same
@@ -113,7 +114,7 @@ module _ (lines : List (List ℕ)) (d : ℕ) (inner : Walker) (good : Meets line
   formed_grows line n kinds.Plain w same = formed_plain line w same
 
 module _ (lines : List (List ℕ)) (d : ℕ) (inner : Walker) (good : Meets lines d inner) where
-  pub block_grows : (line : ℕ) (kind : Kind) (inside : List Placed) (rounds : List ℕ) (w : Walk) → AreDistinct inside → AreLow inside → AllByRecursion IsRound rounds → w.lines ≡ lines
+  pub block_grows : (line : Position) (kind : Kind) (inside : List Placed) (rounds : List ℕ) (w : Walk) → AreDistinct inside → AreLow inside → AllByRecursion IsRound rounds → w.lines ≡ lines
       → Grows (IsMet lines (d + 1) inside rounds) w (block inner line kind inside rounds w)
   unfolding block Inside
   block_grows line kind inside rounds w distinct low short same =

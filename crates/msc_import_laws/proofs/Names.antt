@@ -145,12 +145,12 @@ unfolding names_behind
 names_are names [] are few = (are, omega arith)
 names_are names (ident ∷ idents) are few =
     let name : List ℕ = made ident (codes "p") in
-    let r = finds_free name LINE_LIMIT names 1 (omega (arith, few)) (omega arith) in
+    let r = finds_free name (length names + 1) names 1 (omega arith) (omega (arith, few)) in
     let high = r.to in
-    let good : IsGood 61 (free_name names name 1 LINE_LIMIT) = subst (IsGood 61) (sym r.is) (candidate_good name r.number (made_good ident) (omega (arith, high))) in
-    let new : is_taken names (free_name names name 1 LINE_LIMIT) ≡ false = ap (is_taken names) r.is ∙ r.new in
-    let l = length_push names (free_name names name 1 LINE_LIMIT) in
-    let rest = names_are (names ++ free_name names name 1 LINE_LIMIT ∷ []) idents (name_more names (free_name names name 1 LINE_LIMIT) are good new) (omega (arith, few, l)) in
+    let good : IsGood 61 (free_name names name 1 (length names + 1)) = subst (IsGood 61) (sym r.is) (candidate_good name r.number (made_good ident) (omega (arith, high, few))) in
+    let new : is_taken names (free_name names name 1 (length names + 1)) ≡ false = ap (is_taken names) r.is ∙ r.new in
+    let l = length_push names (free_name names name 1 (length names + 1)) in
+    let rest = names_are (names ++ free_name names name 1 (length names + 1) ∷ []) idents (name_more names (free_name names name 1 (length names + 1)) are good new) (omega (arith, few, l)) in
     (rest.0, let k = rest.1 in omega (arith, k, l))
 
 -- the names of so many lines

@@ -1,13 +1,13 @@
 -- What is read of a text keeps few lines, arrows between them, and a number of its own for each arrow.
-use Rattle.std.proofs.Common.{◌≡◌, ℕ, zero, suc, ◌+◌, ◌<◌, ◌≤◌, Bool, true, false, cond, nat_lt, length, take, drop, sym, arith, inl, inr, List, [], ◌∷◌, ◌++◌, Option, None, Some, Result, Ok, refl, ap, subst, ◌∙◌}
+use Rattle.std.proofs.Common.{◌≡◌, ℕ, zero, suc, ◌+◌, ◌<◌, ◌≤◌, Bool, true, false, cond, nat_lt, length, drop, sym, arith, inl, inr, List, [], ◌∷◌, ◌++◌, Option, None, Some, Result, Ok, refl, ap, subst, ◌∙◌}
 use Rattle.std.specs.Str.{bytes_eq}
 use Rattle.std.proofs.lemmas.Bool.{ltb-true}
 use Rattle.std.proofs.lemmas.List.{length_push}
 use Rattle.std.proofs.lemmas.Slice.Eq.{bytes_eq-Decides}
 use Rattle.msc_chart.specs.Lists.{StandsAt, Occurs}
 use Rattle.msc_chart.proofs.DraftEvents.{joined}
-use Rattle.msc_chart.proofs.ListLemmas.{by_test}
-use Rattle.msc_chart.proofs.Places.{any-place}
+use Rattle.msc_chart.proofs.ListLemmas.{by_test, clash}
+use Rattle.msc_chart.proofs.Places.{any-place, place-any}
 use Rattle.msc_mermaid.specs.declared.TheConstants.{LINE_LIMIT}
 use Rattle.msc_mermaid.specs.declared.fault.ImportFault.{ImportFault}
 use Rattle.msc_mermaid.specs.declared.fault.ImportFault.TheVariants.{Outside, TooDeep, TooManyLines}
@@ -21,23 +21,52 @@ use Rattle.msc_mermaid.specs.Gives.{◌>>=◌, unless}
 use Rattle.msc_mermaid.specs.Outlines.{Outline, closed_by, finished, innermost, is_known, laid, meets, met, with_lines}
 use Rattle.msc_mermaid.specs.Saying.{said_at}
 use Rattle.msc_mermaid.specs.Reading.{Read, untold, is_arrow, listed, noted, read_one, told}
+use Rattle.msc_place.specs.declared.position.Position.{Position}
+use Rattle.msc_import_laws.specs.Lines.{StandsOnce}
 use Rattle.msc_import_laws.specs.Outlined.{AreDistinct, Differ, IsOutlined}
 use Rattle.msc_import_laws.proofs.Drafts.{bound, unless_is}
-use Rattle.msc_import_laws.proofs.Stands.{first_joined, second_joined}
+use Rattle.msc_import_laws.proofs.Stands.{first_joined, joined_at, second_joined}
+
+-- where a statement begins
+abbrev start : ℕ → ℕ → Position
+start line column = record { line = line; column = column }
 
 -- lines behind others, with these among them
 record Laid (before : List (List ℕ)) (after : List (List ℕ)) : Type 0 where
   few : length before ≤ LINE_LIMIT → length after ≤ LINE_LIMIT
+  once : StandsOnce before → StandsOnce after
   keeps : (x : List ℕ) → Occurs before x → Occurs after x
 
 same_laid : (ls : List (List ℕ)) → Laid ls ls
-same_laid ls = record { few = λ h. h; keeps = λ x o. o }
+same_laid ls = record { few = λ h. h; once = λ h. h; keeps = λ x o. o }
 
 both_laid : (a b c : List (List ℕ)) → Laid a b → Laid b c → Laid a c
-both_laid a b c f g = record { few = λ h. g.few (f.few h); keeps = λ x o. g.keeps x (f.keeps x o) }
+both_laid a b c f g = record { few = λ h. g.few (f.few h); once = λ h. g.once (f.once h); keeps = λ x o. g.keeps x (f.keeps x o) }
+
+-- one line more that is not there
+once_more : (ls : List (List ℕ)) (c : List ℕ) → StandsOnce ls → ((i : ℕ) → StandsAt ls i c → ⊥) → StandsOnce (ls ++ c ∷ [])
+once_more ls c once none = λ i j x h k.
+    elim (joined_at ls (c ∷ []) i x h) [
+      | inl l ↦ elim (joined_at ls (c ∷ []) j x k) [
+        | inl r ↦ once i j x l r
+        | inr r ↦ absurd (none i (subst (StandsAt ls i) (sym (only r.0 x r.2)) l))
+      ]
+      | inr l ↦ elim (joined_at ls (c ∷ []) j x k) [
+        | inl r ↦ absurd (none j (subst (StandsAt ls j) (sym (only l.0 x l.2)) r))
+        | inr r ↦ let a = first l.0 x l.2 in let b = first r.0 x r.2 in omega (arith, l.1, r.1, a, b)
+      ]
+    ]
+  where
+    only : (i : ℕ) (x : List ℕ) → StandsAt (c ∷ []) i x → c ≡ x
+    only zero x h = cc
+    only (suc i) x h = cc
+
+    first : (i : ℕ) (x : List ℕ) → StandsAt (c ∷ []) i x → i ≡ 0
+    first zero x h = refl
+    first (suc i) x h = cc
 
 -- a line that is met is there
-line_met : (line : ℕ) (ident : List ℕ) (ls after : List (List ℕ)) → met line ident ls ≡ Ok after → Laid ls after × Occurs after ident
+line_met : (line : Position) (ident : List ℕ) (ls after : List (List ℕ)) → met line ident ls ≡ Ok after → Laid ls after × Occurs after ident
 unfolding met
 line_met line ident ls after e =
     by_test (is_known ls ident)
@@ -51,9 +80,10 @@ line_met line ident ls after e =
     let r = unless_is (nat_lt (length ls) LINE_LIMIT) (TooManyLines line) (ls ++ ident ∷ []) after f in
     let room = ltb-true (length ls) LINE_LIMIT r.0 in
     let l = length_push ls ident in
-    (subst (Laid ls) r.1 (record { few = λ h. omega (arith, room, l); keeps = λ x o. first_joined ls (ident ∷ []) x o }), subst (λ l. Occurs l ident) r.1 (second_joined ls (ident ∷ []) ident (0, refl))))
+    let none = λ (i : ℕ) (h : StandsAt ls i ident). clash (place-any (λ n. bytes_eq n ident) ls i ident h ((bytes_eq-Decides ident ident).1 refl)) new in
+    (subst (Laid ls) r.1 (record { few = λ h. omega (arith, room, l); once = λ h. once_more ls ident h none; keeps = λ x o. first_joined ls (ident ∷ []) x o }), subst (λ l. Occurs l ident) r.1 (second_joined ls (ident ∷ []) ident (0, refl))))
 
-line_meets : (line : ℕ) (ident : List ℕ) (o after : Outline) → meets line ident o ≡ Ok after → Laid o.lines after.lines × Occurs after.lines ident
+line_meets : (line : Position) (ident : List ℕ) (o after : Outline) → meets line ident o ≡ Ok after → Laid o.lines after.lines × Occurs after.lines ident
 unfolding meets
 line_meets line ident o after e =
     let b = bound (met line ident o.lines) (λ ls. Ok (with_lines o ls)) after e in
@@ -66,7 +96,7 @@ line_meets line ident o after e =
 abbrev HasEnds : List (List ℕ) → Statement → Type 0
 HasEnds ls s = (a : Arrow) → s ≡ Says a → Occurs ls a.from × Occurs ls a.to
 
-all_laid : (line : ℕ) (s : Statement) (o after : Outline) → laid line s o ≡ Ok after → Laid o.lines after.lines × HasEnds after.lines s
+all_laid : (line : Position) (s : Statement) (o after : Outline) → laid line s o ≡ Ok after → Laid o.lines after.lines × HasEnds after.lines s
 unfolding laid
 all_laid line (Declares ident shown) o after e = ((line_meets line ident o after e).0, λ a is. cc)
 all_laid line (Says arrow) o after e =
@@ -86,6 +116,7 @@ all_laid line (Closes closer) o after e =
 -- what was read, with so many arrows at most
 pub record IsRead (n : ℕ) (r : Read) : Type 0 where
   few_lines : length r.outline.lines ≤ LINE_LIMIT
+  once : StandsOnce r.outline.lines
   few : r.arrows ≤ n
   distinct : AreDistinct r.said
   known : (p : Placed) → Occurs r.said p → HasEnds r.outline.lines p.statement
@@ -107,7 +138,7 @@ one_distinct (p ∷ ps) q h d = (
     only x (zero, k) = cc
     only x (suc j, k) = cc
 
-module _ (n : ℕ) (r : Read) (read : IsRead n r) (line column : ℕ) (s : Statement) (o : Outline) (e : laid line s r.outline ≡ Ok o) where
+module _ (n : ℕ) (r : Read) (read : IsRead n r) (line column : ℕ) (s : Statement) (o : Outline) (e : laid (start line column) s r.outline ≡ Ok o) where
   next : Placed
   next = record { line = line; column = column; number = r.arrows + 1; statement = s }
 
@@ -125,10 +156,11 @@ module _ (n : ℕ) (r : Read) (read : IsRead n r) (line column : ℕ) (s : State
   listed_read : IsRead (n + 1) (listed r line column s o)
   unfolding next
   listed_read =
-      let l = all_laid line s r.outline o e in
+      let l = all_laid (start line column) s r.outline o e in
       let m = more (is_arrow s) refl in
       record {
         few_lines = l.0.few read.few_lines;
+        once = l.0.once read.once;
         few = m.0;
         distinct = one_distinct r.said next read.distinct (λ p o a b x y same. let h = read.numbered p a o x in omega (arith, h, same));
         known = λ p o. elim (joined r.said (next ∷ []) p o) [
@@ -149,6 +181,7 @@ module _ (n : ℕ) (r : Read) (read : IsRead n r) (line column : ℕ) (s : State
 pub read_same : (n k : ℕ) (r q : Read) → n ≤ k → q.arrows ≡ r.arrows → q.outline ≡ r.outline → q.said ≡ r.said → IsRead n r → IsRead k q
 read_same n k r q le a b c read = record {
   few_lines = rw b read.few_lines;
+  once = subst (λ (o : Outline). StandsOnce o.lines) (sym b) read.once;
   few = let f = read.few in omega (arith, f, a, le);
   distinct = rw c read.distinct;
   known = λ p o. rw b (read.known p (rw (← c) o));
@@ -167,9 +200,9 @@ module _ (n : ℕ) (r : Read) (read : IsRead n r) (line column : ℕ) (q : Read)
       let same : now ≡ q = cc in
       subst (IsRead (n + 1)) same (read_same n (n + 1) r now (omega arith) refl refl refl read)
 
-  statement_noted : (s : Statement) → (laid line s r.outline >>= (λ o. Ok (listed r line column s o))) ≡ Ok q → IsRead (n + 1) q
+  statement_noted : (s : Statement) → (laid (start line column) s r.outline >>= (λ o. Ok (listed r line column s o))) ≡ Ok q → IsRead (n + 1) q
   statement_noted s e =
-      let b = bound (laid line s r.outline) (λ o. Ok (listed r line column s o)) q e in
+      let b = bound (laid (start line column) s r.outline) (λ o. Ok (listed r line column s o)) q e in
       let same : listed r line column s b.0 ≡ q = let f : Ok (listed r line column s b.0) ≡ Ok q = b.2 in cc in
       subst (IsRead (n + 1)) same (listed_read n r read line column s b.0 b.1)
 
@@ -181,7 +214,7 @@ module _ (n : ℕ) (r : Read) (read : IsRead n r) (line column : ℕ) (q : Read)
 pub one_read : (n : ℕ) (cross : Option Cross) (line column : ℕ) (bytes : List ℕ) (r q : Read) → IsRead n r → read_one cross line column bytes r ≡ Ok q → IsRead (n + 1) q
 unfolding read_one
 one_read n cross line column bytes r q read e =
-    let b = bound (said_at cross r.dying line bytes) (noted r line column) q e in
+    let b = bound (said_at cross r.dying (start line column) bytes) (noted r line column) q e in
     all_noted n r read line column q b.0 b.2
 
 pub drop_short : {X : Type 0} (k : ℕ) (xs : List X) → length (drop k xs) ≤ length xs
@@ -208,6 +241,7 @@ told_is r d e =
 pub none_read : IsRead 0 untold
 none_read = record {
   few_lines = omega arith;
+  once = λ i j x h k. cc;
   few = omega arith;
   distinct = tt;
   known = λ p o. absurd (no o);
@@ -218,12 +252,20 @@ none_read = record {
     no : {p : Placed} → Occurs [] p → ⊥
     no (j, h) = cc
 
-pub read_outlined : (n : ℕ) (r : Read) (d : Diagram) → n < 9999998 → IsRead n r → told r ≡ Ok d → IsOutlined d
+-- a diagram as it is read, each of whose lines stands once
+pub record IsFound (d : Diagram) : Type 0 where
+  pub outlined : IsOutlined d
+  pub once : StandsOnce d.lines
+
+pub read_outlined : (n : ℕ) (r : Read) (d : Diagram) → n < 9999998 → IsRead n r → told r ≡ Ok d → IsFound d
 read_outlined n r d small read e =
     let is = told_is r d e in
     record {
-      few_lines = rw (← is.0) read.few_lines;
-      distinct = rw (← is.1) read.distinct;
-      low = λ p o. let l = read.low p (rw is.1 o) in let f = read.few in omega (arith, l, f, small);
-      known = λ p a o says. rw (← is.0) (read.known p (rw is.1 o) a says);
+      outlined = record {
+        few_lines = rw (← is.0) read.few_lines;
+        distinct = rw (← is.1) read.distinct;
+        low = λ p o. let l = read.low p (rw is.1 o) in let f = read.few in omega (arith, l, f, small);
+        known = λ p a o says. rw (← is.0) (read.known p (rw is.1 o) a says);
+      };
+      once = subst (λ (ls : List (List ℕ)). StandsOnce ls) is.0 read.once;
     }

@@ -26,7 +26,8 @@ use Rattle.msc_scenarios.specs.declared.course.Step.TheVariants as steps
 use Rattle.msc_import.specs.declared.plan.Manner.{Manner}
 use Rattle.msc_mermaid.specs.declared.statement.Placed.{Placed}
 use Rattle.msc_import.specs.Drafting.{fitted, line_name, sections_on, tree_of, drawn_event}
-use Rattle.msc_import.specs.Plans.{Plan, plans_of}
+use Rattle.msc_import.specs.declared.plan.Own.{Own}
+use Rattle.msc_import.specs.Plans.{Event, Plan, plans_of}
 use Rattle.msc_import.specs.Laws.{ends_on}
 use Rattle.msc_chart.specs.Events.{act_of}
 use Rattle.msc_import_laws.proofs.Parts.{end_of_part}
@@ -69,6 +70,16 @@ one_below a b true false e = (omega (arith, e), refl, refl)
 one_below a b true true e = absurd (omega (arith, e))
 one_below a b false true e = absurd (omega (arith, e))
 one_below a b false false e = absurd (omega (arith, e))
+
+-- an event of a draft, as an end of its arrow, among those of so many lines
+pub record DrawnEnd (own : Own) (names : List (List ℕ)) (lines : ℕ) (ss : List Step) (e : ℕ) (v : DraftEvent) : Type 0 where
+  pub end : End
+  pub stands : StandsAt (ends_on_lines own ss 0 lines) e end
+  pub step : ℕ
+  pub met : StandsAt ss step (steps.Meets end.message)
+  pub event : Event
+  pub its : Occurs (ends_on own v.line (steps.Meets end.message)) event
+  pub does : v.act ≡ act_of (fitted (line_name names v.line)) (drawn_event names event)
 
 module _ (manner : Manner) (name : List ℕ) (lines names : List (List ℕ)) (ps : List Placed) (ss : List Step) (plans : List Plan)
     (planned : plans_of manner ss (length lines) ≡ Ok plans) (told : IsToldApart (length lines) names ss) where
@@ -472,4 +483,22 @@ module _ (manner : Manner) (name : List ℕ) (lines names : List (List ℕ)) (ps
         its = subst (λ (l : ℕ). Occurs (ends_on manner.own l (steps.Meets x.message)) part.0) r.line part.1;
         does = sym r.act ∙ ap (act_of (fitted (line_name names x.line))) (sym part.2) ∙ ap (λ (l : ℕ). act_of (fitted (line_name names l)) (drawn_event names part.0)) r.line;
         falls = omega (arith, high, up, step, falls);
+      }
+
+  -- and the end itself, with its arrow
+  pub drawn_end : (e : ℕ) (v : DraftEvent) → StandsAt (events_of (tree_of name (sections_on lines names ps 0 plans []))) e v → DrawnEnd manner.own names (length lines) ss e v
+  unfolding d ends heights act_by
+  drawn_end e v h =
+      let r = of_event e v h in
+      let x : End = r.end in
+      let of = (end_of manner.own ss 0 (length lines) x (e, r.stands)).2 in
+      let part = end_of_part x.line x.message names manner.own x.side of.side in
+      record {
+        end = x;
+        stands = r.stands;
+        step = of.step;
+        met = of.met;
+        event = part.0;
+        its = subst (λ (l : ℕ). Occurs (ends_on manner.own l (steps.Meets x.message)) part.0) r.line part.1;
+        does = sym r.act ∙ ap (act_of (fitted (line_name names x.line))) (sym part.2) ∙ ap (λ (l : ℕ). act_of (fitted (line_name names l)) (drawn_event names part.0)) r.line;
       }

@@ -12,7 +12,7 @@ use Rattle.msc_mermaid.specs.declared.statement.Arrow.{Arrow}
 use Rattle.msc_mermaid.specs.declared.statement.Placed.{Placed}
 use Rattle.msc_mermaid.specs.declared.statement.Statement.{Statement}
 use Rattle.msc_mermaid.specs.declared.statement.Statement.TheVariants.{Declares, Says, Begins, Closes}
-use Rattle.msc_scenarios.specs.Courses.{Walk, Walker, block, extent, heads, is_choice, is_loss, meet, message_of, one, owned_by, said, then, walk, walk_on}
+use Rattle.msc_scenarios.specs.Courses.{Walk, Walker, block, extent, heads, is_choice, is_loss, meet, message_of, one, owned_by, said, start_of, then, walk, walk_on}
 use Rattle.msc_import_laws.specs.Outlined.{AreDistinct, Differ}
 use Rattle.msc_import_laws.proofs.Distinct.{distinct_drop, distinct_take, in_drop, in_take, parts_differ}
 use Rattle.msc_import_laws.proofs.Growth.{Grows, grows_none, grows_same, grows_then, grows_wider}
@@ -65,7 +65,7 @@ module _ (lines : List (List ℕ)) (d : ℕ) (inner : Walker) (good : Meets line
   unfolding said
   said_grows p a rounds w says small same =
       by_test (is_choice a)
-      (λ takes. rw takes (choice_grows (IsMet lines (d + 1) (p ∷ []) rounds) p.line 1 0 w (λ c. meet p a (c == 0) rounds) (λ c v le e. meet_grows p a (c == 0) rounds v says small (e ∙ same))))
+      (λ takes. rw takes (choice_grows (IsMet lines (d + 1) (p ∷ []) rounds) (start_of p) 1 0 w (λ c. meet p a (c == 0) rounds) (λ c v le e. meet_grows p a (c == 0) rounds v says small (e ∙ same))))
       (λ fixed. rw fixed (meet_grows p a (is_loss a.fate) rounds w says small same))
 
   -- statements, of which the first so many belong to one before them
@@ -109,8 +109,8 @@ module _ (lines : List (List ℕ)) (d : ℕ) (inner : Walker) (good : Meets line
           (apart_met lines (d + 1) (d + 1) (p ∷ []) (drop 0 ps) rounds rounds short short alone) first (later 0)
       by more (Begins kind) is =
           let n : ℕ = extent 0 ps in
-          let v : Walk = block inner p.line kind (take n ps) rounds w in
-          let found = block_grows lines d inner good p.line kind (take n ps) rounds w (distinct_take n ps distinct.1) (λ q o. low q (within n q o)) short same in
+          let v : Walk = block inner (start_of p) kind (take n ps) rounds w in
+          let found = block_grows lines d inner good (start_of p) kind (take n ps) rounds w (distinct_take n ps distinct.1) (λ q o. low q (within n q o)) short same in
           grows_then (IsMet lines (d + 1) (take n ps) rounds) (IsMet lines (d + 1) (drop n ps) rounds) Here w v (walk_on inner n ps rounds) found (more n v (found.lines ∙ same))
           (apart_met lines (d + 1) (d + 1) (take n ps) (drop n ps) rounds rounds short short (λ q r o k. parts_differ n ps q r distinct.1 o k)) (inside n) (later n)
       by more (Declares ident shown) is = grows_then (λ m. ⊥) (IsMet lines (d + 1) (drop 0 ps) rounds) Here w w (walk_on inner 0 ps rounds) (grows_same (λ m. ⊥) w) (more 0 w same) (λ m n h k e. h) (λ m h. absurd h) (later 0)

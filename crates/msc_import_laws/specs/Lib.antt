@@ -4,3 +4,6 @@ pub mod Apart
 pub mod Outlined
 pub mod Drawn
 pub mod Imports
+pub mod Lines
+pub mod Spelled
+pub mod Pieces

@@ -11,6 +11,9 @@ ghost use Rattle.msc_import_laws.specs.Imports.{ImportsAreCharts, ImportsAreScen
 ghost use Rattle.msc_import_laws.specs.Imports.{NoFaultIsFirst, ScenariosAreCharts};
 ghost use Rattle.msc_import_laws.specs.Imports.{TextsAreOutlined, TheTextIsARun};
 ghost use Rattle.msc_import_laws.specs.Imports.{TheTextIsOneOrder, VisualGoesDownTheText};
+ghost use Rattle.msc_import_laws.specs.Lines.{NamesAreLines, NamesTellLinesApart};
+ghost use Rattle.msc_import_laws.specs.Pieces.{PiecesAreTheLine};
+ghost use Rattle.msc_import_laws.specs.Spelled.{PlacesSpellTheirArrows};
 
 use msc_chart::laws::{ends_share_queues, inputs_share_lines};
 
@@ -48,10 +51,29 @@ pub fn imports_are_scenarios()
     ensures outlined { TextsAreOutlined }
 {}
 
+/// Names tell lines apart: each NAME of a text is one line of its diagram, and two NAMEs are drawn
+/// under one name just where they are one NAME.
+pub fn names_tell_lines_apart()
+    ensures apart { NamesTellLinesApart }
+    ensures once { NamesAreLines }
+{}
+
 /// Each event of a scenario's draft is an end of the arrow that stands as high as it does in the
 /// course of the scenario.
 pub fn events_are_ends_of_their_arrows()
     ensures { EventsAreEndsOfTheirArrows }
+{}
+
+/// A line of a text is the pieces that it is read in, with semicolons between them, and at most a
+/// comment behind them: nothing else of it is passed over.
+pub fn pieces_are_the_line()
+    ensures { PiecesAreTheLine }
+{}
+
+/// The place of an event is that of its arrow: there a statement of the text's diagram says an
+/// arrow, and the event is an end of this arrow, with its lines, its label and its number.
+pub fn places_spell_their_arrows()
+    ensures { PlacesSpellTheirArrows }
 {}
 
 /// The draft of a scenario is drawn from top to bottom, arrow by arrow. Of the diagram it takes no

@@ -6,7 +6,7 @@ pub mod CuttingLemmas
 pub mod ColumnLemmas
 pub mod ReadingLemmas
 pub mod MermaidLemmas
-pub mod FenceLemmas
-pub mod StayLemmas
+pub mod PartLemmas
+pub mod PlaceLemmas
 pub mod LawLemmas
 pub mod StepLemmas

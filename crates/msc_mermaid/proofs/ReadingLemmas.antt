@@ -14,7 +14,7 @@ use Rattle.msc_mermaid.specs.White.{front}
 pub bind_fails : {A B : Type 0} (e : ImportFault) (r : Result A ImportFault) (f : A → Result B ImportFault) → Fails e r → Fails e (r >>= f)
 bind_fails e r f h = ⊎_elim (λ m. inl m) (λ q. inr (ap (λ x. x >>= f) q)) h
 
-pieces_cons : (cross : Option Cross) (line : ℕ) (bytes : List ℕ) (at : ℕ) (x : List ℕ) (xs : List (List ℕ)) (p : Progress) → read_pieces cross line bytes at (x ∷ xs) p ≡ (read_piece cross line (column_behind (take (at + front 0 x) bytes)) (drop at bytes) x p >>= (λ q. read_pieces cross line bytes (at + (length x + 1)) xs q))
+pieces_cons : (cross : Option Cross) (line : ℕ) (bytes : List ℕ) (at : ℕ) (x : List ℕ) (xs : List (List ℕ)) (p : Progress) → read_pieces cross line bytes at (x ∷ xs) p ≡ (read_piece cross line bytes (column_behind (take (at + front 0 x) bytes)) (drop at bytes) x p >>= (λ q. read_pieces cross line bytes (at + (length x + 1)) xs q))
 unfolding read_pieces
 pieces_cons cross line bytes at x xs p = refl
 
@@ -42,16 +42,16 @@ module _ {X : Type 0} (f : X → List ℕ) (qs : List X) (i : ℕ) (d : X) (insi
     others q = read_pieces cross line bytes (at + (length (f (get_or qs i d)) + 1)) (map f (drop (i + 1) qs)) q
 
     -- the next piece is read, and then the others
-    read_next : read_pieces cross line bytes at (map f (drop i qs)) p ≡ (read_piece cross line column rest (f (get_or qs i d)) p >>= others)
+    read_next : read_pieces cross line bytes at (map f (drop i qs)) p ≡ (read_piece cross line bytes column rest (f (get_or qs i d)) p >>= others)
     read_next =
         ap (λ ps. read_pieces cross line bytes at ps p) next_piece ∙ pieces_cons cross line bytes at (f (get_or qs i d)) (map f (drop (i + 1) qs)) p
-        ∙ ap (λ x. read_piece cross line x (drop at bytes) (f (get_or qs i d)) p >>= others) (sym column_is)
-        ∙ ap (λ x. read_piece cross line column x (f (get_or qs i d)) p >>= others) (sym rest_is)
+        ∙ ap (λ x. read_piece cross line bytes x (drop at bytes) (f (get_or qs i d)) p >>= others) (sym column_is)
+        ∙ ap (λ x. read_piece cross line bytes column x (f (get_or qs i d)) p >>= others) (sym rest_is)
 
-    pub reads_next : (next : Progress) → read_piece cross line column rest (f (get_or qs i d)) p ≡ Ok next → read_pieces cross line bytes at (map f (drop i qs)) p ≡ read_pieces cross line bytes (at + (length (f (get_or qs i d)) + 1)) (map f (drop (i + 1) qs)) next
+    pub reads_next : (next : Progress) → read_piece cross line bytes column rest (f (get_or qs i d)) p ≡ Ok next → read_pieces cross line bytes at (map f (drop i qs)) p ≡ read_pieces cross line bytes (at + (length (f (get_or qs i d)) + 1)) (map f (drop (i + 1) qs)) next
     reads_next next e = read_next ∙ ap (λ x. x >>= others) e
 
-    pub fails_next : (e : ImportFault) → Fails e (read_piece cross line column rest (f (get_or qs i d)) p) → Fails e (read_pieces cross line bytes at (map f (drop i qs)) p)
+    pub fails_next : (e : ImportFault) → Fails e (read_piece cross line bytes column rest (f (get_or qs i d)) p) → Fails e (read_pieces cross line bytes at (map f (drop i qs)) p)
     fails_next e h = subst (Fails e) (sym read_next) (bind_fails e _ _ h)
 
 -- no piece is left

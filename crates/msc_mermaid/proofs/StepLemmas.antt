@@ -1,7 +1,7 @@
 -- What a reading keeps from statement to statement it keeps from line to line.
-use Rattle.std.proofs.Common.{◌≡◌, ℕ, zero, suc, ◌+◌, ◌≤◌, Bool, true, false, cond, length, take, drop, sym, arith, List, [], ◌∷◌, Option, None, Some, Result, Ok, Err, refl, ap, subst, ◌∙◌}
+use Rattle.std.proofs.Common.{◌≡◌, ℕ, zero, suc, ◌+◌, ◌≤◌, Bool, true, false, cond, ◌&&◌, length, map, take, drop, sym, arith, List, [], ◌∷◌, Option, None, Some, Result, Ok, Err, refl, ap, subst, ◌∙◌}
 use Rattle.msc_mermaid.specs.declared.fault.ImportFault.{ImportFault}
-use Rattle.msc_mermaid.specs.declared.fault.ImportFault.TheVariants.{Expected}
+use Rattle.msc_mermaid.specs.declared.fault.ImportFault.TheVariants.{Entity, Expected}
 use Rattle.msc_mermaid.specs.declared.fault.Expectation.TheVariants as expectations
 use Rattle.msc_mermaid.specs.declared.cutting.Turn.{Turn}
 use Rattle.msc_mermaid.specs.declared.cutting.Turn.TheVariants as turns
@@ -16,14 +16,17 @@ use Rattle.msc_mermaid.specs.declared.shape.Shape.{Shape}
 use Rattle.msc_mermaid.specs.declared.shape.Shape.TheVariants as shapes
 use Rattle.msc_mermaid.specs.declared.statement.Cross.{Cross}
 use Rattle.msc_mermaid.specs.declared.statement.Diagram.{Diagram}
+use Rattle.msc_place.specs.declared.position.Position.{Position}
 use Rattle.msc_mermaid.specs.Cutting.{cut, cut_by, cut_from, room, turn_at}
 use Rattle.msc_mermaid.specs.Gives.{◌>>=◌, unless}
 use Rattle.msc_mermaid.specs.Keys.{begin_so, mark_text}
 use Rattle.msc_mermaid.specs.Lines.{column_behind, led_by}
 use Rattle.msc_mermaid.specs.Patterns.{first_fit, is_empty}
-use Rattle.msc_mermaid.specs.Seeking.{before}
+use Rattle.msc_mermaid.specs.Saying.{is_unended}
+use Rattle.msc_mermaid.specs.Seeking.{before, holds}
 use Rattle.msc_mermaid.specs.White.{behind_white, front, trimmed}
-use Rattle.msc_mermaid.specs.Mermaid.{behind_head, body, body_as, closed, commented, described_as, ended_in, first_line, goes_on, head_as, is_commented, is_front, left_out, now_in, outside, piece_as, piece_by, read_piece, read_pieces, said_in, said_on, shape_of, stated, statement, step, step_in, steps, titled, told_of, undirected, unread}
+use Rattle.msc_mermaid.specs.Mermaid.{behind_head, body, body_as, closed, commented, config_end, configured_as, described_as, end_of, ended_in, ended_on, first_line, goes_on, gone_on, head_as, is_commented, is_front, is_last, left_out, now_in, outside, piece_as, piece_by, piece_said, put_off, put_off_said, read_piece, read_pieces, said_in, said_on, shape_of, stated, statement, step, step_in, steps, text_within, titled, told_of, undirected, unread}
+use Rattle.msc_mermaid.specs.Parts.{Stretch, blanked, entity_place, has_entity, part_step, said_of, steps_of}
 use Rattle.msc_mermaid.specs.Reading.{Read, read_one, told, untold}
 
 -- what follows a value is answered where both are
@@ -56,25 +59,25 @@ module _ (R : ℕ → Read → Type 0) (wider : (n k : ℕ) (r : Read) → n ≤
   unless_reader false f p q e = cc
 
   -- what is left out reads nothing
-  left_same : (line : ℕ) (part : Inside) (m : Mark) (bytes : List ℕ) (p q : Progress) → left_out line part m bytes p ≡ Ok q → p.reader ≡ q.reader
+  left_same : (line : ℕ) (whole : List ℕ) (part : Inside) (m : Mark) (bytes : List ℕ) (p q : Progress) → left_out line whole part m bytes p ≡ Ok q → p.reader ≡ q.reader
   unfolding left_out
-  left_same line part m bytes p q e =
-      let b = bound (closed line m bytes) _ q e in
+  left_same line whole part m bytes p q e =
+      let b = bound (closed line whole m bytes) _ q e in
       ok_reader (now_in (cond b.0 inside.Rest part) p) q b.2
 
-  titled_same : (line : ℕ) (text : List ℕ) (p q : Progress) → titled line text p ≡ Ok q → p.reader ≡ q.reader
+  titled_same : (line column : ℕ) (text : List ℕ) (p q : Progress) → titled line column text p ≡ Ok q → p.reader ≡ q.reader
   unfolding titled
-  titled_same line text p q e = unless_reader _ _ (now_in inside.Rest p) q e
+  titled_same line column text p q e = unless_reader _ _ (now_in inside.Rest p) q e
 
-  commented_same : (line : ℕ) (bytes : List ℕ) (p q : Progress) → commented line bytes p ≡ Ok q → p.reader ≡ q.reader
-  commented_same line bytes p q e = unless_reader _ _ p q e
+  commented_same : (line : ℕ) (whole bytes : List ℕ) (p q : Progress) → commented line whole bytes p ≡ Ok q → p.reader ≡ q.reader
+  commented_same line whole bytes p q e = unless_reader _ _ p q e
 
   -- a statement
   stated_read : (n : ℕ) (cross : Option Cross) (line column : ℕ) (bytes : List ℕ) (part : Inside) (p q : Progress) → stated cross line column bytes part p ≡ Ok q → R n p.reader → R (n + 1) q.reader
   unfolding stated
   stated_read n cross line column bytes part p q e read =
       let b = bound (read_one cross line column bytes p.reader) _ q e in
-      let same : b.0 ≡ q.reader = ok_reader (record { inside = part; begun = p.begun; reader = b.0 }) q b.2 in
+      let same : b.0 ≡ q.reader = ok_reader (record { inside = part; begun = p.begun; reader = b.0; waiting = p.waiting }) q b.2 in
       subst (R (n + 1)) same (one n cross line column bytes p.reader b.0 read b.1)
 
   statement_read : (n : ℕ) (cross : Option Cross) (line column : ℕ) (bytes : List ℕ) (p q : Progress) → statement cross line column bytes p ≡ Ok q → R n p.reader → R (n + 1) q.reader
@@ -86,27 +89,37 @@ module _ (R : ℕ → Read → Type 0) (wider : (n k : ℕ) (r : Read) → n ≤
       (λ comment. stated_read n cross line column short inside.Rest p q (sym (ap either comment) ∙ e) read)
       (λ plain. stated_read n cross line column bytes p.inside p q (sym (ap either plain) ∙ e) read)
 
+  -- a statement, or the first line of one
+  piece_said_read : (n : ℕ) (cross : Option Cross) (line column : ℕ) (rest piece : List ℕ) (p q : Progress) → piece_said cross line column rest piece p ≡ Ok q → R n p.reader → R (n + 1) q.reader
+  unfolding piece_said
+  piece_said_read n cross line column rest piece p q e read =
+      let own = trimmed piece in
+      let either = λ (t : Bool). cond t (Ok (put_off line column own p)) (statement cross line column own p) in
+      by_test (is_last rest piece && is_unended own)
+      (λ off. kept_on n (n + 1) p.reader q.reader (omega arith) read (ok_reader (put_off line column own p) q (sym (ap either off) ∙ e)))
+      (λ whole. statement_read n cross line column own p q (sym (ap either whole) ∙ e) read)
+
   -- a piece of a line
-  module _ (n : ℕ) (cross : Option Cross) (line column : ℕ) (rest piece : List ℕ) (p q : Progress) (read : R n p.reader) where
-    as_read : (o : Option (List ℕ)) → piece_as cross line column rest piece p o ≡ Ok q → R (n + 1) q.reader
-    as_read (Some text) e = kept_on n (n + 1) p.reader q.reader (omega arith) read (left_same line inside.Description marks.DescriptionEnd text p q e)
+  module _ (n : ℕ) (cross : Option Cross) (line : ℕ) (whole : List ℕ) (column : ℕ) (rest piece : List ℕ) (p q : Progress) (read : R n p.reader) where
+    as_read : (o : Option (List ℕ)) → piece_as cross line whole column rest piece p o ≡ Ok q → R (n + 1) q.reader
+    as_read (Some text) e = kept_on n (n + 1) p.reader q.reader (omega arith) read (left_same line whole inside.Description marks.DescriptionEnd text p q e)
     as_read None e =
-        let either = λ (t : Bool). cond t (Ok (now_in inside.Rest p)) (statement cross line column (trimmed piece) p) in
+        let either = λ (t : Bool). cond t (Ok (now_in inside.Rest p)) (piece_said cross line column rest piece p) in
         by_test (begin_so rest (mark_text marks.Comment))
         (λ comment. kept_on n (n + 1) p.reader q.reader (omega arith) read (ok_reader (now_in inside.Rest p) q (sym (ap either comment) ∙ e)))
-        (λ other. statement_read n cross line column (trimmed piece) p q (sym (ap either other) ∙ e) read)
+        (λ other. piece_said_read n cross line column rest piece p q (sym (ap either other) ∙ e) read)
 
-    by_read : (o : Option (List ℕ)) → piece_by cross line column rest piece p o ≡ Ok q → R (n + 1) q.reader
-    by_read (Some text) e = kept_on n (n + 1) p.reader q.reader (omega arith) read (titled_same line text p q e)
+    by_read : (o : Option (List ℕ)) → piece_by cross line whole column rest piece p o ≡ Ok q → R (n + 1) q.reader
+    by_read (Some text) e = kept_on n (n + 1) p.reader q.reader (omega arith) read (titled_same line column text p q e)
     by_read None e = as_read (first_fit (patterns.AccBlock ∷ []) rest) e
 
-  piece_read : (n : ℕ) (cross : Option Cross) (line column : ℕ) (rest piece : List ℕ) (p q : Progress) → read_piece cross line column rest piece p ≡ Ok q → R n p.reader → R (n + 1) q.reader
+  piece_read : (n : ℕ) (cross : Option Cross) (line : ℕ) (whole : List ℕ) (column : ℕ) (rest piece : List ℕ) (p q : Progress) → read_piece cross line whole column rest piece p ≡ Ok q → R n p.reader → R (n + 1) q.reader
   unfolding read_piece
-  piece_read n cross line column rest piece p q e read =
+  piece_read n cross line whole column rest piece p q e read =
       let found = first_fit (patterns.AccTitle ∷ patterns.AccDescr ∷ []) (behind_white rest) in
-      let either = λ (t : Bool). cond t (piece_by cross line column (behind_white rest) piece p found) (Ok p) in
+      let either = λ (t : Bool). cond t (piece_by cross line whole column (behind_white rest) piece p found) (Ok p) in
       by_test (goes_on p.inside)
-      (λ on. by_read n cross line column (behind_white rest) piece p q read found (sym (ap either on) ∙ e))
+      (λ on. by_read n cross line whole column (behind_white rest) piece p q read found (sym (ap either on) ∙ e))
       (λ over. kept_on n (n + 1) p.reader q.reader (omega arith) read (ok_reader p q (sym (ap either over) ∙ e)))
 
   -- those of a line
@@ -115,8 +128,8 @@ module _ (R : ℕ → Read → Type 0) (wider : (n k : ℕ) (r : Read) → n ≤
   pieces_read n cross line bytes at [] p q e read = kept_on n (n + 0) p.reader q.reader (omega arith) read (ok_reader p q e)
   pieces_read n cross line bytes at (x ∷ xs) p q e read =
       let column : ℕ = column_behind (take (at + front 0 x) bytes) in
-      let b = bound (read_piece cross line column (drop at bytes) x p) (λ q. read_pieces cross line bytes (at + (length x + 1)) xs q) q e in
-      let first = piece_read n cross line column (drop at bytes) x p b.0 b.1 read in
+      let b = bound (read_piece cross line bytes column (drop at bytes) x p) (λ q. read_pieces cross line bytes (at + (length x + 1)) xs q) q e in
+      let first = piece_read n cross line bytes column (drop at bytes) x p b.0 b.1 read in
       let rest = pieces_read (n + 1) cross line bytes (at + (length x + 1)) xs b.0 q b.2 first in
       wider ((n + 1) + length xs) (n + suc (length xs)) q.reader (omega arith) rest
 
@@ -143,11 +156,11 @@ module _ (R : ℕ → Read → Type 0) (wider : (n k : ℕ) (r : Read) → n ≤
   unfolding Next
   kept_next n l r q read same = kept_on n (n + (length l + 1)) r q (omega arith) read same
 
-  left_next : (n : ℕ) (l : List ℕ) (line : ℕ) (part : Inside) (m : Mark) (bytes : List ℕ) (p q : Progress) → left_out line part m bytes p ≡ Ok q → R n p.reader → Next n l q.reader
-  left_next n l line part m bytes p q e read = kept_next n l p.reader q.reader read (left_same line part m bytes p q e)
+  left_next : (n : ℕ) (l : List ℕ) (line : ℕ) (whole : List ℕ) (part : Inside) (m : Mark) (bytes : List ℕ) (p q : Progress) → left_out line whole part m bytes p ≡ Ok q → R n p.reader → Next n l q.reader
+  left_next n l line whole part m bytes p q e read = kept_next n l p.reader q.reader read (left_same line whole part m bytes p q e)
 
-  commented_next : (n : ℕ) (l : List ℕ) (line : ℕ) (bytes : List ℕ) (p q : Progress) → commented line bytes p ≡ Ok q → R n p.reader → Next n l q.reader
-  commented_next n l line bytes p q e read = kept_next n l p.reader q.reader read (commented_same line bytes p q e)
+  commented_next : (n : ℕ) (l : List ℕ) (line : ℕ) (whole bytes : List ℕ) (p q : Progress) → commented line whole bytes p ≡ Ok q → R n p.reader → Next n l q.reader
+  commented_next n l line whole bytes p q e read = kept_next n l p.reader q.reader read (commented_same line whole bytes p q e)
 
   ok_next : (n : ℕ) (l : List ℕ) (p q : Progress) → ◌≡◌ {A = Result Progress ImportFault} (Ok p) (Ok q) → R n p.reader → Next n l q.reader
   ok_next n l p q e read = kept_next n l p.reader q.reader read (ok_reader p q e)
@@ -155,7 +168,7 @@ module _ (R : ℕ → Read → Type 0) (wider : (n k : ℕ) (r : Read) → n ≤
   said_next : (n : ℕ) (cross : Option Cross) (line : ℕ) (l : List ℕ) (at : ℕ) (p q : Progress) → said_on cross line l at p ≡ Ok q → R n p.reader → Next n l q.reader
   unfolding said_on Next
   said_next n cross line l at p q e read =
-      let b = bound (undirected line (drop at l)) _ q e in
+      let b = bound (undirected line l (drop at l)) _ q e in
       let found = pieces_read n cross line l at (cut (drop at l)) p q b.2 read in
       let few = cut_few false (drop at l) in
       let short = drop_short at l in
@@ -164,8 +177,8 @@ module _ (R : ℕ → Read → Type 0) (wider : (n k : ℕ) (r : Read) → n ≤
   body_as_next : (n : ℕ) (cross : Option Cross) (line : ℕ) (l : List ℕ) (at : ℕ) (p q : Progress) (s : Shape) → body_as cross line l at p s ≡ Ok q → R n p.reader → Next n l q.reader
   unfolding body_as
   body_as_next n cross line l at p q shapes.Nothing e read = ok_next n l p q e read
-  body_as_next n cross line l at p q shapes.Directive e read = left_next n l line inside.Directive marks.DirectiveEnd (drop at l) p q e read
-  body_as_next n cross line l at p q shapes.Comment e read = commented_next n l line (drop at l) p q e read
+  body_as_next n cross line l at p q shapes.Directive e read = left_next n l line l inside.Directive marks.DirectiveEnd (drop at l) p q e read
+  body_as_next n cross line l at p q shapes.Comment e read = commented_next n l line l (drop at l) p q e read
   body_as_next n cross line l at p q shapes.Head e read = said_next n cross line l at p q e read
   body_as_next n cross line l at p q shapes.Other e read = said_next n cross line l at p q e read
 
@@ -176,10 +189,10 @@ module _ (R : ℕ → Read → Type 0) (wider : (n k : ℕ) (r : Read) → n ≤
   head_as_next : (n : ℕ) (cross : Option Cross) (line : ℕ) (l : List ℕ) (p q : Progress) (s : Shape) → head_as cross line l p s ≡ Ok q → R n p.reader → Next n l q.reader
   unfolding head_as
   head_as_next n cross line l p q shapes.Nothing e read = ok_next n l p q e read
-  head_as_next n cross line l p q shapes.Directive e read = left_next n l line inside.Directive marks.DirectiveEnd l p q e read
-  head_as_next n cross line l p q shapes.Comment e read = commented_next n l line l p q e read
+  head_as_next n cross line l p q shapes.Directive e read = left_next n l line l inside.Directive marks.DirectiveEnd l p q e read
+  head_as_next n cross line l p q shapes.Comment e read = commented_next n l line l l p q e read
   head_as_next n cross line l p q shapes.Head e read =
-      body_next n cross line l (behind_head l) (record { inside = p.inside; begun = true; reader = p.reader }) q e read
+      body_next n cross line l (behind_head l) (record { inside = p.inside; begun = true; reader = p.reader; waiting = p.waiting }) q e read
   head_as_next n cross line l p q shapes.Other e read = cc
 
   outside_next : (n : ℕ) (cross : Option Cross) (line : ℕ) (l : List ℕ) (p q : Progress) → outside cross line l p ≡ Ok q → R n p.reader → Next n l q.reader
@@ -206,13 +219,46 @@ module _ (R : ℕ → Read → Type 0) (wider : (n k : ℕ) (r : Read) → n ≤
   unfolding described_as
   described_next n line l p q shapes.Nothing e read = ok_next n l p q e read
   described_next n line l p q shapes.Directive e read =
-      let b = bound (closed line marks.DirectiveEnd l) _ q e in
+      let b = bound (closed line l marks.DirectiveEnd l) _ q e in
       kept_next n l p.reader q.reader read (unless_reader b.0 _ p q b.2)
-  described_next n line l p q shapes.Comment e read = commented_next n l line l p q e read
+  described_next n line l p q shapes.Comment e read = commented_next n l line l l p q e read
   described_next n line l p q shapes.Head e read =
-      let b = bound (undirected line l) _ q e in left_next n l line inside.Description marks.DescriptionEnd b.0 p q b.2 read
+      let b = bound (undirected line l l) _ q e in left_next n l line l inside.Description marks.DescriptionEnd b.0 p q b.2 read
   described_next n line l p q shapes.Other e read =
-      let b = bound (undirected line l) _ q e in left_next n l line inside.Description marks.DescriptionEnd b.0 p q b.2 read
+      let b = bound (undirected line l l) _ q e in left_next n l line l inside.Description marks.DescriptionEnd b.0 p q b.2 read
+
+  -- the pieces of a line in which a configuration ends
+  ended_read : (n : ℕ) (cross : Option Cross) (line : ℕ) (bytes : List ℕ) (at : ℕ) (xs : List (List ℕ)) (p q : Progress) → ended_on cross line bytes at xs p ≡ Ok q → R n p.reader → R (n + length xs) q.reader
+  unfolding ended_on
+  ended_read n cross line bytes at [] p q e read = kept_on n (n + 0) p.reader q.reader (omega arith) read (ok_reader p q e)
+  ended_read n cross line bytes at (x ∷ xs) p q e read =
+      let whole : Progress = gone_on (take (at + length x) bytes) p in
+      let b = bound (put_off_said cross whole) (λ q. read_pieces cross line bytes (at + (length x + 1)) xs q) q e in
+      let first = stated_read n cross whole.waiting.here.line whole.waiting.here.column (trimmed whole.waiting.bytes) inside.Nothing whole b.0 b.1 read in
+      let rest = pieces_read (n + 1) cross line bytes (at + (length x + 1)) xs b.0 q b.2 first in
+      wider ((n + 1) + length xs) (n + suc (length xs)) q.reader (omega arith) rest
+
+  text_next : (n : ℕ) (cross : Option Cross) (line : ℕ) (l : List ℕ) (p q : Progress) → text_within cross line l p ≡ Ok q → R n p.reader → Next n l q.reader
+  unfolding text_within Next
+  text_next n cross line l p q e read =
+      let u = bound (undirected line l l) _ q e in
+      let at : ℕ = config_end l in
+      let either = λ (t : Bool). cond t (ended_on cross line l at (cut (drop at l)) p) (Ok (gone_on l p)) in
+      by_test (holds l (sought.Text marks.DescriptionEnd))
+      (λ ends.
+      let found = ended_read n cross line l at (cut (drop at l)) p q (sym (ap either ends) ∙ u.2) read in
+      let few = cut_few false (drop at l) in
+      let short = drop_short at l in
+      wider (n + length (cut (drop at l))) (n + (length l + 1)) q.reader (omega (arith, few, short)) found)
+      (λ on. kept_on n (n + (length l + 1)) p.reader q.reader (omega arith) read (ok_reader (gone_on l p) q (sym (ap either on) ∙ u.2)))
+
+  configured_next : (n : ℕ) (cross : Option Cross) (line : ℕ) (l : List ℕ) (p q : Progress) (s : Shape) → configured_as cross line l p s ≡ Ok q → R n p.reader → Next n l q.reader
+  unfolding configured_as
+  configured_next n cross line l p q shapes.Nothing e read = described_next n line l p q shapes.Nothing e read
+  configured_next n cross line l p q shapes.Directive e read = described_next n line l p q shapes.Directive e read
+  configured_next n cross line l p q shapes.Comment e read = described_next n line l p q shapes.Comment e read
+  configured_next n cross line l p q shapes.Head e read = text_next n cross line l p q e read
+  configured_next n cross line l p q shapes.Other e read = text_next n cross line l p q e read
 
   step_in_next : (n : ℕ) (cross : Option Cross) (line : ℕ) (l : List ℕ) (p q : Progress) (i : Inside) → step_in cross line l p i ≡ Ok q → R n p.reader → Next n l q.reader
   unfolding step_in
@@ -220,8 +266,9 @@ module _ (R : ℕ → Read → Type 0) (wider : (n k : ℕ) (r : Read) → n ≤
   step_in_next n cross line l p q inside.Nothing e read = outside_next n cross line l p q e read
   step_in_next n cross line l p q inside.Rest e read = outside_next n cross line l (now_in inside.Nothing p) q e read
   step_in_next n cross line l p q inside.Front e read = ok_next n l (now_in (cond (is_front (trimmed l)) inside.Nothing inside.Front) p) q e read
-  step_in_next n cross line l p q inside.Directive e read = left_next n l line inside.Directive marks.DirectiveEnd l p q e read
+  step_in_next n cross line l p q inside.Directive e read = left_next n l line l inside.Directive marks.DirectiveEnd l p q e read
   step_in_next n cross line l p q inside.Description e read = described_next n line l p q (shape_of (trimmed l)) e read
+  step_in_next n cross line l p q inside.Configuration e read = configured_next n cross line l p q (shape_of (trimmed l)) e read
 
   pub steps_read : (cross : Option Cross) (ls : List (List ℕ)) (n line : ℕ) (p q : Progress) → steps cross line ls p ≡ Ok q → R n p.reader → R (n + room ls) q.reader
   unfolding steps step room Next
@@ -235,25 +282,53 @@ module _ (R : ℕ → Read → Type 0) (wider : (n k : ℕ) (r : Read) → n ≤
       wider ((n + (length l + 1)) + room ls) (n + (length l + 1 + room ls)) q.reader (omega arith) rest
 
   -- what was told of a text is what was read of it
-  told_now : (last : ℕ) (p : Progress) (d : Diagram) → told_of last p ≡ Ok d → told p.reader ≡ Ok d
-  told_now last p d e =
-      let either = λ (t : Bool). cond t (told p.reader) (Err (Expected last expectations.Diagram)) in
+  told_now : (here : Position) (p : Progress) (d : Diagram) → told_of here p ≡ Ok d → told p.reader ≡ Ok d
+  told_now here p d e =
+      let either = λ (t : Bool). cond t (told p.reader) (Err (Expected here expectations.Diagram)) in
       by_test p.begun
       (λ begun. sym (ap either begun) ∙ e)
-      (λ none. let f : ◌≡◌ {A = Result Diagram ImportFault} (Err (Expected last expectations.Diagram)) (Ok d) = sym (ap either none) ∙ e in cc)
+      (λ none. let f : ◌≡◌ {A = Result Diagram ImportFault} (Err (Expected here expectations.Diagram)) (Ok d) = sym (ap either none) ∙ e in cc)
 
-  ended_is : (last : ℕ) (p : Progress) (i : Inside) (d : Diagram) → ended_in last p i ≡ Ok d → told p.reader ≡ Ok d
+  ended_is : (here : Position) (p : Progress) (i : Inside) (d : Diagram) → ended_in here p i ≡ Ok d → told p.reader ≡ Ok d
   unfolding ended_in
-  ended_is last p inside.Front d e = cc
-  ended_is last p inside.Directive d e = cc
-  ended_is last p inside.Description d e = cc
-  ended_is last p inside.Start d e = told_now last p d e
-  ended_is last p inside.Nothing d e = told_now last p d e
-  ended_is last p inside.Rest d e = told_now last p d e
+  ended_is here p inside.Front d e = cc
+  ended_is here p inside.Directive d e = cc
+  ended_is here p inside.Description d e = cc
+  ended_is here p inside.Configuration d e = cc
+  ended_is here p inside.Start d e = told_now here p d e
+  ended_is here p inside.Nothing d e = told_now here p d e
+  ended_is here p inside.Rest d e = told_now here p d e
 
   -- what was read of all lines
   pub read_all : (cross : Option Cross) (ls : List (List ℕ)) (d : Diagram) → said_in cross ls ≡ Ok d → R 0 untold → (r : Read) × R (0 + room ls) r × (told r ≡ Ok d)
   unfolding said_in
   read_all cross ls d e none =
-      let b = bound (steps cross 1 ls unread) (λ p. ended_in (length ls) p p.inside) d e in
-      (b.0.reader, steps_read cross ls 0 1 unread b.0 b.1 none, ended_is (length ls) b.0 b.0.inside d b.2)
+      let b = bound (steps cross 1 ls unread) (λ p. ended_in (end_of ls) p p.inside) d e in
+      (b.0.reader, steps_read cross ls 0 1 unread b.0 b.1 none, ended_is (end_of ls) b.0 b.0.inside d b.2)
+
+  -- what was read of parts of lines
+  part_next : (n : ℕ) (markup : Bool) (cross : Option Cross) (s : Stretch) (p q : Progress) → part_step markup cross s p ≡ Ok q → R n p.reader → Next n (blanked s) q.reader
+  unfolding part_step step
+  part_next n markup cross s p q e read = by (markup && has_entity (blanked s) p) e
+    where
+      by : (b : Bool) → ◌≡◌ {A = Result Progress ImportFault} (cond b (Err (Entity (entity_place s))) (step_in cross s.line (blanked s) p p.inside)) (Ok q) → Next n (blanked s) q.reader
+      by true e = cc
+      by false e = step_in_next n cross s.line (blanked s) p q p.inside e read
+
+  steps_of_read : (markup : Bool) (cross : Option Cross) (ss : List Stretch) (n : ℕ) (p q : Progress) → steps_of markup cross ss p ≡ Ok q → R n p.reader → R (n + room (map blanked ss)) q.reader
+  unfolding steps_of room Next
+  steps_of_read markup cross [] n p q e read =
+      let same : p.reader ≡ q.reader = ok_reader p q e in
+      subst (R (n + 0)) same (wider n (n + 0) p.reader (omega arith) read)
+  steps_of_read markup cross (s ∷ ss) n p q e read =
+      let l = blanked s in
+      let b = bound (part_step markup cross s p) (λ q. steps_of markup cross ss q) q e in
+      let first = part_next n markup cross s p b.0 b.1 read in
+      let rest = steps_of_read markup cross ss (n + (length l + 1)) b.0 q b.2 first in
+      wider ((n + (length l + 1)) + room (map blanked ss)) (n + (length l + 1 + room (map blanked ss))) q.reader (omega arith) rest
+
+  pub read_parts : (markup : Bool) (cross : Option Cross) (last : Position) (ss : List Stretch) (d : Diagram) → said_of markup cross last ss ≡ Ok d → R 0 untold → (r : Read) × R (0 + room (map blanked ss)) r × (told r ≡ Ok d)
+  unfolding said_of
+  read_parts markup cross last ss d e none =
+      let b = bound (steps_of markup cross ss unread) (λ p. ended_in last p p.inside) d e in
+      (b.0.reader, steps_of_read markup cross ss 0 unread b.0 b.1 none, ended_is last b.0 b.0.inside d b.2)

@@ -1,7 +1,7 @@
 -- The words of faults.
 use Rattle.std.specs.Prelude.{ℕ, List, codes}
 use Rattle.msc_mermaid.specs.declared.fault.Expectation.{Expectation}
-use Rattle.msc_mermaid.specs.declared.fault.Expectation.TheVariants.{Front, Directive, Description, LineEnd, AnyDiagram, Diagram, Statement, Name, Label}
+use Rattle.msc_mermaid.specs.declared.fault.Expectation.TheVariants.{Front, Directive, Description, LineEnd, StatementEnd, AnyDiagram, Diagram, Statement, Name, Label}
 use Rattle.msc_mermaid.specs.declared.row.Closer.{Closer}
 use Rattle.msc_mermaid.specs.declared.row.Closer.TheVariants as closers
 
@@ -11,6 +11,7 @@ expectation Front = codes "---"
 expectation Directive = codes "}%%"
 expectation Description = codes "}"
 expectation LineEnd = codes "the end of the line"
+expectation StatementEnd = codes "the end of the statement"
 expectation AnyDiagram = codes "a diagram"
 expectation Diagram = codes "sequenceDiagram"
 expectation Statement = codes "a statement"

@@ -2,8 +2,6 @@
 use Rattle.std.specs.Prelude.{◌≡◌, ℕ, List, Option, Ok}
 use Rattle.msc_mermaid.specs.declared.statement.Cross.{Cross}
 use Rattle.msc_mermaid.specs.declared.statement.Diagram.{Diagram}
-use Rattle.msc_mermaid.specs.Fences.{before, emptied, fenced}
-use Rattle.msc_mermaid.specs.Lines.{lines_of}
 use Rattle.msc_mermaid.specs.Mermaid.{mermaid}
 
 -- the diagram of a text, where crosses are this
@@ -14,8 +12,3 @@ HasDiagram cross text d = mermaid cross text ≡ Ok d
 abbrev pub OneDiagram : Type 0
 OneDiagram =
     (cross : Option Cross) (text : List ℕ) (d e : Diagram) → HasDiagram cross text d → HasDiagram cross text e → d ≡ e
-
--- the text of a diagram in Markdown has all lines of the Markdown, those outside of the diagram empty
-abbrev pub LinesStay : Type 0
-LinesStay =
-    (n : ℕ) (text found : List ℕ) → fenced n text ≡ Ok found → lines_of found ≡ emptied (before n) (lines_of text)

@@ -3,6 +3,7 @@ pub mod Expectations
 pub mod White
 pub mod Lines
 pub mod Keys
+pub mod Markup
 pub mod Seeking
 pub mod Patterns
 pub mod Rows
@@ -13,5 +14,6 @@ pub mod Saying
 pub mod Outlines
 pub mod Reading
 pub mod Mermaid
-pub mod Fences
+pub mod Aheads
+pub mod Parts
 pub mod Laws

@@ -1,22 +1,7 @@
--- The lines of a text, and what blanks and columns are.
+-- The lines of a text, and what columns are.
 use Rattle.std.specs.Prelude.{ℕ, ◌+◌, ◌-◌, Bool, true, false, cond, ◌||◌, ◌==◌, nat_eq, nat_lt, List, [], ◌∷◌, ◌++◌, length, take, drop, count_by}
-use Rattle.std.specs.List.{prefix_len, suffix_len, starts_with}
-
--- a space or a tab
-abbrev pub is_blank : ℕ → Bool
-is_blank b = b == 32 || b == 9
-
--- what stands behind the blanks in front
-abbrev pub behind_blanks : List ℕ → List ℕ
-behind_blanks bytes = drop (prefix_len is_blank bytes) bytes
-
--- what stands before the blanks at the end
-abbrev pub before_blanks : List ℕ → List ℕ
-before_blanks bytes = take (length bytes - suffix_len is_blank bytes) bytes
-
--- without blanks at both ends
-abbrev pub trimmed : List ℕ → List ℕ
-trimmed bytes = before_blanks (behind_blanks bytes)
+use Rattle.std.specs.List.{starts_with}
+use Rattle.msc_place.specs.declared.position.Position.{Position}
 
 -- the text behind its byte order mark, if it has one
 abbrev pub behind_mark : List ℕ → List ℕ
@@ -46,3 +31,8 @@ is_counted b = nat_lt b 128 || nat_lt 191 b
 -- the column behind these bytes of a line
 abbrev pub column_behind : List ℕ → ℕ
 column_behind bytes = count_by is_counted bytes + 1
+
+-- the position in a line of these bytes of what ends it
+abbrev pub position_of : ℕ → List ℕ → List ℕ → Position
+position_of line whole rest =
+    record { line = line; column = column_behind (take (length whole - length rest) whole) }

@@ -1,5 +1,5 @@
 -- The diagram of a Mermaid text, line by line.
-use Rattle.std.specs.Prelude.{ℕ, ◌+◌, Bool, true, false, cond, not, ◌&&◌, nat_eq, nat_lt, List, [], ◌∷◌, length, take, drop, codes, Option, None, Some, Result, Ok, Err}
+use Rattle.std.specs.Prelude.{ℕ, ◌+◌, ◌-◌, Bool, true, false, cond, not, ◌&&◌, nat_eq, nat_lt, List, [], ◌∷◌, length, take, drop, get_or, codes, Option, None, Some, Result, Ok, Err}
 use Rattle.std.specs.List.{starts_with}
 use Rattle.std.specs.Str.{bytes_eq}
 use Rattle.msc_lexer.specs.declared.TheConstants.{TEXT_LIMIT}
@@ -21,12 +21,14 @@ use Rattle.msc_mermaid.specs.declared.seeking.Sought.TheVariants as sought
 use Rattle.msc_mermaid.specs.declared.statement.Cross.{Cross}
 use Rattle.msc_mermaid.specs.declared.statement.Diagram.{Diagram}
 use Rattle.msc_mermaid.specs.Cutting.{cut, leaves_open}
+use Rattle.msc_place.specs.declared.position.Position.{Position}
 use Rattle.msc_mermaid.specs.Gives.{◌>>=◌, unless}
 use Rattle.msc_mermaid.specs.Keys.{begin_so, key_of, mark_text}
-use Rattle.msc_mermaid.specs.Lines.{column_behind, lines_of}
+use Rattle.msc_mermaid.specs.Lines.{column_behind, lines_of, position_of}
 use Rattle.msc_mermaid.specs.Patterns.{first_fit, is_empty}
-use Rattle.msc_mermaid.specs.Reading.{read_one, told, untold}
+use Rattle.msc_mermaid.specs.Reading.{lengthened, none_waiting, read_one, told, untold}
 use Rattle.msc_mermaid.specs.Rows.{first_word}
+use Rattle.msc_mermaid.specs.Saying.{is_unended}
 use Rattle.msc_mermaid.specs.Seeking.{before, holds}
 use Rattle.msc_mermaid.specs.White.{front, behind_white, trimmed}
 
@@ -46,32 +48,36 @@ shape_of bytes =
 
 -- what was read so far, with this for what the next line stands in
 abbrev pub now_in : Inside → Progress → Progress
-now_in part p = record { inside = part; begun = p.begun; reader = p.reader }
+now_in part p = record { inside = part; begun = p.begun; reader = p.reader; waiting = p.waiting }
 
--- whether what is left out ends here, behind the mark; nothing else may follow on the line
-unfoldable pub closed : ℕ → Mark → List ℕ → Result Bool ImportFault
-closed line m bytes =
-    cond (holds bytes (sought.Text m)) (unless (is_empty (trimmed (drop (length (mark_text m)) (drop (before (sought.Text m) bytes) bytes)))) (Expected line wanted.LineEnd) true) (Ok false)
+-- what stands behind the first such mark
+abbrev pub behind_end : Mark → List ℕ → List ℕ
+behind_end m bytes = drop (length (mark_text m)) (drop (before (sought.Text m) bytes) bytes)
+
+-- whether what is left out ends here, at the end of this line, behind the mark; nothing else may follow on the line
+unfoldable pub closed : ℕ → List ℕ → Mark → List ℕ → Result Bool ImportFault
+closed line whole m bytes =
+    cond (holds bytes (sought.Text m)) (unless (is_empty (trimmed (behind_end m bytes))) (Expected (position_of line whole (behind_white (behind_end m bytes))) wanted.LineEnd) true) (Ok false)
 
 -- what is passed on from a part that is left out, up to this mark: the rest of a line, if it ends here
-unfoldable pub left_out : ℕ → Inside → Mark → List ℕ → Progress → Result Progress ImportFault
-left_out line part m bytes p = do
-  ends ← closed line m bytes
+unfoldable pub left_out : ℕ → List ℕ → Inside → Mark → List ℕ → Progress → Result Progress ImportFault
+left_out line whole part m bytes p = do
+  ends ← closed line whole m bytes
   Ok (now_in (cond ends inside.Rest part) p)
 
 -- a comment: a directive in it has to end in it
-abbrev pub commented : ℕ → List ℕ → Progress → Result Progress ImportFault
-commented line bytes p = unless (not (leaves_open false bytes)) (Expected line wanted.Directive) p
+abbrev pub commented : ℕ → List ℕ → List ℕ → Progress → Result Progress ImportFault
+commented line whole bytes p = unless (not (leaves_open false bytes)) (Expected (position_of line whole []) wanted.Directive) p
 
--- a line in which no directive may stand
-abbrev pub undirected : ℕ → List ℕ → Result (List ℕ) ImportFault
-undirected line bytes =
-    unless (not (holds bytes (sought.Text marks.Directive))) (Expected line wanted.Statement) bytes
+-- the end of a line, in which no directive may stand
+abbrev pub undirected : ℕ → List ℕ → List ℕ → Result (List ℕ) ImportFault
+undirected line whole bytes =
+    unless (not (holds bytes (sought.Text marks.Directive))) (Expected (position_of line whole (drop (before (sought.Text marks.Directive) bytes) bytes)) wanted.Statement) bytes
 
--- a title or a description in one line: it may not be empty, and takes the rest of the line
-unfoldable pub titled : ℕ → List ℕ → Progress → Result Progress ImportFault
-titled line text p =
-    unless (not (is_empty (trimmed text))) (Expected line wanted.Statement) (now_in inside.Rest p)
+-- a title or a description in one line, which begins in this column: it may not be empty, and takes the rest of the line
+unfoldable pub titled : ℕ → ℕ → List ℕ → Progress → Result Progress ImportFault
+titled line column text p =
+    unless (not (is_empty (trimmed text))) (Expected (record { line = line; column = column }) wanted.Statement) (now_in inside.Rest p)
 
 -- a comment may follow these words in their statement
 abbrev pub allows_comment : Option Key → Bool
@@ -88,54 +94,72 @@ is_commented bytes =
 unfoldable pub stated : Option Cross → ℕ → ℕ → List ℕ → Inside → Progress → Result Progress ImportFault
 stated cross line column bytes part p = do
   r ← read_one cross line column bytes p.reader
-  Ok (record { inside = part; begun = p.begun; reader = r })
+  Ok (record { inside = part; begun = p.begun; reader = r; waiting = p.waiting })
 
 -- a statement, with a comment or without
 unfoldable pub statement : Option Cross → ℕ → ℕ → List ℕ → Progress → Result Progress ImportFault
 statement cross line column bytes p =
     cond (is_commented bytes) (stated cross line column (trimmed (take (before (sought.Text marks.Comment) bytes) bytes)) inside.Rest p) (stated cross line column bytes p.inside p)
 
--- a piece of a line that is no title: a description, a comment, or a statement
-abbrev pub piece_as : Option Cross → ℕ → ℕ → List ℕ → List ℕ → Progress → Option (List ℕ) → Result Progress ImportFault
-piece_as cross line column rest piece p None =
-    cond (begin_so rest (mark_text marks.Comment)) (Ok (now_in inside.Rest p)) (statement cross line column (trimmed piece) p)
-piece_as cross line column rest piece p (Some text) =
-    left_out line inside.Description marks.DescriptionEnd text p
+-- nothing stands behind a piece on its line, where the line from it on is rest, without white space in front
+abbrev pub is_last : List ℕ → List ℕ → Bool
+is_last rest piece = nat_eq (length rest) (length (behind_white piece))
+
+-- a statement begins in this column that goes on behind its line
+abbrev pub put_off : ℕ → ℕ → List ℕ → Progress → Progress
+put_off line column bytes p = record {
+  inside = inside.Configuration;
+  begun = p.begun;
+  reader = p.reader;
+  waiting = record { here = record { line = line; column = column }; bytes = bytes };
+}
+
+-- a piece of a line that is a statement, or the first line of one whose configuration goes on
+unfoldable pub piece_said : Option Cross → ℕ → ℕ → List ℕ → List ℕ → Progress → Result Progress ImportFault
+piece_said cross line column rest piece p =
+    cond (is_last rest piece && is_unended (trimmed piece)) (Ok (put_off line column (trimmed piece) p)) (statement cross line column (trimmed piece) p)
+
+-- a piece of a line of these bytes that is no title: a description, a comment, or a statement
+abbrev pub piece_as : Option Cross → ℕ → List ℕ → ℕ → List ℕ → List ℕ → Progress → Option (List ℕ) → Result Progress ImportFault
+piece_as cross line whole column rest piece p None =
+    cond (begin_so rest (mark_text marks.Comment)) (Ok (now_in inside.Rest p)) (piece_said cross line column rest piece p)
+piece_as cross line whole column rest piece p (Some text) =
+    left_out line whole inside.Description marks.DescriptionEnd text p
 
 -- a piece of a line, where the line from it on is rest, without white space in front
-abbrev pub piece_by : Option Cross → ℕ → ℕ → List ℕ → List ℕ → Progress → Option (List ℕ) → Result Progress ImportFault
-piece_by cross line column rest piece p None =
-    piece_as cross line column rest piece p (first_fit (patterns.AccBlock ∷ []) rest)
-piece_by cross line column rest piece p (Some text) = titled line text p
+abbrev pub piece_by : Option Cross → ℕ → List ℕ → ℕ → List ℕ → List ℕ → Progress → Option (List ℕ) → Result Progress ImportFault
+piece_by cross line whole column rest piece p None =
+    piece_as cross line whole column rest piece p (first_fit (patterns.AccBlock ∷ []) rest)
+piece_by cross line whole column rest piece p (Some text) = titled line column text p
 
 -- whether the line goes on
 abbrev pub goes_on : Inside → Bool
 goes_on inside.Nothing = true
 goes_on part = false
 
--- the next piece of a line
-unfoldable pub read_piece : Option Cross → ℕ → ℕ → List ℕ → List ℕ → Progress → Result Progress ImportFault
-read_piece cross line column rest piece p =
-    cond (goes_on p.inside) (piece_by cross line column (behind_white rest) piece p (first_fit (patterns.AccTitle ∷ patterns.AccDescr ∷ []) (behind_white rest))) (Ok p)
+-- the next piece of a line of these bytes
+unfoldable pub read_piece : Option Cross → ℕ → List ℕ → ℕ → List ℕ → List ℕ → Progress → Result Progress ImportFault
+read_piece cross line whole column rest piece p =
+    cond (goes_on p.inside) (piece_by cross line whole column (behind_white rest) piece p (first_fit (patterns.AccTitle ∷ patterns.AccDescr ∷ []) (behind_white rest))) (Ok p)
 
 -- the pieces of a line of these bytes, of which the first one begins behind so many of them
 unfoldable pub read_pieces : Option Cross → ℕ → List ℕ → ℕ → List (List ℕ) → Progress → Result Progress ImportFault
 read_pieces cross line bytes at [] p = Ok p
 read_pieces cross line bytes at (x ∷ xs) p =
-    read_piece cross line (column_behind (take (at + front 0 x) bytes)) (drop at bytes) x p >>= (λ q. read_pieces cross line bytes (at + (length x + 1)) xs q)
+    read_piece cross line bytes (column_behind (take (at + front 0 x) bytes)) (drop at bytes) x p >>= (λ q. read_pieces cross line bytes (at + (length x + 1)) xs q)
 
 -- the statements of a line, behind so many of its bytes
 unfoldable pub said_on : Option Cross → ℕ → List ℕ → ℕ → Progress → Result Progress ImportFault
 said_on cross line bytes at p = do
-  rest ← undirected line (drop at bytes)
+  rest ← undirected line bytes (drop at bytes)
   read_pieces cross line bytes at (cut (drop at bytes)) p
 
 -- a line of this shape of a diagram that has begun, behind so many of its bytes
 unfoldable pub body_as : Option Cross → ℕ → List ℕ → ℕ → Progress → Shape → Result Progress ImportFault
 body_as cross line bytes at p shapes.Nothing = Ok p
 body_as cross line bytes at p shapes.Directive =
-    left_out line inside.Directive marks.DirectiveEnd (drop at bytes) p
-body_as cross line bytes at p shapes.Comment = commented line (drop at bytes) p
+    left_out line bytes inside.Directive marks.DirectiveEnd (drop at bytes) p
+body_as cross line bytes at p shapes.Comment = commented line bytes (drop at bytes) p
 body_as cross line bytes at p shapes.Head = said_on cross line bytes at p
 body_as cross line bytes at p shapes.Other = said_on cross line bytes at p
 
@@ -151,11 +175,11 @@ behind_head bytes = front 0 bytes + 15
 unfoldable pub head_as : Option Cross → ℕ → List ℕ → Progress → Shape → Result Progress ImportFault
 head_as cross line bytes p shapes.Nothing = Ok p
 head_as cross line bytes p shapes.Directive =
-    left_out line inside.Directive marks.DirectiveEnd bytes p
-head_as cross line bytes p shapes.Comment = commented line bytes p
+    left_out line bytes inside.Directive marks.DirectiveEnd bytes p
+head_as cross line bytes p shapes.Comment = commented line bytes bytes p
 head_as cross line bytes p shapes.Head =
-    body cross line bytes (behind_head bytes) (record { inside = p.inside; begun = true; reader = p.reader })
-head_as cross line bytes p shapes.Other = Err (Expected line wanted.Diagram)
+    body cross line bytes (behind_head bytes) (record { inside = p.inside; begun = true; reader = p.reader; waiting = p.waiting })
+head_as cross line bytes p shapes.Other = Err (Expected (position_of line bytes (behind_white bytes)) wanted.Diagram)
 
 -- a line that is not left out
 unfoldable pub outside : Option Cross → ℕ → List ℕ → Progress → Result Progress ImportFault
@@ -171,15 +195,55 @@ first_line cross line bytes p =
 unfoldable pub described_as : ℕ → List ℕ → Progress → Shape → Result Progress ImportFault
 described_as line bytes p shapes.Nothing = Ok p
 described_as line bytes p shapes.Directive = do
-  ends ← closed line marks.DirectiveEnd bytes
-  unless ends (Expected line wanted.Directive) p
-described_as line bytes p shapes.Comment = commented line bytes p
+  ends ← closed line bytes marks.DirectiveEnd bytes
+  unless ends (Expected (position_of line bytes []) wanted.Directive) p
+described_as line bytes p shapes.Comment = commented line bytes bytes p
 described_as line bytes p shapes.Head = do
-  text ← undirected line bytes
-  left_out line inside.Description marks.DescriptionEnd text p
+  text ← undirected line bytes bytes
+  left_out line bytes inside.Description marks.DescriptionEnd text p
 described_as line bytes p shapes.Other = do
-  text ← undirected line bytes
-  left_out line inside.Description marks.DescriptionEnd text p
+  text ← undirected line bytes bytes
+  left_out line bytes inside.Description marks.DescriptionEnd text p
+
+-- the statement that is open, with these bytes of a further line
+abbrev pub gone_on : List ℕ → Progress → Progress
+gone_on more p = record {
+  inside = p.inside;
+  begun = p.begun;
+  reader = p.reader;
+  waiting = lengthened more p.waiting;
+}
+
+-- the statement whose configuration was open
+abbrev pub put_off_said : Option Cross → Progress → Result Progress ImportFault
+put_off_said cross p =
+    stated cross p.waiting.here.line p.waiting.here.column (trimmed p.waiting.bytes) inside.Nothing p
+
+-- a line in which a configuration ends, behind so many of its bytes, where its pieces from there on are these: the
+-- first is the end of the statement
+unfoldable pub ended_on : Option Cross → ℕ → List ℕ → ℕ → List (List ℕ) → Progress → Result Progress ImportFault
+ended_on cross line bytes at [] p = Ok p
+ended_on cross line bytes at (x ∷ xs) p = do
+  q ← put_off_said cross (gone_on (take (at + length x) bytes) p)
+  read_pieces cross line bytes (at + (length x + 1)) xs q
+
+-- where a configuration ends in a line, and else how long the line is
+abbrev pub config_end : List ℕ → ℕ
+config_end bytes = before (sought.Text marks.DescriptionEnd) bytes
+
+-- a line of text within a configuration: it ends there, or goes on
+unfoldable pub text_within : Option Cross → ℕ → List ℕ → Progress → Result Progress ImportFault
+text_within cross line bytes p = do
+  text ← undirected line bytes bytes
+  cond (holds bytes (sought.Text marks.DescriptionEnd)) (ended_on cross line bytes (config_end bytes) (cut (drop (config_end bytes) bytes)) p) (Ok (gone_on bytes p))
+
+-- a line of this shape within a configuration: empty lines, directives and comments are what they are in a description
+unfoldable pub configured_as : Option Cross → ℕ → List ℕ → Progress → Shape → Result Progress ImportFault
+configured_as cross line bytes p shapes.Nothing = described_as line bytes p shapes.Nothing
+configured_as cross line bytes p shapes.Directive = described_as line bytes p shapes.Directive
+configured_as cross line bytes p shapes.Comment = described_as line bytes p shapes.Comment
+configured_as cross line bytes p shapes.Head = text_within cross line bytes p
+configured_as cross line bytes p shapes.Other = text_within cross line bytes p
 
 -- a line within this part
 unfoldable pub step_in : Option Cross → ℕ → List ℕ → Progress → Inside → Result Progress ImportFault
@@ -189,9 +253,11 @@ step_in cross line bytes p inside.Rest = outside cross line bytes (now_in inside
 step_in cross line bytes p inside.Front =
     Ok (now_in (cond (is_front (trimmed bytes)) inside.Nothing inside.Front) p)
 step_in cross line bytes p inside.Directive =
-    left_out line inside.Directive marks.DirectiveEnd bytes p
+    left_out line bytes inside.Directive marks.DirectiveEnd bytes p
 step_in cross line bytes p inside.Description =
     described_as line bytes p (shape_of (trimmed bytes))
+step_in cross line bytes p inside.Configuration =
+    configured_as cross line bytes p (shape_of (trimmed bytes))
 
 -- one line more
 unfoldable pub step : Option Cross → ℕ → List ℕ → Progress → Result Progress ImportFault
@@ -202,26 +268,38 @@ unfoldable pub steps : Option Cross → ℕ → List (List ℕ) → Progress →
 steps cross line [] p = Ok p
 steps cross line (l ∷ ls) p = step cross line l p >>= (λ q. steps cross (line + 1) ls q)
 
--- what was read of a text that has ended, where a diagram has begun
-abbrev pub told_of : ℕ → Progress → Result Diagram ImportFault
-told_of last p = cond p.begun (told p.reader) (Err (Expected last wanted.Diagram))
+-- what was read of a text that has ended here, where a diagram has begun
+abbrev pub told_of : Position → Progress → Result Diagram ImportFault
+told_of here p = cond p.begun (told p.reader) (Err (Expected here wanted.Diagram))
 
--- what may not lack at the end of a text with so many lines
-unfoldable pub ended_in : ℕ → Progress → Inside → Result Diagram ImportFault
-ended_in last p inside.Front = Err (Expected last wanted.Front)
-ended_in last p inside.Directive = Err (Expected last wanted.Directive)
-ended_in last p inside.Description = Err (Expected last wanted.Description)
-ended_in last p inside.Start = told_of last p
-ended_in last p inside.Nothing = told_of last p
-ended_in last p inside.Rest = told_of last p
+-- where a text of these lines ends
+abbrev pub end_of : List (List ℕ) → Position
+end_of lines = position_of (length lines) (get_or lines (length lines - 1) []) []
+
+-- where the first byte stands that is no white space, in these lines, of which the first has this number; and else
+-- the end
+unfoldable pub first_line_place : ℕ → List (List ℕ) → Position → Position
+first_line_place n [] end = end
+first_line_place n (l ∷ ls) end =
+    cond (is_empty (trimmed l)) (first_line_place (n + 1) ls end) (position_of n l (behind_white l))
+
+-- what may not lack at the end of a text, which is here
+unfoldable pub ended_in : Position → Progress → Inside → Result Diagram ImportFault
+ended_in here p inside.Front = Err (Expected here wanted.Front)
+ended_in here p inside.Directive = Err (Expected here wanted.Directive)
+ended_in here p inside.Description = Err (Expected here wanted.Description)
+ended_in here p inside.Configuration = Err (Expected p.waiting.here wanted.Description)
+ended_in here p inside.Start = told_of here p
+ended_in here p inside.Nothing = told_of here p
+ended_in here p inside.Rest = told_of here p
 
 -- nothing was read
 abbrev pub unread : Progress
-unread = record { inside = inside.Start; begun = false; reader = untold }
+unread = record { inside = inside.Start; begun = false; reader = untold; waiting = none_waiting }
 
 -- the diagram of these lines
 unfoldable pub said_in : Option Cross → List (List ℕ) → Result Diagram ImportFault
-said_in cross lines = steps cross 1 lines unread >>= (λ p. ended_in (length lines) p p.inside)
+said_in cross lines = steps cross 1 lines unread >>= (λ p. ended_in (end_of lines) p p.inside)
 
 -- the diagram of a text, or its first fault
 unfoldable pub mermaid : Option Cross → List ℕ → Result Diagram ImportFault

@@ -1,5 +1,5 @@
 -- Names of lines, and how lines are declared.
-use Rattle.std.specs.Prelude.{ℕ, ◌-◌, Bool, cond, not, ◌||◌, ◌==◌, nat_lt, List, length, take, drop, get_or, codes, Option, None, Some, Result, Ok}
+use Rattle.std.specs.Prelude.{ℕ, ◌-◌, Bool, cond, not, ◌||◌, ◌&&◌, ◌==◌, nat_lt, List, length, take, drop, get_or, codes, Option, None, Some, Result, Ok}
 use Rattle.std.specs.List.{list_any, prefix_len, suffix_len}
 use Rattle.std.specs.Str.{bytes_eq}
 use Rattle.msc_mermaid.specs.declared.fault.Expectation.TheVariants as wanted
@@ -11,6 +11,7 @@ use Rattle.msc_mermaid.specs.declared.key.Mark.TheVariants as marks
 use Rattle.msc_mermaid.specs.declared.seeking.Sought.TheVariants as sought
 use Rattle.msc_mermaid.specs.declared.statement.Statement.{Statement}
 use Rattle.msc_mermaid.specs.declared.statement.Statement.TheVariants.{Declares}
+use Rattle.msc_place.specs.declared.position.Position.{Position}
 use Rattle.msc_mermaid.specs.Gives.{◌>>=◌, unless}
 use Rattle.msc_mermaid.specs.Keys.{begin_so, mark_text}
 use Rattle.msc_mermaid.specs.Cutting.{without_entities}
@@ -38,8 +39,8 @@ is_name bytes =
     not (is_empty bytes || list_any is_barred bytes || holds_barred bytes || ends_in_dash bytes)
 
 -- the name that stands here, without white space at its ends
-unfoldable pub name_at : ℕ → List ℕ → Result (List ℕ) ImportFault
-name_at line bytes = unless (is_name (trimmed bytes)) (Expected line wanted.Name) (trimmed bytes)
+unfoldable pub name_at : Position → List ℕ → Result (List ℕ) ImportFault
+name_at here bytes = unless (is_name (trimmed bytes)) (Expected here wanted.Name) (trimmed bytes)
 
 -- a byte that no name before `()` has, where `()` would be a part of the name: one of `-/\(`
 abbrev pub is_joining : ℕ → Bool
@@ -50,19 +51,19 @@ abbrev pub is_central : List ℕ → Bool
 is_central bytes = bytes_eq (drop (length bytes - 2) bytes) (codes "()")
 
 -- the name before `()`
-unfoldable pub central_name : ℕ → List ℕ → Result (List ℕ) ImportFault
-central_name line bytes = do
-  name ← name_at line bytes
-  unless (not (list_any is_joining name)) (Expected line wanted.Name) name
+unfoldable pub central_name : Position → List ℕ → Result (List ℕ) ImportFault
+central_name here bytes = do
+  name ← name_at here bytes
+  unless (not (list_any is_joining name)) (Expected here wanted.Name) name
 
 -- the name before an arrow, with `()` or without, without white space at its ends
-abbrev pub sender_of : ℕ → List ℕ → Result (List ℕ) ImportFault
-sender_of line bytes =
-    cond (is_central bytes) (central_name line (take (length bytes - 2) bytes)) (name_at line bytes)
+abbrev pub sender_of : Position → List ℕ → Result (List ℕ) ImportFault
+sender_of here bytes =
+    cond (is_central bytes) (central_name here (take (length bytes - 2) bytes)) (name_at here bytes)
 
 -- the name before an arrow
-unfoldable pub sender : ℕ → List ℕ → Result (List ℕ) ImportFault
-sender line bytes = sender_of line (trimmed bytes)
+unfoldable pub sender : Position → List ℕ → Result (List ℕ) ImportFault
+sender here bytes = sender_of here (trimmed bytes)
 
 -- the label or shown name without the word on its wrapping, which is what stands here, or else these bytes
 abbrev pub unwrapped : List ℕ → List ℕ → List ℕ
@@ -105,35 +106,40 @@ shown_in config =
     cond (holds config (sought.Text marks.Shown)) (value_behind (behind_white (behind_quote (drop 5 (drop (before (sought.Text marks.Shown) config) config))))) None
 
 -- a line of this name and shown name
-unfoldable pub line_of : ℕ → List ℕ → Option (List ℕ) → Result Statement ImportFault
-line_of line ident shown = do
-  name ← name_at line ident
+unfoldable pub line_of : Position → List ℕ → Option (List ℕ) → Result Statement ImportFault
+line_of here ident shown = do
+  name ← name_at here ident
   Ok (Declares name shown)
 
 -- what stands before a mark, and what stands behind it
-unfoldable pub parted : ℕ → Mark → Expectation → List ℕ → Result (List ℕ × List ℕ) ImportFault
-parted line m expected bytes =
-    unless (holds bytes (sought.Text m)) (Expected line expected) (take (before (sought.Text m) bytes) bytes, drop (length (mark_text m)) (drop (before (sought.Text m) bytes) bytes))
+unfoldable pub parted : Position → Mark → Expectation → List ℕ → Result (List ℕ × List ℕ) ImportFault
+parted here m expected bytes =
+    unless (holds bytes (sought.Text m)) (Expected here expected) (take (before (sought.Text m) bytes) bytes, drop (length (mark_text m)) (drop (before (sought.Text m) bytes) bytes))
 
 -- the shown name of a line with this configuration, which this stands behind: behind `as`, or else in it
-unfoldable pub shown_behind : ℕ → List ℕ → List ℕ → Result (Option (List ℕ)) ImportFault
-shown_behind line config bytes =
-    cond (is_empty bytes) (Ok (shown_in config)) (unless (is_alias bytes) (Expected line wanted.Statement) (Some (shown_text (drop 2 bytes))))
+unfoldable pub shown_behind : Position → List ℕ → List ℕ → Result (Option (List ℕ)) ImportFault
+shown_behind here config bytes =
+    cond (is_empty bytes) (Ok (shown_in config)) (unless (is_alias bytes) (Expected here wanted.StatementEnd) (Some (shown_text (drop 2 bytes))))
 
 -- a line of this name, with the configuration that begins here
-unfoldable pub configured : ℕ → List ℕ → List ℕ → Result Statement ImportFault
-configured line ident bytes = do
-  name ← name_at line ident
-  parts ← parted line marks.DescriptionEnd wanted.Description bytes
-  shown ← shown_behind line parts.0 (behind_white parts.1)
+unfoldable pub configured : Position → List ℕ → List ℕ → Result Statement ImportFault
+configured here ident bytes = do
+  name ← name_at here ident
+  parts ← parted here marks.DescriptionEnd wanted.Description bytes
+  shown ← shown_behind here parts.0 (behind_white parts.1)
   Ok (Declares name shown)
 
 -- a line without a configuration
-unfoldable pub plain : ℕ → List ℕ → Result Statement ImportFault
-plain line bytes =
-    cond (holds bytes sought.Alias) (line_of line (take (before sought.Alias bytes) bytes) (Some (shown_text (drop 2 (behind_white (drop (before sought.Alias bytes) bytes)))))) (line_of line bytes None)
+unfoldable pub plain : Position → List ℕ → Result Statement ImportFault
+plain here bytes =
+    cond (holds bytes sought.Alias) (line_of here (take (before sought.Alias bytes) bytes) (Some (shown_text (drop 2 (behind_white (drop (before sought.Alias bytes) bytes)))))) (line_of here bytes None)
+
+-- the line that is declared here has a name, and a configuration without an end
+abbrev pub leaves_config : List ℕ → Bool
+leaves_config bytes =
+    nat_lt (before (sought.Text marks.Config) bytes) (before sought.Alias bytes) && is_name (trimmed (take (before (sought.Text marks.Config) bytes) bytes)) && not (holds (drop 2 (drop (before (sought.Text marks.Config) bytes) bytes)) (sought.Text marks.DescriptionEnd))
 
 -- the line that is declared
-unfoldable pub declared : ℕ → List ℕ → Result Statement ImportFault
-declared line bytes =
-    cond (nat_lt (before (sought.Text marks.Config) bytes) (before sought.Alias bytes)) (configured line (take (before (sought.Text marks.Config) bytes) bytes) (drop 2 (drop (before (sought.Text marks.Config) bytes) bytes))) (plain line bytes)
+unfoldable pub declared : Position → List ℕ → Result Statement ImportFault
+declared here bytes =
+    cond (nat_lt (before (sought.Text marks.Config) bytes) (before sought.Alias bytes)) (configured here (take (before (sought.Text marks.Config) bytes) bytes) (drop 2 (drop (before (sought.Text marks.Config) bytes) bytes))) (plain here bytes)

@@ -12,6 +12,7 @@ use Rattle.msc_mermaid.specs.declared.row.Kind.TheVariants as kinds
 use Rattle.msc_mermaid.specs.declared.statement.Statement.{Statement}
 use Rattle.msc_mermaid.specs.declared.statement.Statement.TheVariants.{Declares, Says, Begins, Closes}
 use Rattle.msc_mermaid.specs.declared.TheConstants.{DEPTH_LIMIT, LINE_LIMIT}
+use Rattle.msc_place.specs.declared.position.Position.{Position}
 use Rattle.msc_mermaid.specs.Gives.{◌>>=◌, unless}
 
 -- the lines in the order in which they are declared or used first, and the blocks that are open, the
@@ -28,19 +29,19 @@ blank = record { lines = []; opened = [] }
 abbrev pub is_known : List (List ℕ) → List ℕ → Bool
 is_known lines ident = list_any (λ l. bytes_eq l ident) lines
 
--- the lines with this one, which stands on this line of the text
-unfoldable pub met : ℕ → List ℕ → List (List ℕ) → Result (List (List ℕ)) ImportFault
-met line ident lines =
-    cond (is_known lines ident) (Ok lines) (unless (nat_lt (length lines) LINE_LIMIT) (TooManyLines line) (lines ++ ident ∷ []))
+-- the lines with this one, which a statement here names
+unfoldable pub met : Position → List ℕ → List (List ℕ) → Result (List (List ℕ)) ImportFault
+met here ident lines =
+    cond (is_known lines ident) (Ok lines) (unless (nat_lt (length lines) LINE_LIMIT) (TooManyLines here) (lines ++ ident ∷ []))
 
 -- the outline with these lines
 abbrev pub with_lines : Outline → List (List ℕ) → Outline
 with_lines o lines = record { lines = lines; opened = o.opened }
 
 -- the outline with this line
-unfoldable pub meets : ℕ → List ℕ → Outline → Result Outline ImportFault
-meets line ident o = do
-  lines ← met line ident o.lines
+unfoldable pub meets : Position → List ℕ → Outline → Result Outline ImportFault
+meets here ident o = do
+  lines ← met here ident o.lines
   Ok (with_lines o lines)
 
 -- the word goes on with a block of this kind, or ends it
@@ -65,21 +66,21 @@ abbrev pub left_open : Closer → List Opened → List Opened
 left_open closers.End opened = take (length opened - 1) opened
 left_open closer opened = opened
 
--- the lines of a statement on this line of the text, and its blocks
-unfoldable pub laid : ℕ → Statement → Outline → Result Outline ImportFault
-laid line (Declares ident shown) o = meets line ident o
-laid line (Says arrow) o = do
-  first ← meets line arrow.from o
-  meets line arrow.to first
-laid line (Begins kind) o =
-    unless (nat_lt (length o.opened) DEPTH_LIMIT) (TooDeep line) (record { lines = o.lines; opened = o.opened ++ record { kind = kind; line = line } ∷ [] })
-laid line (Closes closer) o =
-    unless (suits_last closer (innermost o.opened)) (Outside line closer) (record { lines = o.lines; opened = left_open closer o.opened })
+-- the lines of a statement that begins here, and its blocks
+unfoldable pub laid : Position → Statement → Outline → Result Outline ImportFault
+laid here (Declares ident shown) o = meets here ident o
+laid here (Says arrow) o = do
+  first ← meets here arrow.from o
+  meets here arrow.to first
+laid here (Begins kind) o =
+    unless (nat_lt (length o.opened) DEPTH_LIMIT) (TooDeep here) (record { lines = o.lines; opened = o.opened ++ record { kind = kind; start = here } ∷ [] })
+laid here (Closes closer) o =
+    unless (suits_last closer (innermost o.opened)) (Outside here closer) (record { lines = o.lines; opened = left_open closer o.opened })
 
 -- the lines, where no block is open
 abbrev pub closed_by : List (List ℕ) → Option Opened → Result (List (List ℕ)) ImportFault
 closed_by lines None = Ok lines
-closed_by lines (Some b) = Err (Unended b.line)
+closed_by lines (Some b) = Err (Unended b.start)
 
 -- the lines of an outline that is whole
 unfoldable pub finished : Outline → Result (List (List ℕ)) ImportFault

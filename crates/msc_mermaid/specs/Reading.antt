@@ -1,6 +1,7 @@
 -- What was read of a diagram: its statements, one by one.
 use Rattle.std.specs.Prelude.{◌≡◌, ℕ, ◌+◌, Bool, true, false, cond, List, [], ◌∷◌, ◌++◌, Option, Result, Ok, Err}
 use Rattle.msc_mermaid.specs.declared.fault.ImportFault.{ImportFault}
+use Rattle.msc_place.specs.declared.position.Position.{Position}
 use Rattle.msc_mermaid.specs.declared.saying.Said.{Said}
 use Rattle.msc_mermaid.specs.declared.saying.Said.TheVariants as said
 use Rattle.msc_mermaid.specs.declared.statement.Cross.{Cross}
@@ -46,13 +47,13 @@ noted r line column said.Nothing = Ok r
 noted r line column (said.Dies name) =
     Ok (record { dying = r.dying ++ name ∷ []; arrows = r.arrows; outline = r.outline; said = r.said })
 noted r line column (said.Statement s) = do
-  outline ← laid line s r.outline
+  outline ← laid (record { line = line; column = column }) s r.outline
   Ok (listed r line column s outline)
 
 -- one statement, which begins in this column
 unfoldable pub read_one : Option Cross → ℕ → ℕ → List ℕ → Read → Result Read ImportFault
 read_one cross line column bytes r = do
-  s ← said_at cross r.dying line bytes
+  s ← said_at cross r.dying (record { line = line; column = column }) bytes
   noted r line column s
 
 -- the diagram of what was read, where no block is open
@@ -60,6 +61,19 @@ unfoldable pub told : Read → Result Diagram ImportFault
 told r = do
   lines ← finished r.outline
   Ok (record { lines = lines; statements = r.said })
+
+-- a statement with a configuration that has no end yet: where it begins, and its bytes so far
+pub record Waiting : Type 0 where
+  pub here : Position
+  pub bytes : List ℕ
+
+-- none was met
+abbrev pub none_waiting : Waiting
+none_waiting = record { here = record { line = 1; column = 1 }; bytes = [] }
+
+-- the same with these bytes of a further line, behind a comma: what a line says of a configuration ends with it
+abbrev pub lengthened : List ℕ → Waiting → Waiting
+lengthened more o = record { here = o.here; bytes = o.bytes ++ 44 ∷ more }
 
 -- What a step leaves is what the definition says, unless memory ran out.
 abbrev pub Leaves : {A : Type 0} → Result (Unit {0}) ImportFault → A → Result A ImportFault → Type 0

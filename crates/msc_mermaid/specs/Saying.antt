@@ -19,17 +19,18 @@ use Rattle.msc_mermaid.specs.declared.statement.Cross.TheVariants as crosses
 use Rattle.msc_mermaid.specs.declared.statement.Fate.{Fate}
 use Rattle.msc_mermaid.specs.declared.statement.Fate.TheVariants as fates
 use Rattle.msc_mermaid.specs.declared.statement.Statement.TheVariants.{Says, Begins, Closes}
+use Rattle.msc_place.specs.declared.position.Position.{Position}
 use Rattle.msc_mermaid.specs.Gives.{◌>>=◌, unless}
 use Rattle.msc_mermaid.specs.Keys.{begin_so, head_of, head_text, is_crossed, is_double, is_leftward, mark_text}
-use Rattle.msc_mermaid.specs.Names.{declared, name_at, parted, sender, shown_text}
+use Rattle.msc_mermaid.specs.Names.{declared, leaves_config, name_at, parted, sender, shown_text}
 use Rattle.msc_mermaid.specs.Rows.{is_dash, meaning_of}
 use Rattle.msc_mermaid.specs.Seeking.{before}
 use Rattle.msc_mermaid.specs.White.{behind_white}
 
 -- what stands behind an arrow, where that is no other arrow that begins with a dash
-unfoldable pub no_second : ℕ → List ℕ → Result (List ℕ) ImportFault
-no_second line bytes =
-    unless (not (begins is_dash bytes && is_some (head_of bytes))) (Expected line wanted.Name) bytes
+unfoldable pub no_second : Position → List ℕ → Result (List ℕ) ImportFault
+no_second here bytes =
+    unless (not (begins is_dash bytes && is_some (head_of bytes))) (Expected here wanted.Name) bytes
 
 -- `+` or `-`
 abbrev pub is_sign : ℕ → Bool
@@ -56,50 +57,59 @@ fate_of cross dying head from to =
     cond (is_crossed head && not (dies dying from to)) (cross_fate cross from to) fates.Arrives
 
 -- the arrow of these parts: what stands before its head, and what stands behind
-unfoldable pub arrow_by : Option Cross → List (List ℕ) → ℕ → Head → List ℕ → List ℕ → Result Arrow ImportFault
-arrow_by cross dying line head front rest = do
-  right ← unless (not (is_leftward head)) (Unsupported line head) rest
-  from ← sender line front
-  behind ← no_second line (behind_white right)
-  parts ← parted line marks.Colon wanted.Label (behind_sign behind)
-  to ← name_at line parts.0
+unfoldable pub arrow_by : Option Cross → List (List ℕ) → Position → Head → List ℕ → List ℕ → Result Arrow ImportFault
+arrow_by cross dying here head front rest = do
+  right ← unless (not (is_leftward head)) (Unsupported here head) rest
+  from ← sender here front
+  behind ← no_second here (behind_white right)
+  parts ← parted here marks.Colon wanted.Label (behind_sign behind)
+  to ← name_at here parts.0
   Ok (record { from = from; to = to; label = shown_text parts.1; fate = fate_of cross dying head from to; both = is_double head })
 
 -- the arrow of a statement in which this head is the first, behind so many bytes
-abbrev pub arrow_with : Option Cross → List (List ℕ) → ℕ → List ℕ → ℕ → Option Head → Result Arrow ImportFault
-arrow_with cross dying line bytes at None = Err (Expected line wanted.Statement)
-arrow_with cross dying line bytes at (Some head) =
-    arrow_by cross dying line head (take at bytes) (drop (at + length (head_text head)) bytes)
+abbrev pub arrow_with : Option Cross → List (List ℕ) → Position → List ℕ → ℕ → Option Head → Result Arrow ImportFault
+arrow_with cross dying here bytes at None = Err (Expected here wanted.Statement)
+arrow_with cross dying here bytes at (Some head) =
+    arrow_by cross dying here head (take at bytes) (drop (at + length (head_text head)) bytes)
 
 -- the arrow of a statement
-unfoldable pub arrow_of : Option Cross → List (List ℕ) → ℕ → List ℕ → Result Arrow ImportFault
-arrow_of cross dying line bytes =
-    arrow_with cross dying line bytes (before sought.Arrow bytes) (head_of (drop (before sought.Arrow bytes) bytes))
+unfoldable pub arrow_of : Option Cross → List (List ℕ) → Position → List ℕ → Result Arrow ImportFault
+arrow_of cross dying here bytes =
+    arrow_with cross dying here bytes (before sought.Arrow bytes) (head_of (drop (before sought.Arrow bytes) bytes))
 
 -- what a statement says that has this meaning, with what stands behind its pattern
-unfoldable pub said_as : Option Cross → List (List ℕ) → ℕ → List ℕ → Meaning → List ℕ → Result Said ImportFault
-said_as cross dying line bytes says.Nothing rest = Ok said.Nothing
-said_as cross dying line bytes says.Refused rest = Err (Expected line wanted.Statement)
-said_as cross dying line bytes says.Declaration rest = do
-  s ← declared line rest
+unfoldable pub said_as : Option Cross → List (List ℕ) → Position → List ℕ → Meaning → List ℕ → Result Said ImportFault
+said_as cross dying here bytes says.Nothing rest = Ok said.Nothing
+said_as cross dying here bytes says.Refused rest = Err (Expected here wanted.Statement)
+said_as cross dying here bytes says.Declaration rest = do
+  s ← declared here rest
   Ok (said.Statement s)
-said_as cross dying line bytes says.Destruction rest = do
-  name ← name_at line rest
+said_as cross dying here bytes says.Destruction rest = do
+  name ← name_at here rest
   Ok (said.Dies name)
-said_as cross dying line bytes (says.Begin kind) rest = Ok (said.Statement (Begins kind))
-said_as cross dying line bytes (says.Close closer) rest = Ok (said.Statement (Closes closer))
-said_as cross dying line bytes says.Activation rest = do
-  name ← name_at line rest
+said_as cross dying here bytes (says.Begin kind) rest = Ok (said.Statement (Begins kind))
+said_as cross dying here bytes (says.Close closer) rest = Ok (said.Statement (Closes closer))
+said_as cross dying here bytes says.Activation rest = do
+  name ← name_at here rest
   Ok said.Nothing
-said_as cross dying line bytes says.Links rest = do
-  parts ← parted line marks.Colon wanted.Statement rest
-  name ← name_at line parts.0
+said_as cross dying here bytes says.Links rest = do
+  parts ← parted here marks.Colon wanted.Statement rest
+  name ← name_at here parts.0
   Ok said.Nothing
-said_as cross dying line bytes says.Arrow rest = do
-  arrow ← arrow_of cross dying line bytes
+said_as cross dying here bytes says.Arrow rest = do
+  arrow ← arrow_of cross dying here bytes
   Ok (said.Statement (Says arrow))
 
 -- what a statement says, behind some that say which lines end
-unfoldable pub said_at : Option Cross → List (List ℕ) → ℕ → List ℕ → Result Said ImportFault
-said_at cross dying line bytes =
-    said_as cross dying line bytes (meaning_of bytes).0 (meaning_of bytes).1
+unfoldable pub said_at : Option Cross → List (List ℕ) → Position → List ℕ → Result Said ImportFault
+said_at cross dying here bytes =
+    said_as cross dying here bytes (meaning_of bytes).0 (meaning_of bytes).1
+
+-- it declares a line
+abbrev pub is_declaration : Meaning → Bool
+is_declaration says.Declaration = true
+is_declaration meaning = false
+
+-- a statement declares a line with a configuration that has no end
+abbrev pub is_unended : List ℕ → Bool
+is_unended bytes = is_declaration (meaning_of bytes).0 && leaves_config (meaning_of bytes).1

@@ -15,6 +15,7 @@ use crate::seeking::{Sought, holds, is_alias};
 use crate::statement::Statement;
 use crate::white::{behind_white, trimmed};
 use listed::Listed;
+use msc_place::Position;
 use std::alloc::{AllocError, Global};
 
 /// The bytes behind a colon, if one stands here.
@@ -143,13 +144,13 @@ fn shown_in(alloc: Global, config: &[u8]) -> Result<Option<Listed<u8>>, AllocErr
 #[tactic(auto, unfolding(crate::specs::Names::line_of))]
 fn line_of(
     alloc: Global,
-    line: usize,
+    here: Position,
     ident: &[u8],
     shown: Option<Listed<u8>>,
 ) -> Result<Statement, ImportFault>
-    ensures { Gives (λ x. x) result (line_of line ident.now shown) }
+    ensures { Gives (λ x. x) result (line_of here ident.now shown) }
 {
-    let name = name_at(line, ident)?;
+    let name = name_at(here, ident)?;
     Ok(Statement::Declares(owned(alloc, name)?, shown))
 }
 
@@ -158,17 +159,17 @@ fn line_of(
 #[tactic(auto, unfolding(crate::specs::Names::shown_behind))]
 fn shown_behind(
     alloc: Global,
-    line: usize,
+    here: Position,
     config: &[u8],
     bytes: &[u8],
 ) -> Result<Option<Listed<u8>>, ImportFault>
-    ensures { Gives (λ x. x) result (shown_behind line config.now bytes.now) }
+    ensures { Gives (λ x. x) result (shown_behind here config.now bytes.now) }
 {
     if bytes.is_empty() {
         return Ok(shown_in(alloc, config)?);
     }
     if !is_alias(bytes) {
-        return Err(ImportFault::Expected(line, Expectation::Statement));
+        return Err(ImportFault::Expected(here, Expectation::StatementEnd));
     }
     let shown = shown_text(alloc, Mark::As.behind(bytes))?;
     Ok(Some(shown))
@@ -178,40 +179,44 @@ fn shown_behind(
 #[tactic(auto, unfolding(crate::specs::Names::configured))]
 fn configured(
     alloc: Global,
-    line: usize,
+    here: Position,
     ident: &[u8],
     bytes: &[u8],
 ) -> Result<Statement, ImportFault>
-    ensures { Gives (λ x. x) result (configured line ident.now bytes.now) }
+    ensures { Gives (λ x. x) result (configured here ident.now bytes.now) }
 {
-    let name = name_at(line, ident)?;
-    let parts = parted(line, Mark::DescriptionEnd, Expectation::Description, bytes)?;
-    let shown = shown_behind(alloc, line, parts.0, behind_white(parts.1))?;
+    let name = name_at(here, ident)?;
+    let parts = parted(here, Mark::DescriptionEnd, Expectation::Description, bytes)?;
+    let shown = shown_behind(alloc, here, parts.0, behind_white(parts.1))?;
     Ok(Statement::Declares(owned(alloc, name)?, shown))
 }
 
 /// A line without a configuration.
 #[tactic(auto, unfolding(crate::specs::Names::plain))]
-fn plain(alloc: Global, line: usize, bytes: &[u8]) -> Result<Statement, ImportFault>
-    ensures { Gives (λ x. x) result (plain line bytes.now) }
+fn plain(alloc: Global, here: Position, bytes: &[u8]) -> Result<Statement, ImportFault>
+    ensures { Gives (λ x. x) result (plain here bytes.now) }
 {
     let at = Sought::Alias.before(bytes);
     if at == bytes.len() {
-        return line_of(alloc, line, bytes, None);
+        return line_of(alloc, here, bytes, None);
     }
     let shown = shown_text(alloc, Mark::As.behind(behind_white(&bytes[at..])))?;
-    line_of(alloc, line, &bytes[..at], Some(shown))
+    line_of(alloc, here, &bytes[..at], Some(shown))
 }
 
 /// The line that is declared.
 #[tactic(auto, unfolding(crate::specs::Names::declared))]
-pub(crate) fn declared(alloc: Global, line: usize, bytes: &[u8]) -> Result<Statement, ImportFault>
-    ensures { Gives (λ x. x) result (declared line bytes.now) }
+pub(crate) fn declared(
+    alloc: Global,
+    here: Position,
+    bytes: &[u8],
+) -> Result<Statement, ImportFault>
+    ensures { Gives (λ x. x) result (declared here bytes.now) }
 {
     let at = Sought::Text(Mark::Config).before(bytes);
     if at < Sought::Alias.before(bytes) {
-        configured(alloc, line, &bytes[..at], Mark::Config.behind(&bytes[at..]))
+        configured(alloc, here, &bytes[..at], Mark::Config.behind(&bytes[at..]))
     } else {
-        plain(alloc, line, bytes)
+        plain(alloc, here, bytes)
     }
 }

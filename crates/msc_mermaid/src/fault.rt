@@ -6,11 +6,12 @@ ghost use Rattle.msc_mermaid.specs.Expectations.{expectation};
 
 use crate::head::Head;
 use crate::row::Closer;
+use msc_place::Position;
 use std::alloc::{AllocError, AllocFailed};
 use std::fmt;
 use thiserror::Error;
 
-/// What the language wanted at the line of a fault.
+/// What the language wanted at the place of a fault.
 #[derive(Clone, Copy, Debug, PartialEq, Eq)]
 pub enum Expectation {
     /// The end of what stands in front of a Mermaid diagram.
@@ -21,6 +22,8 @@ pub enum Expectation {
     Description,
     /// Nothing behind such an end.
     LineEnd,
+    /// Nothing behind the shown name of a line.
+    StatementEnd,
     /// A line that a diagram of any language begins with.
     AnyDiagram,
     /// The word that a Mermaid diagram begins with.
@@ -43,6 +46,7 @@ impl Expectation {
             Expectation::Directive => "}%%",
             Expectation::Description => "}",
             Expectation::LineEnd => "the end of the line",
+            Expectation::StatementEnd => "the end of the statement",
             Expectation::AnyDiagram => "a diagram",
             Expectation::Diagram => "sequenceDiagram",
             Expectation::Statement => "a statement",
@@ -61,35 +65,39 @@ impl fmt::Display for Expectation {
     }
 }
 
-/// The first fault of a text, or why a scenario has no chart. Each line is one of the text, from 1.
-/// The messages are the words of the printed lines, without number and line.
+/// The first fault of a text, or why a scenario has no chart. A position is one of the text: that of
+/// the statement, where nothing else is said. The messages are the words of the printed lines,
+/// without number and line.
 #[derive(Clone, Copy, Debug, PartialEq, Eq, Error)]
 pub enum ImportFault {
     /// The text is too long. Comes before all others.
     #[error("text longer than 1048576 bytes")]
     TooLong,
-    /// Something else was expected on this line than what stands there.
+    /// Something else was expected than what stands in the statement, or here outside of all
+    /// statements.
     #[error("expected {1}")]
-    Expected(usize, Expectation),
-    /// An arrow on this line that isn't taken.
+    Expected(Position, Expectation),
+    /// An arrow that isn't taken.
     #[error("{1} is not supported")]
-    Unsupported(usize, Head),
-    /// The cross of an arrow on this line is lost or arrives: the text doesn't say which.
-    #[error("say --cross lost or --cross arrives")]
-    Cross(usize),
-    /// The innermost block without its end; the line is where it begins. Comes after all others of
-    /// a text.
+    Unsupported(Position, Head),
+    /// An entity of HTML in a line of statements, where a browser reads the text first.
+    #[error("entities of HTML are not supported")]
+    Entity(Position),
+    /// The innermost block without its end; it begins here. Comes after all others of a text.
     #[error("block without end")]
-    Unended(usize),
+    Unended(Position),
     /// The end of a block, or the word that begins its next branch, outside of such a block.
     #[error("{1} outside of its block")]
-    Outside(usize, Closer),
+    Outside(Position, Closer),
+    /// A line of Markdown outside of all blocks that begins a diagram.
+    #[error("sequenceDiagram outside of its block")]
+    Stray(Position),
     /// A block within as many as there may be.
     #[error("more than 10 blocks inside each other")]
-    TooDeep(usize),
+    TooDeep(Position),
     /// A line beside as many as there may be.
     #[error("more than 32 instances")]
-    TooManyLines(usize),
+    TooManyLines(Position),
     /// The diagram has more scenarios than so many, which is the limit that was given.
     #[error("more than {0} scenarios")]
     TooManyScenarios(usize),
@@ -97,22 +105,25 @@ pub enum ImportFault {
     /// more than are counted, where it has more.
     #[error("{0} scenarios, say --choose")]
     Several(usize),
-    /// A choice of the block on this line, from 1, is more than its greatest one.
+    /// A choice of the block that begins here, from 1, is more than its greatest one.
     #[error("choice {1} is more than {2}")]
-    Choice(usize, usize, usize),
+    Choice(Position, usize, usize),
     /// More choices are given than blocks were met.
     #[error("{0} choices for {1} blocks")]
     TooManyChoices(usize, usize),
     /// An arrow of a scenario beside as many as there may be.
     #[error("more than 1024 arrows")]
-    TooManyArrows(usize),
-    /// The branches of the block on this line are no coregion on a line of the diagram, which is
+    TooManyArrows(Position),
+    /// The branches of the block that begins here are no coregion on a line of the diagram, which is
     /// told by its number, from 0.
     #[error("parallel branches share line {1}")]
-    Shared(usize, usize),
+    Shared(Position, usize),
     /// The Markdown has no diagram of this number, from 1.
     #[error("no diagram {0}")]
     NoDiagram(usize),
+    /// The Markdown has so many diagrams, and it isn't said which of them is meant.
+    #[error("{0} diagrams, say --fence")]
+    SeveralDiagrams(usize),
     /// A growth of memory was refused.
     #[error("memory fault")]
     Memory,

@@ -72,7 +72,7 @@ pub fn are_spelled(bytes: &[u8], text: &[u8]) -> bool
 }
 
 /// Whether the bytes begin with this text.
-pub(crate) fn begin_so(bytes: &[u8], text: &[u8]) -> bool
+pub fn begin_so(bytes: &[u8], text: &[u8]) -> bool
     ensures value { result ≡ begin_so bytes.now text.now }
     ensures room { IsTrue result → length text.now ≤ length bytes.now }
 {

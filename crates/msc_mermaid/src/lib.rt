@@ -1,27 +1,30 @@
 //! Sequence diagrams of Mermaid: from a text to its diagram.
 //!
-//! A text says statements, line by line ([`diagram_of`]); statements make a diagram. In Markdown a
-//! diagram stands in a block between fences ([`fenced`]). Lines and columns of a text are numbered
-//! from 1, arrows and diagrams of a Markdown text from 1.
+//! A text says statements, line by line ([`diagram_of`]); statements make a diagram, which may
+//! stand in a part of a text ([`diagram_of_parts`]). Lines and columns of a text and arrows are
+//! numbered from 1.
 //!
 //! Where to change what: white space is in `white`; a key word or a mark in `key`, an arrow in
 //! `head`; what a statement begins with in `row`, with the patterns of `pattern`; what it says in
 //! `saying`, its names in `name`, its lines in `declaring`; which blocks it may stand in in
-//! `outline`. `cutting` cuts a line into statements; `shape`, `progress` and `mermaid` leave out
-//! what is none: what stands in front of a diagram, directives, comments, titles and descriptions.
+//! `outline`. `cutting` cuts a line into statements; `waiting` joins the lines of one; `shape`,
+//! `progress` and `mermaid` leave out what is none: what stands in front of a diagram, directives,
+//! comments, titles and descriptions.
 #![tactic(auto)]
 
+mod ahead;
 mod cutting;
 mod declaring;
 mod fault;
-mod fence;
 mod head;
 mod key;
 pub mod laws;
 mod lines;
+mod markup;
 mod mermaid;
 mod name;
 mod outline;
+mod part;
 mod pattern;
 mod progress;
 mod reading;
@@ -30,16 +33,19 @@ mod saying;
 mod seeking;
 mod shape;
 mod statement;
+mod waiting;
 mod white;
 
+pub use ahead::Ahead;
 pub use fault::{Expectation, ImportFault};
-pub use fence::fenced;
 pub use head::Head;
-pub use key::are_spelled;
-pub use lines::lines_of;
-pub use mermaid::diagram_of;
-pub use pattern::is_word_byte;
+pub use key::{are_spelled, begin_so};
+pub use lines::{counted, lines_of};
+pub use mermaid::{beginning_of, diagram_of, end_of};
+pub use part::{LinePart, diagram_of_parts, first_place};
+pub use pattern::{begins_word, is_word_byte};
 pub use row::{Closer, Kind};
+pub use seeking::entity_in;
 pub use shape::is_head;
 pub use statement::{Arrow, Cross, Diagram, Fate, Placed, Statement};
 pub use white::trimmed;

@@ -1,60 +1,11 @@
-//! The lines of a text, its blanks and its columns.
+//! The lines of a text and its columns.
 
 ghost use Rattle.std.specs.Prelude.{◌≡◌, ◌≤◌, false, count_by, map, length, IfOk};
-ghost use Rattle.std.specs.List.{prefix_len, suffix_len};
-ghost use Rattle.msc_mermaid.specs.Lines.{before_blanks, behind_blanks, behind_mark};
-ghost use Rattle.msc_mermaid.specs.Lines.{is_blank, is_counted};
-ghost use Rattle.msc_mermaid.specs.Lines.{lines_behind, lines_of, trimmed};
+ghost use Rattle.msc_mermaid.specs.Lines.{behind_mark, is_counted, lines_behind, lines_of};
+ghost use Rattle.msc_mermaid.specs.Lines.{position_of};
 
+use msc_place::Position;
 use std::alloc::{AllocError, Global};
-
-/// Whether the byte is a space or a tab.
-pub(crate) fn is_blank(byte: u8) -> bool
-    ensures { result ≡ is_blank byte }
-{
-    byte == b' ' || byte == b'\t'
-}
-
-/// How many blanks stand in front.
-pub(crate) fn blanks_in_front(bytes: &[u8]) -> usize
-    ensures length { result ≡ prefix_len is_blank bytes.now }
-    ensures within { result ≤ length bytes.now }
-{
-    bytes.iter().take_while(|byte| is_blank(**byte)).count()
-}
-
-/// How many blanks stand at the end.
-fn blanks_at_end(bytes: &[u8]) -> usize
-    ensures length { result ≡ suffix_len is_blank bytes.now }
-    ensures within { result ≤ length bytes.now }
-{
-    bytes
-        .iter()
-        .rev()
-        .take_while(|byte| is_blank(**byte))
-        .count()
-}
-
-/// What stands behind the blanks in front.
-pub(crate) fn behind_blanks(bytes: &[u8]) -> &[u8]
-    ensures { result.now ≡ behind_blanks bytes.now }
-{
-    &bytes[blanks_in_front(bytes)..]
-}
-
-/// What stands before the blanks at the end.
-pub(crate) fn before_blanks(bytes: &[u8]) -> &[u8]
-    ensures { result.now ≡ before_blanks bytes.now }
-{
-    &bytes[..bytes.len() - blanks_at_end(bytes)]
-}
-
-/// The bytes without blanks at both ends.
-pub(crate) fn trimmed(bytes: &[u8]) -> &[u8]
-    ensures { result.now ≡ trimmed bytes.now }
-{
-    before_blanks(behind_blanks(bytes))
-}
 
 /// The text behind its byte order mark, if it has one.
 fn behind_mark(text: &[u8]) -> &[u8]
@@ -95,7 +46,7 @@ pub fn lines_of(alloc: Global, text: &[u8]) -> Result<Vec<&[u8]>, AllocError>
 }
 
 /// How many of the bytes are counted in columns: those that aren't continuation bytes of UTF-8.
-pub(crate) fn counted(bytes: &[u8]) -> usize
+pub fn counted(bytes: &[u8]) -> usize
     ensures value { result ≡ count_by is_counted bytes.now }
     ensures within { result ≤ length bytes.now }
 {
@@ -103,4 +54,24 @@ pub(crate) fn counted(bytes: &[u8]) -> usize
         .iter()
         .filter(|byte| **byte < 128 || **byte > 191)
         .count()
+}
+
+/// A line of a text: its number, from 1, and its bytes.
+#[derive(Clone, Copy)]
+pub(crate) struct Row<'t> {
+    pub line: usize,
+    pub bytes: &'t [u8],
+}
+
+impl Row<'_> {
+    /// The position of these bytes of what ends it.
+    pub(crate) fn position_of(self, rest: &[u8]) -> Position
+        ensures { result ≡ position_of self.entry.line self.entry.bytes.now rest.now }
+    {
+        let front = self.bytes.len().saturating_sub(rest.len());
+        Position {
+            line: self.line,
+            column: counted(&self.bytes[..front]) + 1,
+        }
+    }
 }

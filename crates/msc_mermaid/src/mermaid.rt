@@ -2,7 +2,8 @@
 
 ghost use Rattle.std.specs.Prelude.{◌≡◌, ◌≤◌, ◌<◌, ◌^◌, length, map};
 ghost use Rattle.msc_mermaid.specs.Gives.{Gives};
-ghost use Rattle.msc_mermaid.specs.Mermaid.{behind_head, body, described_as, ended_in, first_line};
+ghost use Rattle.msc_mermaid.specs.Mermaid.{behind_head, body, described_as, end_of, ended_in};
+ghost use Rattle.msc_mermaid.specs.Mermaid.{first_line, first_line_place};
 ghost use Rattle.msc_mermaid.specs.Mermaid.{head_as, mermaid, outside, said_in, shape_of, step};
 ghost use Rattle.msc_mermaid.specs.Mermaid.{steps};
 ghost use Rattle.msc_mermaid.specs.Reading.{Leaves};
@@ -10,13 +11,15 @@ ghost use Rattle.msc_mermaid.specs.White.{trimmed};
 
 use crate::fault::{Expectation, ImportFault};
 use crate::key::Mark;
-use crate::lines::lines_of;
+use crate::lines::{Row, lines_of};
 use crate::progress::{Inside, Progress};
 use crate::reading::Reader;
 use crate::shape::{Shape, closed, is_front, shape_of, undirected};
 use crate::statement::{Cross, Diagram};
-use crate::white::{trimmed, white_in_front};
+use crate::waiting::Waiting;
+use crate::white::{behind_white, is_white, trimmed, white_in_front};
 use msc_lexer::TEXT_LIMIT;
+use msc_place::Position;
 use std::alloc::Global;
 
 /// How many bytes the word takes that the diagram begins with, with the white space before it.
@@ -42,10 +45,11 @@ impl Progress {
         ensures { Leaves result self.new (body cross line bytes.now at self.old) }
     {
         let rest = &bytes[at..];
+        let row = Row { line, bytes };
         match shape_of(trimmed(rest)) {
-            Shape::Directive => self.left_out(line, Inside::Directive, Mark::DirectiveEnd, rest),
+            Shape::Directive => self.left_out(row, Inside::Directive, Mark::DirectiveEnd, rest),
             Shape::Nothing => Ok(()),
-            Shape::Comment => self.commented(line, rest),
+            Shape::Comment => self.commented(row, rest),
             Shape::Head | Shape::Other => self.said_on(alloc, cross, line, bytes, at),
         }
     }
@@ -62,15 +66,19 @@ impl Progress {
         ensures { Leaves result self.new
             (head_as cross line bytes.now self.old (shape_of (trimmed bytes.now))) }
     {
+        let row = Row { line, bytes };
         match shape_of(trimmed(bytes)) {
-            Shape::Directive => self.left_out(line, Inside::Directive, Mark::DirectiveEnd, bytes),
+            Shape::Directive => self.left_out(row, Inside::Directive, Mark::DirectiveEnd, bytes),
             Shape::Nothing => Ok(()),
-            Shape::Comment => self.commented(line, bytes),
+            Shape::Comment => self.commented(row, bytes),
             Shape::Head => {
                 self.begun = true;
                 self.body(alloc, cross, line, bytes, behind_head(bytes))
             }
-            Shape::Other => Err(ImportFault::Expected(line, Expectation::Diagram)),
+            Shape::Other => {
+                let found = row.position_of(behind_white(bytes));
+                Err(ImportFault::Expected(found, Expectation::Diagram))
+            }
         }
     }
 
@@ -117,29 +125,31 @@ impl Progress {
 
     /// Reads a line within a description: a comment ends nothing.
     #[tactic(auto, unfolding(crate::specs::Mermaid::described_as))]
-    fn described(&mut self, line: usize, bytes: &[u8]) -> Result<(), ImportFault>
+    pub(crate) fn described(&mut self, line: usize, bytes: &[u8]) -> Result<(), ImportFault>
         ensures { Leaves result self.new
             (described_as line bytes.now self.old (shape_of (trimmed bytes.now))) }
     {
+        let row = Row { line, bytes };
         match shape_of(trimmed(bytes)) {
             Shape::Nothing => Ok(()),
             Shape::Directive => {
-                if closed(line, Mark::DirectiveEnd, bytes)? {
+                if closed(row, Mark::DirectiveEnd, bytes)? {
                     return Ok(());
                 }
-                Err(ImportFault::Expected(line, Expectation::Directive))
+                let end = row.position_of(&[]);
+                Err(ImportFault::Expected(end, Expectation::Directive))
             }
-            Shape::Comment => self.commented(line, bytes),
+            Shape::Comment => self.commented(row, bytes),
             Shape::Head | Shape::Other => {
-                let text = undirected(line, bytes)?;
-                self.left_out(line, Inside::Description, Mark::DescriptionEnd, text)
+                let text = undirected(row, bytes)?;
+                self.left_out(row, Inside::Description, Mark::DescriptionEnd, text)
             }
         }
     }
 
     /// Reads one line more.
     #[tactic(auto, unfolding(crate::specs::Mermaid::step, crate::specs::Mermaid::step_in))]
-    fn step(
+    pub(crate) fn step(
         &mut self,
         alloc: Global,
         cross: Option<Cross>,
@@ -162,9 +172,11 @@ impl Progress {
                 Ok(())
             }
             Inside::Directive => {
-                self.left_out(line, Inside::Directive, Mark::DirectiveEnd, bytes)
+                let row = Row { line, bytes };
+                self.left_out(row, Inside::Directive, Mark::DirectiveEnd, bytes)
             }
             Inside::Description => self.described(line, bytes),
+            Inside::Configuration => self.configured(alloc, cross, line, bytes),
         }
     }
 
@@ -183,24 +195,57 @@ impl Progress {
         Ok(())
     }
 
-    /// The diagram, where nothing lacks at the end of a text with so many lines.
+    /// The diagram, where nothing lacks at the end of a text, which is here.
     #[tactic(auto, unfolding(crate::specs::Mermaid::ended_in))]
-    fn ended(self, last: usize) -> Result<Diagram, ImportFault>
-        ensures { Gives (λ x. x) result (ended_in last self self.inside) }
+    pub(crate) fn ended(self, here: Position) -> Result<Diagram, ImportFault>
+        ensures { Gives (λ x. x) result (ended_in here self self.inside) }
     {
         let Progress {
             inside,
             begun,
             reader,
+            waiting,
         } = self;
         match inside {
-            Inside::Front => Err(ImportFault::Expected(last, Expectation::Front)),
-            Inside::Directive => Err(ImportFault::Expected(last, Expectation::Directive)),
-            Inside::Description => Err(ImportFault::Expected(last, Expectation::Description)),
+            Inside::Front => Err(ImportFault::Expected(here, Expectation::Front)),
+            Inside::Directive => Err(ImportFault::Expected(here, Expectation::Directive)),
+            Inside::Description => Err(ImportFault::Expected(here, Expectation::Description)),
+            Inside::Configuration => {
+                Err(ImportFault::Expected(waiting.here, Expectation::Description))
+            }
             _ if begun => reader.finish(),
-            _ => Err(ImportFault::Expected(last, Expectation::Diagram)),
+            _ => Err(ImportFault::Expected(here, Expectation::Diagram)),
         }
     }
+}
+
+/// Where a text of these lines ends. It takes no memory.
+pub fn end_of(lines: &[&[u8]]) -> Position
+    ensures { result ≡ end_of (map (λ x. x.now) lines.now) }
+{
+    let line = lines.len();
+    match lines.last() {
+        None => Position { line, column: 1 },
+        Some(last) => Row { line, bytes: last }.position_of(&[]),
+    }
+}
+
+/// Where the first byte stands that is no white space, in a text of these lines; and else its end. It
+/// takes no memory.
+pub fn beginning_of(lines: &[&[u8]]) -> Position
+    ensures { result ≡ first_line_place 1 (map (λ x. x.now) lines.now)
+        (end_of (map (λ x. x.now) lines.now)) }
+{
+    for i in 0..lines.len() {
+        if !is_white(lines[i]) {
+            let row = Row {
+                line: i + 1,
+                bytes: lines[i],
+            };
+            return row.position_of(behind_white(lines[i]));
+        }
+    }
+    end_of(lines)
 }
 
 /// The diagram of these lines.
@@ -212,9 +257,10 @@ fn said_in(alloc: Global, cross: Option<Cross>, lines: &[&[u8]]) -> Result<Diagr
         inside: Inside::Start,
         begun: false,
         reader: Reader::new(alloc),
+        waiting: Waiting::new(alloc),
     };
     progress.steps(alloc, cross, lines)?;
-    progress.ended(lines.len())
+    progress.ended(end_of(lines))
 }
 
 /// The diagram of a Mermaid text, or its first fault. Where it isn't said what crosses are, one that

@@ -12,6 +12,7 @@ use crate::key::Mark;
 use crate::seeking::{Sought, holds};
 use crate::white::trimmed;
 use listed::Listed;
+use msc_place::Position;
 use std::alloc::{AllocError, Global};
 
 /// These bytes, in memory of their own.
@@ -68,7 +69,7 @@ fn ends_in_dash(bytes: &[u8]) -> bool
 }
 
 /// Whether the bytes are a name.
-fn is_name(bytes: &[u8]) -> bool
+pub(crate) fn is_name(bytes: &[u8]) -> bool
     ensures { result ≡ is_name bytes.now }
 {
     !(bytes.is_empty() || has_barred(bytes) || holds_barred(bytes) || ends_in_dash(bytes))
@@ -76,12 +77,12 @@ fn is_name(bytes: &[u8]) -> bool
 
 /// The name that stands here, without white space at its ends.
 #[tactic(auto, unfolding(crate::specs::Names::name_at))]
-pub(crate) fn name_at(line: usize, bytes: &[u8]) -> Result<&[u8], ImportFault>
-    ensures { Gives (λ x. x.now) result (name_at line bytes.now) }
+pub(crate) fn name_at(here: Position, bytes: &[u8]) -> Result<&[u8], ImportFault>
+    ensures { Gives (λ x. x.now) result (name_at here bytes.now) }
 {
     let name = trimmed(bytes);
     if !is_name(name) {
-        return Err(ImportFault::Expected(line, Expectation::Name));
+        return Err(ImportFault::Expected(here, Expectation::Name));
     }
     Ok(name)
 }
@@ -109,42 +110,42 @@ fn is_central(bytes: &[u8]) -> bool
 
 /// The name before `()`.
 #[tactic(auto, unfolding(crate::specs::Names::central_name))]
-fn central_name(line: usize, bytes: &[u8]) -> Result<&[u8], ImportFault>
-    ensures { Gives (λ x. x.now) result (central_name line bytes.now) }
+fn central_name(here: Position, bytes: &[u8]) -> Result<&[u8], ImportFault>
+    ensures { Gives (λ x. x.now) result (central_name here bytes.now) }
 {
-    let name = name_at(line, bytes)?;
+    let name = name_at(here, bytes)?;
     if has_joining(name) {
-        return Err(ImportFault::Expected(line, Expectation::Name));
+        return Err(ImportFault::Expected(here, Expectation::Name));
     }
     Ok(name)
 }
 
 /// The name before an arrow, with `()` or without.
 #[tactic(auto, unfolding(crate::specs::Names::sender))]
-pub(crate) fn sender(line: usize, bytes: &[u8]) -> Result<&[u8], ImportFault>
-    ensures { Gives (λ x. x.now) result (sender line bytes.now) }
+pub(crate) fn sender(here: Position, bytes: &[u8]) -> Result<&[u8], ImportFault>
+    ensures { Gives (λ x. x.now) result (sender here bytes.now) }
 {
     let front = trimmed(bytes);
     if is_central(front) {
-        central_name(line, &front[..front.len().saturating_sub(2)])
+        central_name(here, &front[..front.len().saturating_sub(2)])
     } else {
-        name_at(line, front)
+        name_at(here, front)
     }
 }
 
 /// What stands before a mark, and what stands behind it.
 #[tactic(auto, unfolding(crate::specs::Names::parted))]
 pub(crate) fn parted(
-    line: usize,
+    here: Position,
     mark: Mark,
     expected: Expectation,
     bytes: &[u8],
 ) -> Result<(&[u8], &[u8]), ImportFault>
-    ensures { Gives (λ x. (x.0.now, x.1.now)) result (parted line mark expected bytes.now) }
+    ensures { Gives (λ x. (x.0.now, x.1.now)) result (parted here mark expected bytes.now) }
 {
     let at = Sought::Text(mark).before(bytes);
     if at == bytes.len() {
-        return Err(ImportFault::Expected(line, expected));
+        return Err(ImportFault::Expected(here, expected));
     }
     Ok((&bytes[..at], mark.behind(&bytes[at..])))
 }

@@ -11,14 +11,15 @@ use crate::row::{Closer, Kind};
 use crate::statement::Statement;
 use crate::{DEPTH_LIMIT, LINE_LIMIT};
 use listed::Listed;
+use msc_place::Position;
 use std::alloc::Global;
 use std::marker::Model;
 
-/// A block that is open, and the line of the text on which it begins.
+/// A block that is open, and where it begins.
 #[derive(Clone, Copy)]
 pub(crate) struct Opened {
     pub kind: Kind,
-    pub line: usize,
+    pub start: Position,
 }
 
 /// The lines in the order in which they are declared or used first, and the blocks that are open,
@@ -80,16 +81,16 @@ impl Outline {
         }
     }
 
-    /// Meets a line, on this line of the text.
+    /// Meets a line, which a statement here names.
     #[tactic(auto, unfolding(crate::specs::Outlines::meets, crate::specs::Outlines::met))]
-    fn meet(&mut self, alloc: Global, line: usize, ident: &[u8]) -> Result<(), ImportFault>
-        ensures { Leaves result self.new (meets line ident.now self.old) }
+    fn meet(&mut self, alloc: Global, here: Position, ident: &[u8]) -> Result<(), ImportFault>
+        ensures { Leaves result self.new (meets here ident.now self.old) }
     {
         if is_known(self.lines.as_slice(), ident) {
             return Ok(());
         }
         if self.lines.len() >= LINE_LIMIT {
-            return Err(ImportFault::TooManyLines(line));
+            return Err(ImportFault::TooManyLines(here));
         }
         let ident = Listed::from_vec(Vec::from_slice(alloc, ident)?);
         self.lines.push(ident)?;
@@ -98,23 +99,23 @@ impl Outline {
 
     /// Begins a block.
     #[tactic(auto, unfolding(crate::specs::Outlines::laid))]
-    fn begin(&mut self, line: usize, kind: Kind) -> Result<(), ImportFault>
-        ensures { Leaves result self.new (laid line (Statement.Begins kind) self.old) }
+    fn begin(&mut self, here: Position, kind: Kind) -> Result<(), ImportFault>
+        ensures { Leaves result self.new (laid here (Statement.Begins kind) self.old) }
     {
         if self.opened.len() >= DEPTH_LIMIT {
-            return Err(ImportFault::TooDeep(line));
+            return Err(ImportFault::TooDeep(here));
         }
-        self.opened.push(Opened { kind, line })?;
+        self.opened.push(Opened { kind, start: here })?;
         Ok(())
     }
 
     /// Goes on with a block, or ends it.
     #[tactic(auto, unfolding(crate::specs::Outlines::laid))]
-    fn close(&mut self, line: usize, closer: Closer) -> Result<(), ImportFault>
-        ensures { Leaves result self.new (laid line (Statement.Closes closer) self.old) }
+    fn close(&mut self, here: Position, closer: Closer) -> Result<(), ImportFault>
+        ensures { Leaves result self.new (laid here (Statement.Closes closer) self.old) }
     {
         if !suits_last(closer, self.opened.as_slice()) {
-            return Err(ImportFault::Outside(line, closer));
+            return Err(ImportFault::Outside(here, closer));
         }
         if matches!(closer, Closer::End) {
             let _ended = self.opened.pop();
@@ -122,24 +123,24 @@ impl Outline {
         Ok(())
     }
 
-    /// Lays a statement, which stands on this line of the text.
+    /// Lays a statement, which begins here.
     #[tactic(auto, unfolding(crate::specs::Outlines::laid))]
     pub(crate) fn lay(
         &mut self,
         alloc: Global,
-        line: usize,
+        here: Position,
         statement: &Statement,
     ) -> Result<(), ImportFault>
-        ensures { Leaves result self.new (laid line statement.now self.old) }
+        ensures { Leaves result self.new (laid here statement.now self.old) }
     {
         match statement {
-            Statement::Declares(ident, _) => self.meet(alloc, line, ident.as_slice()),
+            Statement::Declares(ident, _) => self.meet(alloc, here, ident.as_slice()),
             Statement::Says(arrow) => {
-                self.meet(alloc, line, arrow.from.as_slice())?;
-                self.meet(alloc, line, arrow.to.as_slice())
+                self.meet(alloc, here, arrow.from.as_slice())?;
+                self.meet(alloc, here, arrow.to.as_slice())
             }
-            Statement::Begins(kind) => self.begin(line, *kind),
-            Statement::Closes(closer) => self.close(line, *closer),
+            Statement::Begins(kind) => self.begin(here, *kind),
+            Statement::Closes(closer) => self.close(here, *closer),
         }
     }
 
@@ -150,7 +151,7 @@ impl Outline {
     {
         let Outline { lines, opened } = self;
         if let Some(block) = opened.last() {
-            return Err(ImportFault::Unended(block.line));
+            return Err(ImportFault::Unended(block.start));
         }
         Ok(Listed::from_vec(lines))
     }

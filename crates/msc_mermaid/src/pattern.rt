@@ -68,7 +68,7 @@ pub(crate) fn word_length(bytes: &[u8]) -> usize
 }
 
 /// Whether a byte of a word stands at the front.
-pub(crate) fn begins_word(bytes: &[u8]) -> bool
+pub fn begins_word(bytes: &[u8]) -> bool
     ensures { result ≡ begins is_run_byte bytes.now }
 {
     match bytes {

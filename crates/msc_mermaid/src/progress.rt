@@ -1,22 +1,25 @@
 //! How far a Mermaid text was read, and the pieces of its lines.
 
-ghost use Rattle.std.specs.Prelude.{◌≡◌, ◌≤◌, ◌+◌, drop, length, map, take};
+ghost use Rattle.std.specs.Prelude.{◌≡◌, ◌≤◌, ◌+◌, drop, length, map, take, IfOk};
 ghost use Rattle.msc_mermaid.specs.Cutting.{room};
 ghost use Rattle.msc_mermaid.specs.Mermaid.{commented, goes_on, left_out, read_piece, read_pieces};
-ghost use Rattle.msc_mermaid.specs.Mermaid.{said_on, statement, stated, titled};
+ghost use Rattle.msc_mermaid.specs.Mermaid.{is_last, piece_said, put_off, said_on, statement};
+ghost use Rattle.msc_mermaid.specs.Mermaid.{stated, titled};
 ghost use Rattle.msc_mermaid.specs.Reading.{Leaves};
 
 use crate::cutting::{cut, leaves_open};
 use crate::fault::{Expectation, ImportFault};
 use crate::key::Mark;
-use crate::lines::counted;
+use crate::lines::{Row, counted};
 use crate::pattern::{Pattern, first_fit};
 use crate::reading::Reader;
 use crate::seeking::Sought;
 use crate::shape::{closed, is_commented, undirected};
 use crate::statement::Cross;
+use crate::waiting::{Waiting, is_unended};
 use crate::white::{behind_white, trimmed, white_in_front};
-use std::alloc::Global;
+use msc_place::Position;
+use std::alloc::{AllocError, Global};
 
 /// What a line, or the next piece of one, stands in.
 #[derive(Clone, Copy)]
@@ -31,6 +34,8 @@ pub(crate) enum Inside {
     Directive,
     /// In a description.
     Description,
+    /// In a configuration that goes on behind its line.
+    Configuration,
     /// In the rest of a line, which is left out.
     Rest,
 }
@@ -50,10 +55,11 @@ pub(crate) struct Progress {
     pub inside: Inside,
     pub begun: bool,
     pub reader: Reader,
+    pub waiting: Waiting,
 }
 
 /// The first bytes, so many.
-fn first(bytes: &[u8], count: usize) -> &[u8]
+pub(crate) fn first(bytes: &[u8], count: usize) -> &[u8]
     ensures { result.now ≡ take count bytes.now }
 {
     if count < bytes.len() {
@@ -73,19 +79,28 @@ fn behind(bytes: &[u8], count: usize) -> &[u8]
     &bytes[count..]
 }
 
+/// Whether nothing stands behind a piece on its line, where the line from it on is this, without
+/// white space in front.
+fn is_last(rest: &[u8], piece: &[u8]) -> bool
+    ensures { result ≡ is_last rest.now piece.now }
+{
+    rest.len() == behind_white(piece).len()
+}
+
 impl Progress {
     /// Passes on from a part that is left out, up to this mark: the rest of a line, if it ends here.
     #[tactic(auto, unfolding(crate::specs::Mermaid::left_out))]
     pub(crate) fn left_out(
         &mut self,
-        line: usize,
+        row: Row,
         part: Inside,
         mark: Mark,
         bytes: &[u8],
     ) -> Result<(), ImportFault>
-        ensures { Leaves result self.new (left_out line part mark bytes.now self.old) }
+        ensures { Leaves result self.new
+            (left_out row.entry.line row.entry.bytes.now part mark bytes.now self.old) }
     {
-        self.inside = if closed(line, mark, bytes)? {
+        self.inside = if closed(row, mark, bytes)? {
             Inside::Rest
         } else {
             part
@@ -94,23 +109,26 @@ impl Progress {
     }
 
     /// Passes a comment: a directive in it has to end in it.
-    pub(crate) fn commented(&mut self, line: usize, bytes: &[u8]) -> Result<(), ImportFault>
-        ensures { Leaves result self.new (commented line bytes.now self.old) }
+    pub(crate) fn commented(&mut self, row: Row, bytes: &[u8]) -> Result<(), ImportFault>
+        ensures { Leaves result self.new
+            (commented row.entry.line row.entry.bytes.now bytes.now self.old) }
     {
         if leaves_open(bytes) {
-            return Err(ImportFault::Expected(line, Expectation::Directive));
+            let end = row.position_of(&[]);
+            return Err(ImportFault::Expected(end, Expectation::Directive));
         }
         Ok(())
     }
 
-    /// Passes a title or a description in one line: it may not be empty, and takes the rest of the
-    /// line.
+    /// Passes a title or a description in one line, which begins in this column: it may not be empty,
+    /// and takes the rest of the line.
     #[tactic(auto, unfolding(crate::specs::Mermaid::titled))]
-    fn titled(&mut self, line: usize, text: &[u8]) -> Result<(), ImportFault>
-        ensures { Leaves result self.new (titled line text.now self.old) }
+    fn titled(&mut self, line: usize, column: usize, text: &[u8]) -> Result<(), ImportFault>
+        ensures { Leaves result self.new (titled line column text.now self.old) }
     {
         if trimmed(text).is_empty() {
-            return Err(ImportFault::Expected(line, Expectation::Statement));
+            let here = Position { line, column };
+            return Err(ImportFault::Expected(here, Expectation::Statement));
         }
         self.inside = Inside::Rest;
         Ok(())
@@ -119,7 +137,7 @@ impl Progress {
     /// Reads a statement, which begins in this column, and behind which the next one stands in this
     /// part.
     #[tactic(auto, unfolding(crate::specs::Mermaid::stated))]
-    fn stated(
+    pub(crate) fn stated(
         &mut self,
         alloc: Global,
         cross: Option<Cross>,
@@ -155,9 +173,25 @@ impl Progress {
         self.stated(alloc, cross, line, column, bytes, part)
     }
 
-    /// Reads the next piece of a line; the line from it on is rest.
-    #[tactic(auto, unfolding(crate::specs::Mermaid::read_piece))]
-    fn read_piece(
+    /// Passes on to the further lines of a statement, which begins in this column.
+    fn put_off(
+        &mut self,
+        alloc: Global,
+        line: usize,
+        column: usize,
+        bytes: &[u8],
+    ) -> Result<(), AllocError>
+        ensures { IfOk result (λ _. self.new ≡ put_off line column bytes.now self.old) }
+    {
+        self.waiting = Waiting::of(alloc, Position { line, column }, bytes)?;
+        self.inside = Inside::Configuration;
+        Ok(())
+    }
+
+    /// Reads a piece of a line that is a statement, or the first line of one whose configuration
+    /// goes on.
+    #[tactic(auto, unfolding(crate::specs::Mermaid::piece_said))]
+    fn said(
         &mut self,
         alloc: Global,
         cross: Option<Cross>,
@@ -167,27 +201,49 @@ impl Progress {
         piece: &[u8],
     ) -> Result<(), ImportFault>
         ensures { Leaves result self.new
-            (read_piece cross line column rest.now piece.now self.old) }
+            (piece_said cross line column rest.now piece.now self.old) }
+    {
+        let own = trimmed(piece);
+        if is_last(rest, piece) && is_unended(own) {
+            self.put_off(alloc, line, column, own)?;
+            return Ok(());
+        }
+        self.statement(alloc, cross, line, column, own)
+    }
+
+    /// Reads the next piece of a line; the line from it on is rest.
+    #[tactic(auto, unfolding(crate::specs::Mermaid::read_piece))]
+    fn read_piece(
+        &mut self,
+        alloc: Global,
+        cross: Option<Cross>,
+        row: Row,
+        column: usize,
+        rest: &[u8],
+        piece: &[u8],
+    ) -> Result<(), ImportFault>
+        ensures { Leaves result self.new (read_piece cross
+            row.entry.line row.entry.bytes.now column rest.now piece.now self.old) }
     {
         if !self.inside.goes_on() {
             return Ok(());
         }
         let here = behind_white(rest);
         if let Some(text) = first_fit(&[Pattern::AccTitle, Pattern::AccDescr], here) {
-            return self.titled(line, text);
+            return self.titled(row.line, column, text);
         }
         if let Some(text) = first_fit(&[Pattern::AccBlock], here) {
-            return self.left_out(line, Inside::Description, Mark::DescriptionEnd, text);
+            return self.left_out(row, Inside::Description, Mark::DescriptionEnd, text);
         }
         if Mark::Comment.begins(here) {
             self.inside = Inside::Rest;
             return Ok(());
         }
-        self.statement(alloc, cross, line, column, trimmed(piece))
+        self.said(alloc, cross, row.line, column, here, piece)
     }
 
     /// Reads the pieces of a line, of which the first one begins behind so many of its bytes.
-    fn read_pieces(
+    pub(crate) fn read_pieces(
         &mut self,
         alloc: Global,
         cross: Option<Cross>,
@@ -206,7 +262,7 @@ impl Progress {
             let rest = behind(bytes, at);
             let white = first(rest, white_in_front(piece));
             let own = column + counted(white);
-            self.read_piece(alloc, cross, line, own, rest, piece)?;
+            self.read_piece(alloc, cross, Row { line, bytes }, own, rest, piece)?;
             let passed = first(rest, piece.len() + 1);
             column += counted(passed);
             at += piece.len() + 1;
@@ -228,7 +284,7 @@ impl Progress {
         ensures { Leaves result self.new (said_on cross line bytes.now at self.old) }
     {
         let rest = &bytes[at..];
-        undirected(line, rest)?;
+        undirected(Row { line, bytes }, rest)?;
         let pieces = cut(alloc, rest)?;
         self.read_pieces(alloc, cross, line, bytes, at, pieces.as_slice())
     }

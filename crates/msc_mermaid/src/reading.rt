@@ -9,6 +9,7 @@ use crate::outline::Outline;
 use crate::saying::{Mode, Said, said_at};
 use crate::statement::{Cross, Diagram, Placed, Statement};
 use listed::Listed;
+use msc_place::Position;
 use std::alloc::Global;
 use std::marker::Model;
 
@@ -92,7 +93,8 @@ impl Reader {
                 Ok(())
             }
             Said::Statement(statement) => {
-                self.outline.lay(alloc, line, &statement)?;
+                self.outline
+                    .lay(alloc, Position { line, column }, &statement)?;
                 let arrow = is_arrow(&statement);
                 self.said.push(Placed {
                     line,
@@ -125,7 +127,7 @@ impl Reader {
             cross,
             dying: self.dying.as_slice(),
         };
-        let said = said_at(alloc, mode, line, bytes)?;
+        let said = said_at(alloc, mode, Position { line, column }, bytes)?;
         self.note(alloc, line, column, said)
     }
 }

@@ -16,6 +16,7 @@ use crate::seeking::Sought;
 use crate::statement::{Arrow, Cross, Fate, Statement};
 use crate::white::behind_white;
 use listed::Listed;
+use msc_place::Position;
 use std::alloc::Global;
 
 /// What a statement says of what follows.
@@ -39,11 +40,11 @@ pub(crate) struct Mode<'m> {
 
 /// What stands behind an arrow, where that is no other arrow that begins with a dash.
 #[tactic(auto, unfolding(crate::specs::Saying::no_second))]
-fn no_second(line: usize, bytes: &[u8]) -> Result<&[u8], ImportFault>
-    ensures { Gives (λ x. x.now) result (no_second line bytes.now) }
+fn no_second(here: Position, bytes: &[u8]) -> Result<&[u8], ImportFault>
+    ensures { Gives (λ x. x.now) result (no_second here bytes.now) }
 {
     if begins_dash(bytes) && Head::of(bytes).is_some() {
-        return Err(ImportFault::Expected(line, Expectation::Name));
+        return Err(ImportFault::Expected(here, Expectation::Name));
     }
     Ok(bytes)
 }
@@ -101,21 +102,21 @@ fn fate_of(cross: Option<Cross>, dying: &[Listed<u8>], head: Head, from: &[u8], 
 fn arrow_by(
     alloc: Global,
     mode: Mode,
-    line: usize,
+    here: Position,
     head: Head,
     front: &[u8],
     rest: &[u8],
 ) -> Result<Arrow, ImportFault>
     ensures { Gives (λ x. x) result
-        (arrow_by mode.entry.cross mode.entry.dying.now line head front.now rest.now) }
+        (arrow_by mode.entry.cross mode.entry.dying.now here head front.now rest.now) }
 {
     if head.is_leftward() {
-        return Err(ImportFault::Unsupported(line, head));
+        return Err(ImportFault::Unsupported(here, head));
     }
-    let from = sender(line, front)?;
-    let behind = no_second(line, behind_white(rest))?;
-    let parts = parted(line, Mark::Colon, Expectation::Label, behind_sign(behind))?;
-    let to = name_at(line, parts.0)?;
+    let from = sender(here, front)?;
+    let behind = no_second(here, behind_white(rest))?;
+    let parts = parted(here, Mark::Colon, Expectation::Label, behind_sign(behind))?;
+    let to = name_at(here, parts.0)?;
     let fate = fate_of(mode.cross, mode.dying, head, from, to);
     Ok(Arrow {
         from: owned(alloc, from)?,
@@ -128,16 +129,16 @@ fn arrow_by(
 
 /// The arrow of a statement.
 #[tactic(auto, unfolding(crate::specs::Saying::arrow_of))]
-fn arrow_of(alloc: Global, mode: Mode, line: usize, bytes: &[u8]) -> Result<Arrow, ImportFault>
-    ensures { Gives (λ x. x) result (arrow_of mode.entry.cross mode.entry.dying.now line bytes.now) }
+fn arrow_of(alloc: Global, mode: Mode, here: Position, bytes: &[u8]) -> Result<Arrow, ImportFault>
+    ensures { Gives (λ x. x) result (arrow_of mode.entry.cross mode.entry.dying.now here bytes.now) }
 {
     let at = Sought::Arrow.before(bytes);
     match Head::of(&bytes[at..]) {
-        None => Err(ImportFault::Expected(line, Expectation::Statement)),
+        None => Err(ImportFault::Expected(here, Expectation::Statement)),
         Some(head) => arrow_by(
             alloc,
             mode,
-            line,
+            here,
             head,
             &bytes[..at],
             &bytes[at + head.length()..],
@@ -150,31 +151,31 @@ fn arrow_of(alloc: Global, mode: Mode, line: usize, bytes: &[u8]) -> Result<Arro
 fn said_as(
     alloc: Global,
     mode: Mode,
-    line: usize,
+    here: Position,
     bytes: &[u8],
     meaning: Meaning,
     rest: &[u8],
 ) -> Result<Said, ImportFault>
     ensures { Gives (λ x. x) result
-        (said_as mode.entry.cross mode.entry.dying.now line bytes.now meaning rest.now) }
+        (said_as mode.entry.cross mode.entry.dying.now here bytes.now meaning rest.now) }
 {
     match meaning {
         Meaning::Nothing => Ok(Said::Nothing),
-        Meaning::Refused => Err(ImportFault::Expected(line, Expectation::Statement)),
-        Meaning::Declaration => Ok(Said::Statement(declared(alloc, line, rest)?)),
-        Meaning::Destruction => Ok(Said::Dies(owned(alloc, name_at(line, rest)?)?)),
+        Meaning::Refused => Err(ImportFault::Expected(here, Expectation::Statement)),
+        Meaning::Declaration => Ok(Said::Statement(declared(alloc, here, rest)?)),
+        Meaning::Destruction => Ok(Said::Dies(owned(alloc, name_at(here, rest)?)?)),
         Meaning::Begin(kind) => Ok(Said::Statement(Statement::Begins(kind))),
         Meaning::Close(closer) => Ok(Said::Statement(Statement::Closes(closer))),
         Meaning::Activation => {
-            name_at(line, rest)?;
+            name_at(here, rest)?;
             Ok(Said::Nothing)
         }
         Meaning::Links => {
-            let parts = parted(line, Mark::Colon, Expectation::Statement, rest)?;
-            name_at(line, parts.0)?;
+            let parts = parted(here, Mark::Colon, Expectation::Statement, rest)?;
+            name_at(here, parts.0)?;
             Ok(Said::Nothing)
         }
-        Meaning::Arrow => Ok(Said::Statement(Statement::Says(arrow_of(alloc, mode, line, bytes)?))),
+        Meaning::Arrow => Ok(Said::Statement(Statement::Says(arrow_of(alloc, mode, here, bytes)?))),
     }
 }
 
@@ -183,11 +184,11 @@ fn said_as(
 pub(crate) fn said_at(
     alloc: Global,
     mode: Mode,
-    line: usize,
+    here: Position,
     bytes: &[u8],
 ) -> Result<Said, ImportFault>
-    ensures { Gives (λ x. x) result (said_at mode.entry.cross mode.entry.dying.now line bytes.now) }
+    ensures { Gives (λ x. x) result (said_at mode.entry.cross mode.entry.dying.now here bytes.now) }
 {
     let (meaning, rest) = meaning_of(bytes);
-    said_as(alloc, mode, line, bytes, meaning, rest)
+    said_as(alloc, mode, here, bytes, meaning, rest)
 }

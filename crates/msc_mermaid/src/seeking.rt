@@ -1,10 +1,11 @@
 //! The first place at which something stands.
 
-ghost use Rattle.std.specs.Prelude.{◌≡◌, ◌≤◌, length};
-ghost use Rattle.msc_mermaid.specs.Seeking.{before, holds, is_alias, is_here};
+ghost use Rattle.std.specs.Prelude.{◌≡◌, ◌≤◌, length, take};
+ghost use Rattle.msc_mermaid.specs.Seeking.{before, entity_in, from_entity, holds, is_alias, is_here};
 
 use crate::head::Head;
 use crate::key::Mark;
+use crate::markup::markup_entity;
 use crate::white::{begins_white, behind_one};
 
 /// What is sought.
@@ -16,6 +17,8 @@ pub(crate) enum Sought {
     Arrow,
     /// White space, `as` and white space.
     Alias,
+    /// An entity of HTML.
+    Entity,
 }
 
 /// Whether `as` and white space stand here.
@@ -34,6 +37,7 @@ impl Sought {
             Sought::Text(mark) => mark.begins(bytes),
             Sought::Arrow => Head::of(bytes).is_some(),
             Sought::Alias => begins_white(bytes) && is_alias(behind_one(bytes)),
+            Sought::Entity => markup_entity(bytes) > 0,
         }
     }
 
@@ -56,4 +60,30 @@ pub(crate) fn holds(bytes: &[u8], sought: Sought) -> bool
     ensures { result ≡ holds bytes.now sought }
 {
     sought.before(bytes) < bytes.len()
+}
+
+/// The first bytes, so many, or all of them.
+fn first(bytes: &[u8], count: usize) -> &[u8]
+    ensures { result.now ≡ take count bytes.now }
+{
+    if count < bytes.len() {
+        &bytes[..count]
+    } else {
+        bytes
+    }
+}
+
+/// What stands from the first entity of HTML on, and nothing if there is none.
+pub(crate) fn from_entity(bytes: &[u8]) -> &[u8]
+    ensures { result.now ≡ from_entity bytes.now }
+{
+    &bytes[Sought::Entity.before(bytes)..]
+}
+
+/// The first entity of HTML in the bytes, or nothing.
+pub fn entity_in(bytes: &[u8]) -> &[u8]
+    ensures { result.now ≡ entity_in bytes.now }
+{
+    let rest = from_entity(bytes);
+    first(rest, markup_entity(rest))
 }

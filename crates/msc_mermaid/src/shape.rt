@@ -7,10 +7,11 @@ ghost use Rattle.msc_mermaid.specs.Mermaid.{is_head, shape_of, undirected};
 
 use crate::fault::{Expectation, ImportFault};
 use crate::key::{Key, Mark};
+use crate::lines::Row;
 use crate::pattern::begins_word;
 use crate::row::first_word;
 use crate::seeking::{Sought, holds};
-use crate::white::trimmed;
+use crate::white::{behind_white, trimmed};
 
 /// What a line is.
 #[derive(Clone, Copy)]
@@ -66,27 +67,33 @@ pub(crate) fn shape_of(bytes: &[u8]) -> Shape
     Shape::Other
 }
 
-/// Whether what is left out ends on this line, behind the mark.
+/// Whether what is left out ends in these bytes, which end the line, behind the mark.
 #[tactic(auto, unfolding(crate::specs::Mermaid::closed))]
-pub(crate) fn closed(line: usize, mark: Mark, bytes: &[u8]) -> Result<bool, ImportFault>
-    ensures { Gives (λ x. x) result (closed line mark bytes.now) }
+pub(crate) fn closed(row: Row, mark: Mark, bytes: &[u8]) -> Result<bool, ImportFault>
+    ensures { Gives (λ x. x) result
+        (closed row.entry.line row.entry.bytes.now mark bytes.now) }
 {
     let at = Sought::Text(mark).before(bytes);
     if at == bytes.len() {
         return Ok(false);
     }
-    if !trimmed(mark.behind(&bytes[at..])).is_empty() {
-        return Err(ImportFault::Expected(line, Expectation::LineEnd));
+    let rest = mark.behind(&bytes[at..]);
+    if !trimmed(rest).is_empty() {
+        let found = row.position_of(behind_white(rest));
+        return Err(ImportFault::Expected(found, Expectation::LineEnd));
     }
     Ok(true)
 }
 
-/// A line in which no directive may stand.
-pub(crate) fn undirected(line: usize, bytes: &[u8]) -> Result<&[u8], ImportFault>
-    ensures { Gives (λ x. x.now) result (undirected line bytes.now) }
+/// The end of a line, in which no directive may stand.
+pub(crate) fn undirected<'t>(row: Row, bytes: &'t [u8]) -> Result<&'t [u8], ImportFault>
+    ensures { Gives (λ x. x.now) result
+        (undirected row.entry.line row.entry.bytes.now bytes.now) }
 {
-    if holds(bytes, Sought::Text(Mark::Directive)) {
-        return Err(ImportFault::Expected(line, Expectation::Statement));
+    let at = Sought::Text(Mark::Directive).before(bytes);
+    if at < bytes.len() {
+        let found = row.position_of(&bytes[at..]);
+        return Err(ImportFault::Expected(found, Expectation::Statement));
     }
     Ok(bytes)
 }

@@ -2,6 +2,7 @@
 //! has spaces and tabs instead (`lines`).
 
 ghost use Rattle.std.specs.Prelude.{◌≡◌, ◌≤◌, ◌<◌, ◌^◌, ◌+◌, ◌-◌, ◌==◌, cond, drop, get_or, length};
+ghost use Rattle.msc_mermaid.specs.Patterns.{is_empty};
 ghost use Rattle.msc_mermaid.specs.White.{ahead, before_white, begins_white, behind_white, body};
 ghost use Rattle.msc_mermaid.specs.White.{front, is_general, is_one, is_three, is_two, trimmed};
 ghost use Rattle.msc_mermaid.specs.White.{white, width};
@@ -155,4 +156,11 @@ pub fn trimmed(bytes: &[u8]) -> &[u8]
     ensures { result.now ≡ trimmed bytes.now }
 {
     before_white(behind_white(bytes))
+}
+
+/// Whether there is nothing but white space.
+pub(crate) fn is_white(bytes: &[u8]) -> bool
+    ensures { result ≡ is_empty (trimmed bytes.now) }
+{
+    trimmed(bytes).is_empty()
 }

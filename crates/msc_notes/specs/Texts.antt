@@ -6,7 +6,7 @@ use Rattle.msc_place.specs.Texts.{place_text}
 use Rattle.msc_place.specs.declared.position.Position.{Position}
 use Rattle.msc_notes.specs.declared.note.Note.{Note}
 use Rattle.msc_notes.specs.declared.note.Tag.{Tag}
-use Rattle.msc_notes.specs.declared.note.Tag.TheVariants.{Behind, First}
+use Rattle.msc_notes.specs.declared.note.Tag.TheVariants.{Behind, First, Opened}
 use Rattle.msc_notes.specs.Notes.{word_of}
 
 -- what stands behind the first word of a note
@@ -22,6 +22,7 @@ note_words n = word_of n.tag ++ behind_word n.text
 abbrev pub placed_words : Tag → Note → List ℕ
 placed_words Behind n = codes "what stands before ends here"
 placed_words First n = codes "the first one stands here"
+placed_words Opened n = codes "it is opened here"
 placed_words tag n = note_words n
 
 -- where a note stands: at its own place, at the first of its two, or at that of its fault; of a fault

@@ -28,6 +28,10 @@ pub enum Tag {
     Drawn,
     /// Two steps of a ring: an output and its input.
     Sent,
+    /// Where a part begins that has no end.
+    Opened,
+    /// The block that is open at the fault.
+    Inside,
 }
 
 impl Tag {
@@ -46,6 +50,8 @@ impl Tag {
             Tag::Near => "near",
             Tag::Drawn => "drawn",
             Tag::Sent => "sent",
+            Tag::Opened => "opened",
+            Tag::Inside => "inside",
         }
     }
 }

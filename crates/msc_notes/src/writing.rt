@@ -90,6 +90,7 @@ fn write_placed_words<W: Write>(writer: &mut W, note: &Note) -> io::Result<()>
     match note.tag {
         Tag::Behind => writer.write_all(b"what stands before ends here"),
         Tag::First => writer.write_all(b"the first one stands here"),
+        Tag::Opened => writer.write_all(b"it is opened here"),
         _ => write_words(writer, note),
     }
 }

@@ -1,6 +1,8 @@
 -- Ways through statements, one more at a time.
-use Rattle.std.proofs.Common.{◌≡◌, ◌<◌, ◌≤◌, ℕ, zero, suc, ◌+◌, List, [], ◌∷◌, length, get_or, drop, map, refl, ap, ◌∙◌}
+use Rattle.std.proofs.Common.{◌≡◌, ◌<◌, ◌≤◌, ℕ, zero, suc, ◌+◌, List, [], ◌∷◌, length, get_or, drop, map, refl, ap, ◌∙◌, arith}
+use Rattle.std.proofs.lemmas.Bool.Decides.{nat_tests}
 use Rattle.std.proofs.lemmas.List.{drop_more, drop_all}
+use Rattle.msc_scenarios.specs.declared.TheConstants.{SCENARIO_LIMIT}
 use Rattle.msc_scenarios.specs.declared.counting.Ways.{Ways}
 use Rattle.msc_mermaid.specs.declared.statement.Placed.{Placed}
 use Rattle.msc_scenarios.specs.Courses.{owned_by}
@@ -15,6 +17,11 @@ pub repeated_none : (body : Ways) (m : ℕ) (w : Ways) → m ≡ 0 → repeated 
 unfolding repeated
 repeated_none body m w e = ap (λ x. repeated body x w) e
 
+-- a round that changes nothing is the last one that does
+pub repeated_still : (body : Ways) (m : ℕ) (w : Ways) → behind w body ≡ w → repeated body m w ≡ w
+repeated_still body zero w e = repeated_none body 0 w refl
+repeated_still body (suc m) w e = repeated_more body (suc m) m w refl ∙ ap (repeated body m) e ∙ repeated_still body m w e
+
 -- one number of rounds more
 pub rounds_cons : (body : Ways) (r : ℕ) (rs : List ℕ) (n : ℕ) → by_rounds body (r ∷ rs) n ≡ by_rounds body rs (plus n (all (repeated body r (unbroken 1))))
 unfolding by_rounds
@@ -23,6 +30,15 @@ rounds_cons body r rs n = refl
 pub rounds_none : (body : Ways) (n : ℕ) → by_rounds body [] n ≡ n
 unfolding by_rounds
 rounds_none body n = refl
+
+past_limit : (n : ℕ) → plus (SCENARIO_LIMIT + 1) n ≡ SCENARIO_LIMIT + 1
+past_limit n = grind (arith, nat_tests)
+
+-- past the limit the number stays
+pub rounds_past : (body : Ways) (rs : List ℕ) → by_rounds body rs (SCENARIO_LIMIT + 1) ≡ SCENARIO_LIMIT + 1
+rounds_past body [] = rounds_none body (SCENARIO_LIMIT + 1)
+rounds_past body (r ∷ rs) =
+    rounds_cons body r rs (SCENARIO_LIMIT + 1) ∙ ap (by_rounds body rs) (past_limit (all (repeated body r (unbroken 1)))) ∙ rounds_past body rs
 
 module _ (body : Ways) (rs : List ℕ) (i n : ℕ) where
   pub rounds_more : (d : ℕ) → i < length rs → by_rounds body (drop i rs) n ≡ by_rounds body (drop (i + 1) rs) (plus n (all (repeated body (get_or rs i d) (unbroken 1))))

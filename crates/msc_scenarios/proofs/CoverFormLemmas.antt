@@ -9,6 +9,7 @@ use Rattle.msc_scenarios.specs.declared.course.Ending.TheVariants as ends
 use Rattle.msc_scenarios.specs.declared.course.Form.{Form}
 use Rattle.msc_scenarios.specs.declared.course.Form.TheVariants as forms
 use Rattle.msc_scenarios.specs.declared.course.Step.TheVariants as steps
+use Rattle.msc_place.specs.declared.position.Position.{Position}
 use Rattle.msc_mermaid.specs.declared.statement.Placed.{Placed}
 use Rattle.msc_scenarios.specs.Choosing as choosing
 use Rattle.msc_scenarios.specs.Choosing.{Chooser, behind, by_branches, by_options, by_rounds, by_sides, chosen, healed, repeated, straight}
@@ -86,7 +87,7 @@ module _ (inner : Chooser) (walker : Walker) (same : (b : List Placed) (rs : Lis
   cover_branch c f h first b firsts is =
       cover_under c (λ w. then (f w) (walker b rs)) h (behind first (inner b)) is (cover_behind f (walker b rs) first (inner b) firsts (same b rs))
 
-  module _ (line : ℕ) (bs : List (List Placed)) where
+  module _ (line : Position) (bs : List (List Placed)) where
     abbrev takes : Form → Walk → Walk
     takes form = taking line (most_of form (length bs)) (main_of form) (follow walker form bs rs)
 

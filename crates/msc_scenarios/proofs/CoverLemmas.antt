@@ -3,6 +3,7 @@ use Rattle.std.proofs.Common.{◌≡◌, ◌⊎◌, inl, inr, ℕ, ◌+◌, Bool
 use Rattle.std.proofs.lemmas.List.{append-nil}
 use Rattle.msc_scenarios.specs.declared.way.Way.{Way}
 use Rattle.msc_scenarios.specs.declared.course.Ending.TheVariants as ends
+use Rattle.msc_place.specs.declared.position.Position.{Position}
 use Rattle.msc_mermaid.specs.declared.fault.ImportFault.{ImportFault}
 use Rattle.msc_mermaid.specs.declared.fault.ImportFault.TheVariants.{Choice}
 use Rattle.msc_scenarios.specs.declared.course.Step.{Step}
@@ -175,7 +176,7 @@ pub cover_more : (c : ℕ) (f : Walk → Walk) (ws vs : List Way) → ((P : Way 
 cover_more c f ws vs e k = record { ways = λ w i. under_more c w (f w) ws vs e (k.ways w i) }
 
 -- a block takes a choice that it has, or stops
-module _ (line most main : ℕ) (h : ℕ → Walk → Walk) (ws : List Way) (each : (c : ℕ) → nat_le c most ≡ true → CoversUnder c (h c) ws) where
+module _ (line : Position) (most main : ℕ) (h : ℕ → Walk → Walk) (ws : List Way) (each : (c : ℕ) → nat_le c most ≡ true → CoversUnder c (h c) ws) where
   choose_is : (w : Walk) (c : ℕ) (t : Bool) → nat_le (choice_of main w) most ≡ t → choose line most main w ≡ cond t (with_choice (choice_of main w) w) (ended (ends.Stopped (Choice line (length w.taken + 1) most)) (with_choice (choice_of main w) w))
   unfolding choose
   choose_is w c t e =

@@ -2,6 +2,7 @@
 use Rattle.std.proofs.Common.{◌≡◌, ◌⊎◌, inl, inr, ◌<◌, ◌≤◌, ℕ, zero, suc, ◌+◌, Bool, true, false, cond, nat_le, ◌==◌, Result, Ok, Err, List, [], ◌∷◌, ◌++◌, length, map, take, refl, sym, ap, ◌∙◌, subst, arith}
 use Rattle.std.specs.List.{Contains, onto_first, slice_index_or}
 use Rattle.std.proofs.lemmas.Bool.{false≢true, leb-true}
+use Rattle.msc_place.specs.declared.position.Position.{Position}
 use Rattle.msc_mermaid.specs.declared.TheConstants.{DEPTH_LIMIT}
 use Rattle.msc_scenarios.specs.declared.TheConstants.{ARROW_LIMIT, ROUND_LIMIT}
 use Rattle.msc_scenarios.specs.declared.way.Way.{Way}
@@ -19,7 +20,7 @@ use Rattle.msc_mermaid.specs.declared.statement.Statement.TheVariants.{Declares,
 use Rattle.msc_scenarios.specs.Choosing as choosing
 use Rattle.msc_scenarios.specs.Choosing.{Chooser, all_choices, behind, by_fate, chosen, straight}
 use Rattle.msc_scenarios.specs.Courses as courses
-use Rattle.msc_scenarios.specs.Courses.{Walk, Walker, branches_in, choice_of, choose, deeper, ended, extent, form_of, heads, is_choice, is_loss, is_there, joins_at, meet, message_of, owned_by, said, then, unbroken, walk, walk_on, at_rest, unended}
+use Rattle.msc_scenarios.specs.Courses.{Walk, Walker, branches_in, choice_of, choose, deeper, ended, extent, form_of, heads, is_choice, is_loss, is_there, joins_at, meet, message_of, owned_by, said, then, unbroken, walk, walk_on, at_rest, unended, start_of}
 use Rattle.msc_scenarios.specs.Laws.{Takes, walked}
 use Rattle.msc_scenarios.proofs.ChoiceLemmas as choices
 use Rattle.msc_scenarios.proofs.CoverFormLemmas.{cover_formed}
@@ -54,14 +55,14 @@ meet_passes p a lost rs v e =
       arrows = v.arrows + heads a;
       ending = v.ending;
     } in
-    let stopped = ended (ends.Stopped (TooManyArrows p.line)) v in
+    let stopped = ended (ends.Stopped (TooManyArrows (start_of p))) v in
     elim (nat_le (v.arrows + heads a) ARROW_LIMIT) as (λ t. IsStopped (cond t met stopped) ⊎ Kept v (cond t met stopped)) [
       | true ↦ inr (record { given = refl; taken = refl; ending = e })
-      | false ↦ inl (TooManyArrows p.line, refl)
+      | false ↦ inl (TooManyArrows (start_of p), refl)
     ]
 
 -- no break is among what an arrow does
-meet_unbroken : (p : Placed) (a : Arrow) (lost : Bool) (rs : List ℕ) (v : Walk) → v.ending ≡ ends.Goes → meet p a lost rs v ≡ unbroken (meet p a lost rs v)
+pub meet_unbroken : (p : Placed) (a : Arrow) (lost : Bool) (rs : List ℕ) (v : Walk) → v.ending ≡ ends.Goes → meet p a lost rs v ≡ unbroken (meet p a lost rs v)
 unfolding meet
 meet_unbroken p a lost rs v e =
     let met : Walk = record {
@@ -72,7 +73,7 @@ meet_unbroken p a lost rs v e =
       arrows = v.arrows + heads a;
       ending = v.ending;
     } in
-    let stopped = ended (ends.Stopped (TooManyArrows p.line)) v in
+    let stopped = ended (ends.Stopped (TooManyArrows (start_of p))) v in
     elim (nat_le (v.arrows + heads a) ARROW_LIMIT) as (λ t. cond t met stopped ≡ unbroken (cond t met stopped)) [
       | true ↦ sym (unbroken_going met e)
       | false ↦ refl
@@ -96,9 +97,9 @@ module _ (p : Placed) (a : Arrow) (rs : List ℕ) where
   cover_said : (f : Walk → Walk) (ws : List Way) → Covers f ws → Covers (λ w. then (f w) (said p a rs)) (cond (is_choice a) (behind ws by_fate) ws)
   unfolding said
   cover_said f ws h =
-      let lost = is_loss a.fate in let taken = λ (v : Walk). then (choose p.line 1 0 v) (by_choice (choice_of 0 v)) in
+      let lost = is_loss a.fate in let taken = λ (v : Walk). then (choose (start_of p) 1 0 v) (by_choice (choice_of 0 v)) in
       elim (is_choice a) as (λ t. Covers (λ w. then (f w) (λ v. cond t (taken v) (meet p a lost rs v))) (cond t (behind ws by_fate) ws)) [
-        | true ↦ cover_behind f taken ws by_fate h (cover_taking p.line 1 0 by_choice by_fate each_fate)
+        | true ↦ cover_behind f taken ws by_fate h (cover_taking (start_of p) 1 0 by_choice by_fate each_fate)
         | false ↦ cover_passed f (meet p a lost rs) ws (meet_passes p a lost rs) h
       ]
 
@@ -107,7 +108,7 @@ module _ (inner : Chooser) (walker : Walker) (same : (b : List Placed) (rs : Lis
     cover_nothing : Covers (λ w. then (f w) (λ v. v)) ws
     cover_nothing = cover_when f (λ w. then (f w) (λ v. v)) ws (λ w e. then_same (f w)) h
 
-    cover_block : (line : ℕ) (kind : Kind) (inside : List Placed) → Covers (λ w. then (f w) (courses.block walker line kind inside rs)) (choosing.block inner rounds kind inside ws)
+    cover_block : (line : Position) (kind : Kind) (inside : List Placed) → Covers (λ w. then (f w) (courses.block walker line kind inside rs)) (choosing.block inner rounds kind inside ws)
     unfolding courses.block choosing.block
     cover_block line kind inside =
         let bs = branches_in 0 inside in let form = form_of kind (length bs) in
@@ -118,7 +119,7 @@ module _ (inner : Chooser) (walker : Walker) (same : (b : List Placed) (rs : Lis
         ]
 
     cover_one : (p : Placed) (s : Statement) (ps : List Placed) → Covers (λ w. then (f w) (courses.one walker p s ps rs)) (choosing.one inner rounds s ps ws)
-    cover_one p (Begins kind) ps = cover_block p.line kind (take (extent 0 ps) ps)
+    cover_one p (Begins kind) ps = cover_block (start_of p) kind (take (extent 0 ps) ps)
     cover_one p (Says arrow) ps = cover_said p arrow rs f ws h
     cover_one p (Declares ident shown) ps = cover_nothing
     cover_one p (Closes closer) ps = cover_nothing
@@ -148,12 +149,12 @@ cover_walk rounds full (suc d) ps rs =
     subst (Covers (walk (suc d) ps rs)) (sym (choices.choose_some (suc d) d rounds ps refl)) (cover_when (λ w. then w on) (walk (suc d) ps rs) found is told)
 
 -- an item of a list by its place, and by recursion
-from_place : {X : Type 0} (xs : List X) (x : X) (k : ℕ) → k < length xs → slice_index_or xs k x ≡ x → Has (λ y. y ≡ x) xs
+pub from_place : {X : Type 0} (xs : List X) (x : X) (k : ℕ) → k < length xs → slice_index_or xs k x ≡ x → Has (λ y. y ≡ x) xs
 from_place [] x k within e = absurd (omega (arith, within))
 from_place (y ∷ ys) x zero within e = inl e
 from_place (y ∷ ys) x (suc k) within e = inr (from_place ys x k (omega (arith, within)) e)
 
-to_place : {X : Type 0} (xs : List X) (x : X) → Has (λ y. y ≡ x) xs → Contains xs x
+pub to_place : {X : Type 0} (xs : List X) (x : X) → Has (λ y. y ≡ x) xs → Contains xs x
 to_place [] x h = absurd h
 to_place (y ∷ ys) x (inl e) = (0, omega arith, e)
 to_place (y ∷ ys) x (inr h) = let k = to_place ys x h in (suc k.0, omega (arith, k.1), k.2)
@@ -166,7 +167,7 @@ err_ok : (f : ImportFault) (v : Walk) → Err f ≡ Ok v → ⊥
 unfolding is_ok
 err_ok f v e = false≢true (ap is_ok e)
 
-no_draft : (f : ImportFault) (v : Walk) (e : Ending) → e ≡ ends.Stopped f → unended v e ≡ Ok v → ⊥
+pub no_draft : (f : ImportFault) (v : Walk) (e : Ending) → e ≡ ends.Stopped f → unended v e ≡ Ok v → ⊥
 no_draft f v e stopped ok = err_ok f v (sym (ap (unended v) stopped) ∙ ok)
 
 -- what is taken from rest is one of the lists

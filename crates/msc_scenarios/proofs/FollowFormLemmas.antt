@@ -8,6 +8,7 @@ use Rattle.msc_scenarios.specs.declared.course.Ending.TheVariants as ends
 use Rattle.msc_scenarios.specs.declared.course.Form.{Form}
 use Rattle.msc_scenarios.specs.declared.course.Form.TheVariants as forms
 use Rattle.msc_scenarios.specs.declared.course.Step.TheVariants as steps
+use Rattle.msc_place.specs.declared.position.Position.{Position}
 use Rattle.msc_mermaid.specs.declared.statement.Placed.{Placed}
 use Rattle.msc_scenarios.specs.Choosing as choosing
 use Rattle.msc_scenarios.specs.Choosing.{Chooser, behind, by_branches, by_options, by_rounds, by_sides, chosen, repeated, straight, with_end}
@@ -19,13 +20,13 @@ use Rattle.msc_scenarios.proofs.FollowListLemmas.{AllFollow, all_append, all_sam
 use Rattle.msc_scenarios.proofs.FollowBranchLemmas.{follow_branches}
 
 -- choices that are small enough
-small_less : (n i : ℕ) → i < n → nat_le (i + 0) (n - 1) ≡ true
+pub small_less : (n i : ℕ) → i < n → nat_le (i + 0) (n - 1) ≡ true
 small_less n i h = grind (arith, nat_tests)
 
-small_next : (n i : ℕ) → i < n → nat_le (i + 1) n ≡ true
+pub small_next : (n i : ℕ) → i < n → nat_le (i + 1) n ≡ true
 small_next n i h = grind (arith, nat_tests)
 
-least : (n : ℕ) → nat_le 0 n ≡ true
+pub least : (n : ℕ) → nat_le 0 n ≡ true
 least n = grind (arith, nat_tests)
 
 pub is_some : (i : ℕ) → 1 ≤ i → (i == 0) ≡ false
@@ -72,7 +73,7 @@ module _ (walker : Walker) (bs : List (List Placed)) (rs : List ℕ) (w : Walk) 
   unfolding follow
   first_not = ap unbroken (then_same (walker (branch_at bs 0) rs w))
 
-module _ (inner : Chooser) (walker : Walker) (same : (b : List Placed) (rs : List ℕ) → AllFollow (walker b rs) (inner b)) (rs : List ℕ) (line : ℕ) (bs : List (List Placed)) where
+module _ (inner : Chooser) (walker : Walker) (same : (b : List Placed) (rs : List ℕ) → AllFollow (walker b rs) (inner b)) (rs : List ℕ) (line : Position) (bs : List (List Placed)) where
   -- a block of a form that takes a choice
   abbrev takes : Form → Walk → Walk
   takes form = taking line (most_of form (length bs)) (main_of form) (follow walker form bs rs)

@@ -4,6 +4,7 @@ use Rattle.std.proofs.lemmas.List.{append-nil}
 use Rattle.msc_scenarios.specs.declared.way.Way.{Way}
 use Rattle.msc_scenarios.specs.declared.course.Ending.{Ending}
 use Rattle.msc_scenarios.specs.declared.course.Ending.TheVariants as ends
+use Rattle.msc_place.specs.declared.position.Position.{Position}
 use Rattle.msc_mermaid.specs.declared.fault.ImportFault.TheVariants.{Choice}
 use Rattle.msc_scenarios.specs.Choosing.{joined, under, with_end}
 use Rattle.msc_scenarios.specs.Courses.{Walk, broken, choice_of, choose, cut_off, ended, go_on, healed, then, unbroken, with_choice}
@@ -78,10 +79,10 @@ follows_none = record { ends = λ w i. inr (record { given = refl; taken = sym (
 
 module _ (w : Walk) (cs ds : List ℕ) where
   -- choices that are given in two parts
-  front : IsGiven w (cs ++ ds) → IsGiven w cs
+  pub front : IsGiven w (cs ++ ds) → IsGiven w cs
   front i = record { going = i.going; rest = ds ++ i.rest; given = i.given ∙ ap (λ x. w.taken ++ x) (append_assoc cs ds i.rest) }
 
-  back : (v : Walk) → IsGiven w (cs ++ ds) → Took w v cs ends.Goes → IsGiven v ds
+  pub back : (v : Walk) → IsGiven w (cs ++ ds) → Took w v cs ends.Goes → IsGiven v ds
   back v i t =
       let parts = ap (λ x. w.taken ++ x) (append_assoc cs ds i.rest) ∙ sym (append_assoc w.taken cs (ds ++ i.rest)) in
       record { going = t.ending; rest = i.rest; given = t.given ∙ i.given ∙ parts ∙ ap (λ x. x ++ (ds ++ i.rest)) (sym t.taken) }
@@ -176,7 +177,7 @@ get_seam [] ys c = refl
 get_seam (x ∷ xs) ys c = get_seam xs ys c
 
 -- a block takes its choice, and goes on by it
-module _ (line most main : ℕ) (h : ℕ → Walk → Walk) (c : ℕ) (small : nat_le c most ≡ true) (v : Way) where
+module _ (line : Position) (most main : ℕ) (h : ℕ → Walk → Walk) (c : ℕ) (small : nat_le c most ≡ true) (v : Way) where
   given_is : (w : Walk) → IsGiven w (c ∷ v.choices) → choice_of main w ≡ c
   given_is w i = ap (λ x. unwrap_or (slice_get x (length w.taken)) main) i.given ∙ ap (λ x. unwrap_or x main) (get_seam w.taken (v.choices ++ i.rest) c)
 
@@ -186,14 +187,14 @@ module _ (line most main : ℕ) (h : ℕ → Walk → Walk) (c : ℕ) (small : n
       let stopped = λ (k : ℕ). ended (ends.Stopped (Choice line (length w.taken + 1) most)) (with_choice k w) in
       ap (λ k. cond (nat_le k most) (with_choice k w) (stopped k)) e ∙ ap (λ t. cond t (with_choice c w) (stopped c)) small
 
-  after : (w : Walk) → IsGiven w (c ∷ v.choices) → IsGiven (with_choice c w) v.choices
+  pub after : (w : Walk) → IsGiven w (c ∷ v.choices) → IsGiven (with_choice c w) v.choices
   after w i = record { going = i.going; rest = i.rest; given = i.given ∙ sym (append_assoc w.taken (c ∷ []) (v.choices ++ i.rest)) }
 
   taken_too : (w u : Walk) → Ends (with_choice c w) u v → Ends w u (under c v.broken v)
   taken_too w u (inl long) = inl long
   taken_too w u (inr t) = inr (record { given = t.given; taken = t.taken ∙ append_assoc w.taken (c ∷ []) v.choices; ending = t.ending })
 
-  block_is : (w : Walk) → IsGiven w (c ∷ v.choices) → then (choose line most main w) (h (choice_of main w)) ≡ h c (with_choice c w)
+  pub block_is : (w : Walk) → IsGiven w (c ∷ v.choices) → then (choose line most main w) (h (choice_of main w)) ≡ h c (with_choice c w)
   block_is w i =
       let e = given_is w i in
       ap (λ x. then x (h (choice_of main w))) (chosen_is w e) ∙ ap (λ k. then (with_choice c w) (h k)) e ∙ then_going (with_choice c w) (h c) i.going

@@ -5,6 +5,7 @@ use Rattle.msc_scenarios.specs.declared.way.Way.{Way}
 use Rattle.msc_scenarios.specs.declared.course.Ending.TheVariants as ends
 use Rattle.msc_scenarios.specs.declared.course.Step.{Step}
 use Rattle.msc_scenarios.specs.declared.course.Step.TheVariants as steps
+use Rattle.msc_place.specs.declared.position.Position.{Position}
 use Rattle.msc_mermaid.specs.declared.statement.Placed.{Placed}
 use Rattle.msc_scenarios.specs.Choosing.{Chooser, behind, by_sides, chosen, goes_on, healed, joined, repeated, straight, under, with_end}
 use Rattle.msc_scenarios.specs.Courses.{Walk, Walker, choice_of, choose, go_on, put, rounds_from, side_by_side, then, unbroken}
@@ -85,7 +86,7 @@ module _ (inner : Chooser) (walker : Walker) (same : (b : List Placed) (rs : Lis
       subst (AllFollow (λ w. then (f w) on)) (sym (sides_cons inner b bs ws)) (retold (λ w. then (then (f w) step) rest) (λ w. then (f w) on) (by_sides inner bs more) is next)
 
 -- a block on this line of the text, with its greatest and its main choice and what follows each
-module _ (line most main : ℕ) (h : ℕ → Walk → Walk) where
+module _ (line : Position) (most main : ℕ) (h : ℕ → Walk → Walk) where
   abbrev pub taking : Walk → Walk
   taking w = then (choose line most main w) (h (choice_of main w))
 

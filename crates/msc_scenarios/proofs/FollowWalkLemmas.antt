@@ -3,6 +3,7 @@ use Rattle.std.proofs.Common.{◌≡◌, ◌⊎◌, inl, inr, ℕ, zero, suc, �
 use Rattle.std.specs.List.{AllByRecursion, list_all}
 use Rattle.std.proofs.lemmas.Bool.Decides.{nat_tests}
 use Rattle.std.proofs.lemmas.List.{append-nil}
+use Rattle.msc_place.specs.declared.position.Position.{Position}
 use Rattle.msc_mermaid.specs.declared.TheConstants.{DEPTH_LIMIT}
 use Rattle.msc_scenarios.specs.declared.TheConstants.{ARROW_LIMIT, ROUND_LIMIT}
 use Rattle.msc_scenarios.specs.declared.way.Way.{Way}
@@ -18,7 +19,7 @@ use Rattle.msc_mermaid.specs.declared.statement.Statement.TheVariants.{Declares,
 use Rattle.msc_scenarios.specs.Choosing as choosing
 use Rattle.msc_scenarios.specs.Choosing.{Chooser, all_choices, behind, by_fate, straight}
 use Rattle.msc_scenarios.specs.Courses as courses
-use Rattle.msc_scenarios.specs.Courses.{Walk, Walker, branches_in, choice_of, choose, ended, extent, form_of, heads, is_choice, is_loss, is_there, meet, message_of, owned_by, said, then, walk, walk_on, at_rest, unended}
+use Rattle.msc_scenarios.specs.Courses.{Walk, Walker, branches_in, choice_of, choose, ended, extent, form_of, heads, is_choice, is_loss, is_there, meet, message_of, owned_by, said, then, walk, walk_on, at_rest, unended, start_of}
 use Rattle.msc_scenarios.specs.Laws.{IsTooLong, IsWhole, Takes, walked}
 use Rattle.msc_scenarios.proofs.ChoiceLemmas as choices
 use Rattle.msc_scenarios.proofs.FollowLemmas.{Ends, Follows, IsGiven, Kept, ending_of, follows_none, follows_passed, follows_under, follows_when, then_going, then_same, then_then}
@@ -38,10 +39,10 @@ meet_keeps p a lost rs v e =
       arrows = v.arrows + heads a;
       ending = v.ending;
     } in
-    let stopped = ended (ends.Stopped (TooManyArrows p.line)) v in
+    let stopped = ended (ends.Stopped (TooManyArrows (start_of p))) v in
     elim (nat_le (v.arrows + heads a) ARROW_LIMIT) as (λ t. IsTooLong (cond t met stopped) ⊎ Kept v (cond t met stopped)) [
       | true ↦ inr (record { given = refl; taken = refl; ending = e })
-      | false ↦ inl (p.line, refl)
+      | false ↦ inl ((start_of p), refl)
     ]
 
 -- an arrow with a choice takes it
@@ -56,16 +57,16 @@ module _ (p : Placed) (a : Arrow) (rs : List ℕ) where
   follow_met c =
       follows_when (λ w. then w (by_choice c)) (by_choice c) alone (λ w e. sym (then_going w (by_choice c) e)) (follows_passed (λ w. w) (by_choice c) (meet_keeps p a (c == 0) rs) alone follows_none)
 
-  follow_fate : AllFollow (λ w. then (choose p.line 1 0 w) (by_choice (choice_of 0 w))) by_fate
+  follow_fate : AllFollow (λ w. then (choose (start_of p) 1 0 w) (by_choice (choice_of 0 w))) by_fate
   follow_fate =
-      (follows_under p.line 1 0 by_choice 0 refl alone (follow_met 0), (follows_under p.line 1 0 by_choice 1 refl alone (follow_met 1), tt))
+      (follows_under (start_of p) 1 0 by_choice 0 refl alone (follow_met 0), (follows_under (start_of p) 1 0 by_choice 1 refl alone (follow_met 1), tt))
 
   follow_said : (f : Walk → Walk) (ws : List Way) → AllFollow f ws → AllFollow (λ w. then (f w) (said p a rs)) (cond (is_choice a) (behind ws by_fate) ws)
   unfolding said
   follow_said f ws h =
       let lost = is_loss a.fate in
-      elim (is_choice a) as (λ t. AllFollow (λ w. then (f w) (λ v. cond t (then (choose p.line 1 0 v) (by_choice (choice_of 0 v))) (meet p a lost rs v))) (cond t (behind ws by_fate) ws)) [
-        | true ↦ follow_behind f (λ v. then (choose p.line 1 0 v) (by_choice (choice_of 0 v))) by_fate follow_fate ws h
+      elim (is_choice a) as (λ t. AllFollow (λ w. then (f w) (λ v. cond t (then (choose (start_of p) 1 0 v) (by_choice (choice_of 0 v))) (meet p a lost rs v))) (cond t (behind ws by_fate) ws)) [
+        | true ↦ follow_behind f (λ v. then (choose (start_of p) 1 0 v) (by_choice (choice_of 0 v))) by_fate follow_fate ws h
         | false ↦ all_same (Follows f) (Follows (λ w. then (f w) (meet p a lost rs))) (follows_passed f (meet p a lost rs) (meet_keeps p a lost rs)) ws h
       ]
 
@@ -75,7 +76,7 @@ module _ (inner : Chooser) (walker : Walker) (same : (b : List Placed) (rs : Lis
     follow_nothing : AllFollow (λ w. then (f w) (λ v. v)) ws
     follow_nothing = retold f (λ w. then (f w) (λ v. v)) ws (λ w e. then_same (f w)) h
 
-    follow_block : (line : ℕ) (kind : Kind) (inside : List Placed) → AllFollow (λ w. then (f w) (courses.block walker line kind inside rs)) (choosing.block inner rounds kind inside ws)
+    follow_block : (line : Position) (kind : Kind) (inside : List Placed) → AllFollow (λ w. then (f w) (courses.block walker line kind inside rs)) (choosing.block inner rounds kind inside ws)
     unfolding courses.block choosing.block
     follow_block line kind inside =
         let bs = branches_in 0 inside in let form = form_of kind (length bs) in
@@ -86,7 +87,7 @@ module _ (inner : Chooser) (walker : Walker) (same : (b : List Placed) (rs : Lis
         ]
 
     follow_one : (p : Placed) (s : Statement) (ps : List Placed) → AllFollow (λ w. then (f w) (courses.one walker p s ps rs)) (choosing.one inner rounds s ps ws)
-    follow_one p (Begins kind) ps = follow_block p.line kind (take (extent 0 ps) ps)
+    follow_one p (Begins kind) ps = follow_block (start_of p) kind (take (extent 0 ps) ps)
     follow_one p (Says arrow) ps = follow_said p arrow rs f ws h
     follow_one p (Declares ident shown) ps = follow_nothing
     follow_one p (Closes closer) ps = follow_nothing
@@ -116,11 +117,11 @@ follow_walk rounds few (suc d) ps rs =
     subst (AllFollow (walk (suc d) ps rs)) (sym (choices.choose_some (suc d) d rounds ps refl)) (retold (λ w. then w on) (walk (suc d) ps rs) found is walked)
 
 -- what has taken all that it was given has a draft beside its lines
-whole_by : (v : Walk) (b : Bool) → nat_le (length v.given) (length v.taken) ≡ true → unended v (ending_of b) ≡ Ok v
+pub whole_by : (v : Walk) (b : Bool) → nat_le (length v.given) (length v.taken) ≡ true → unended v (ending_of b) ≡ Ok v
 whole_by v true all = ap (λ t. cond t (Ok v) (Err (TooManyChoices (length v.given) (length v.taken)))) all
 whole_by v false all = ap (λ t. cond t (Ok v) (Err (TooManyChoices (length v.given) (length v.taken)))) all
 
-all_taken : (m n : ℕ) → m ≡ n → nat_le m n ≡ true
+pub all_taken : (m n : ℕ) → m ≡ n → nat_le m n ≡ true
 all_taken m n e = grind (arith, nat_tests)
 
 takes_them : (lines : List (List ℕ)) (v : Walk) (way : Way) → Ends (at_rest lines way.choices) v way → IsTooLong v ⊎ Takes way.choices v
@@ -129,7 +130,7 @@ takes_them lines v way (inr t) =
     let all = all_taken (length v.given) (length v.taken) (ap length (t.given ∙ sym t.taken)) in
     inr (t.taken, ap (unended v) t.ending ∙ whole_by v way.broken all)
 
-given_all : (lines : List (List ℕ)) (cs : List ℕ) → IsGiven (at_rest lines cs) cs
+pub given_all : (lines : List (List ℕ)) (cs : List ℕ) → IsGiven (at_rest lines cs) cs
 given_all lines cs = record { going = refl; rest = []; given = sym (append-nil cs) }
 
 pub each_is_whole : (rounds : List ℕ) (d : Diagram) → list_all (λ r. nat_le r ROUND_LIMIT) rounds ≡ true → AllByRecursion (IsWhole d) (all_choices rounds d)

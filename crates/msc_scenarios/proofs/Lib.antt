@@ -16,3 +16,8 @@ pub mod AscendLemmas
 pub mod CoverLemmas
 pub mod CoverFormLemmas
 pub mod CoverWalkLemmas
+pub mod HistoryLemmas
+pub mod HistoryListLemmas
+pub mod HistoryWalkLemmas
+pub mod OutsideLemmas
+pub mod WayLemmas

@@ -3,7 +3,6 @@ use Rattle.std.proofs.Common.{◌≡◌, ◌<◌, ◌≤◌, ℕ, suc, ◌+◌, 
 use Rattle.std.proofs.lemmas.List.{drop_more, drop_all, take_rest}
 use Rattle.msc_scenarios.specs.declared.naming.Pass.{Pass}
 use Rattle.std.specs.Prelude.{codes}
-use Rattle.msc_mermaid.specs.declared.TheConstants.{LINE_LIMIT}
 use Rattle.msc_scenarios.specs.Naming.{pass_step, passed, put_first, made, candidate, is_taken, free_name, names_behind}
 
 passed_cons : (p : Pass) (s b : ℕ) (bs : List ℕ) → passed p s (b ∷ bs) ≡ put_first (pass_step p s b bs).0 (passed p (pass_step p s b bs).1 bs)
@@ -43,7 +42,7 @@ pub free_none : (names : List (List ℕ)) (name : List ℕ) (k m : ℕ) → m �
 unfolding free_name
 free_none names name k m left = ap (free_name names name k) left
 
-names_cons : (names : List (List ℕ)) (ident : List ℕ) (idents : List (List ℕ)) → names_behind names (ident ∷ idents) ≡ names_behind (names ++ free_name names (made ident (codes "p")) 1 LINE_LIMIT ∷ []) idents
+names_cons : (names : List (List ℕ)) (ident : List ℕ) (idents : List (List ℕ)) → names_behind names (ident ∷ idents) ≡ names_behind (names ++ free_name names (made ident (codes "p")) 1 (length names + 1) ∷ []) idents
 unfolding names_behind
 names_cons names ident idents = refl
 
@@ -53,7 +52,7 @@ names_none names = refl
 
 -- one name more
 module _ (names : List (List ℕ)) (idents : List (List ℕ)) (i : ℕ) where
-  pub names_more : (d : List ℕ) → i < length idents → names_behind names (drop i idents) ≡ names_behind (names ++ free_name names (made (get_or idents i d) (codes "p")) 1 LINE_LIMIT ∷ []) (drop (i + 1) idents)
+  pub names_more : (d : List ℕ) → i < length idents → names_behind names (drop i idents) ≡ names_behind (names ++ free_name names (made (get_or idents i d) (codes "p")) 1 (length names + 1) ∷ []) (drop (i + 1) idents)
   names_more d inside = ap (names_behind names) (drop_more idents i d inside) ∙ names_cons names (get_or idents i d) (drop (i + 1) idents)
 
   pub names_end : length idents ≤ i → names_behind names (drop i idents) ≡ names

@@ -26,6 +26,10 @@ joined w v = record { choices = w.choices ++ v.choices; broken = v.broken }
 abbrev pub goes_on : List Way → Way → List Way
 goes_on vs w = cond w.broken (w ∷ []) (map (joined w) vs)
 
+-- a way goes on with this one
+abbrev pub gone_on : Way → Way → Way
+gone_on v w = cond w.broken w (joined w v)
+
 -- each of the first ways goes on with each of the second
 abbrev pub behind : List Way → List Way → List Way
 behind ws vs = flat_map (goes_on vs) ws

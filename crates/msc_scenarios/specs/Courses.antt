@@ -22,6 +22,7 @@ use Rattle.msc_mermaid.specs.declared.statement.Fate.TheVariants as fates
 use Rattle.msc_mermaid.specs.declared.statement.Placed.{Placed}
 use Rattle.msc_mermaid.specs.declared.statement.Statement.{Statement}
 use Rattle.msc_mermaid.specs.declared.statement.Statement.TheVariants.{Declares, Says, Begins, Closes}
+use Rattle.msc_place.specs.declared.position.Position.{Position}
 use Rattle.msc_mermaid.specs.Gives.{unless}
 use Rattle.msc_scenarios.specs.Naming.{made, number_name}
 
@@ -183,6 +184,10 @@ is_loss fates.Either = false
 abbrev pub is_choice : Arrow → Bool
 is_choice a = is_open a.fate && not (bytes_eq a.from a.to)
 
+-- where a statement begins
+abbrev pub start_of : Placed → Position
+start_of p = record { line = p.line; column = p.column }
+
 -- an arrow has two heads, between two lines: each sends the other a message
 abbrev pub is_exchange : Arrow → Bool
 is_exchange a = a.both && not (bytes_eq a.from a.to)
@@ -214,7 +219,7 @@ meet p a lost rounds w =
       steps = w.steps ++ steps.Meets (message_of w.lines p a lost rounds) ∷ [];
       arrows = w.arrows + heads a;
       ending = w.ending;
-    }) (ended (ends.Stopped (TooManyArrows p.line)) w)
+    }) (ended (ends.Stopped (TooManyArrows (start_of p))) w)
 
 -- the choice that a block takes, of which this is the main one
 abbrev pub choice_of : ℕ → Walk → ℕ
@@ -231,16 +236,16 @@ with_choice c w = record {
   ending = w.ending;
 }
 
--- the walk behind the choice of a block on this line of the text
-unfoldable pub choose : ℕ → ℕ → ℕ → Walk → Walk
-choose line most main w =
-    cond (nat_le (choice_of main w) most) (with_choice (choice_of main w) w) (ended (ends.Stopped (Choice line (length w.taken + 1) most)) (with_choice (choice_of main w) w))
+-- the walk behind the choice of a block that begins here
+unfoldable pub choose : Position → ℕ → ℕ → Walk → Walk
+choose here most main w =
+    cond (nat_le (choice_of main w) most) (with_choice (choice_of main w) w) (ended (ends.Stopped (Choice here (length w.taken + 1) most)) (with_choice (choice_of main w) w))
 
 -- An arrow is said. One with a choice is met as the branches of an alt are: lost by choice 0, which is the
 -- main one, and arriving by choice 1.
 unfoldable pub said : Placed → Arrow → List ℕ → Walk → Walk
 said p a rounds w =
-    cond (is_choice a) (then (choose p.line 1 0 w) (meet p a (choice_of 0 w == 0) rounds)) (meet p a (is_loss a.fate) rounds w)
+    cond (is_choice a) (then (choose (start_of p) 1 0 w) (meet p a (choice_of 0 w == 0) rounds)) (meet p a (is_loss a.fate) rounds w)
 
 -- how the statements of a branch are walked
 abbrev pub Walker : Type 0
@@ -276,18 +281,18 @@ follow inner forms.First bs rounds c w =
 follow inner forms.Par bs rounds c w = w
 follow inner forms.Plain bs rounds c w = w
 
--- a block of this form, on this line of the text
-unfoldable pub formed : Walker → ℕ → Form → List (List Placed) → List ℕ → Walk → Walk
-formed inner line forms.Plain bs rounds w = inner (branch_at bs 0) rounds w
-formed inner line forms.Par bs rounds w =
-    then (side_by_side inner bs rounds (put (steps.Opens line) w)) (put steps.Closes)
-formed inner line form bs rounds w =
-    then (choose line (most_of form (length bs)) (main_of form) w) (follow inner form bs rounds (choice_of (main_of form) w))
+-- a block of this form, which begins here
+unfoldable pub formed : Walker → Position → Form → List (List Placed) → List ℕ → Walk → Walk
+formed inner here forms.Plain bs rounds w = inner (branch_at bs 0) rounds w
+formed inner here forms.Par bs rounds w =
+    then (side_by_side inner bs rounds (put (steps.Opens here) w)) (put steps.Closes)
+formed inner here form bs rounds w =
+    then (choose here (most_of form (length bs)) (main_of form) w) (follow inner form bs rounds (choice_of (main_of form) w))
 
--- a block of this kind, with these statements inside
-unfoldable pub block : Walker → ℕ → Kind → List Placed → List ℕ → Walk → Walk
-block inner line kind inside rounds w =
-    cond (is_there kind inside) (formed inner line (form_of kind (length (branches_in 0 inside))) (branches_in 0 inside) rounds w) w
+-- a block of this kind, which begins here, with these statements inside
+unfoldable pub block : Walker → Position → Kind → List Placed → List ℕ → Walk → Walk
+block inner here kind inside rounds w =
+    cond (is_there kind inside) (formed inner here (form_of kind (length (branches_in 0 inside))) (branches_in 0 inside) rounds w) w
 
 -- how many statements behind one belong to it
 abbrev pub owned_by : Statement → List Placed → ℕ
@@ -297,7 +302,7 @@ owned_by s ps = 0
 -- one statement, with those behind it
 abbrev pub one : Walker → Placed → Statement → List Placed → List ℕ → Walk → Walk
 one inner p (Says arrow) ps rounds w = said p arrow rounds w
-one inner p (Begins kind) ps rounds w = block inner p.line kind (take (extent 0 ps) ps) rounds w
+one inner p (Begins kind) ps rounds w = block inner (start_of p) kind (take (extent 0 ps) ps) rounds w
 one inner p (Declares ident shown) ps rounds w = w
 one inner p (Closes closer) ps rounds w = w
 

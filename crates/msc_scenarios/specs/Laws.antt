@@ -1,18 +1,20 @@
 -- What holds of the choices of every diagram.
-use Rattle.std.specs.Prelude.{◌≡◌, ◌⊎◌, ◌<◌, ◌≤◌, ℕ, ◌+◌, Bool, true, false, not, nat_le, List, [], ◌∷◌, length, Ok}
+use Rattle.std.specs.Prelude.{◌≡◌, ◌⊎◌, ◌<◌, ◌≤◌, ℕ, ◌+◌, Bool, true, false, not, nat_le, List, [], ◌∷◌, length, Ok, ◌↔◌}
 use Rattle.std.specs.List.{AllByRecursion, Contains, list_all}
 use Rattle.msc_mermaid.specs.declared.TheConstants.{DEPTH_LIMIT}
 use Rattle.msc_scenarios.specs.declared.TheConstants.{ROUND_LIMIT}
 use Rattle.msc_scenarios.specs.declared.course.Ending.TheVariants as ends
+use Rattle.msc_scenarios.specs.declared.course.Step.{Step}
 use Rattle.msc_mermaid.specs.declared.fault.ImportFault.TheVariants.{TooManyArrows}
 use Rattle.msc_mermaid.specs.declared.row.Kind.TheVariants as kinds
 use Rattle.msc_mermaid.specs.declared.statement.Diagram.{Diagram}
-use Rattle.msc_mermaid.specs.declared.statement.Placed.{Placed}
 use Rattle.msc_mermaid.specs.declared.statement.Statement.{Statement}
 use Rattle.msc_mermaid.specs.declared.statement.Statement.TheVariants.{Declares, Says, Begins, Closes}
+use Rattle.msc_place.specs.declared.position.Position.{Position}
 use Rattle.msc_scenarios.specs.Choosing.{all_choices}
 use Rattle.msc_scenarios.specs.Counting.{capped, scenarios}
 use Rattle.msc_scenarios.specs.Courses.{Walk, walk, at_rest, is_choice, unended}
+use Rattle.msc_scenarios.specs.Histories.{History, IsHistory}
 
 -- a block begins that may take a choice, or an arrow takes one
 abbrev pub may_choose : Statement → Bool
@@ -35,7 +37,7 @@ NoBlocksOneScenario =
 
 -- the walk stopped since it has too many arrows
 abbrev pub IsTooLong : Walk → Type 0
-IsTooLong w = (line : ℕ) × (w.ending ≡ ends.Stopped (TooManyArrows line))
+IsTooLong w = (here : Position) × (w.ending ≡ ends.Stopped (TooManyArrows here))
 
 -- the walk took these choices, and no fault keeps it from a draft beside its lines
 abbrev pub Takes : List ℕ → Walk → Type 0
@@ -76,3 +78,24 @@ EachOnceInOrder =
 abbrev pub NoneIsMissing : Type 0
 NoneIsMissing =
     (rounds : List ℕ) (d : Diagram) (given : List ℕ) → ((r : ℕ) → r ≤ ROUND_LIMIT → Contains rounds r) → Takes given (walked d given) → Contains (all_choices rounds d) given
+
+-- Each way once: whatever numbers of rounds loops go, the lists of choices are those of the diagram's histories.
+-- They are in their order, so each stands once, where the numbers of rounds are in theirs.
+abbrev pub EachWayOnce : Type 0
+EachWayOnce =
+    (rounds : List ℕ) (d : Diagram) → ((given : List ℕ) → Contains (all_choices rounds d) given ↔ ((ss : List Step) × IsHistory rounds d (record { choices = given; steps = ss })))
+    × (InOrder (λ m n. m < n) rounds → InOrder ComesBefore (all_choices rounds d))
+
+-- Just what is met: a walk with the choices of a history takes these and has its steps, unless it has too many
+-- arrows.
+abbrev pub JustWhatIsMet : Type 0
+JustWhatIsMet =
+    (rounds : List ℕ) (d : Diagram) (h : History) → ((r : ℕ) → Contains rounds r → r ≤ ROUND_LIMIT) → IsHistory rounds d h
+    → IsTooLong (walked d h.choices) ⊎ (Takes h.choices (walked d h.choices) × ((walked d h.choices).steps ≡ h.steps))
+
+-- And nothing else is: what a walk takes that no fault stops is a history, with the steps of the walk, where rounds
+-- has just the numbers of rounds that a loop may go.
+abbrev pub NothingElseIsMet : Type 0
+NothingElseIsMet =
+    (rounds : List ℕ) (d : Diagram) (given : List ℕ) → ((r : ℕ) → (Contains rounds r → r ≤ ROUND_LIMIT) × (r ≤ ROUND_LIMIT → Contains rounds r)) → Takes given (walked d given)
+    → IsHistory rounds d (record { choices = given; steps = (walked d given).steps })

@@ -3,4 +3,6 @@ pub mod Naming
 pub mod Courses
 pub mod Counting
 pub mod Choosing
+pub mod Histories
 pub mod Laws
+pub mod Outside

@@ -6,7 +6,6 @@ use Rattle.std.specs.Str.{bytes_eq}
 use Rattle.std.specs.Fmt.{decimal}
 use Rattle.msc_lexer.specs.Bytes.{begins, is_run_byte}
 use Rattle.msc_lexer.specs.Words.{word_of}
-use Rattle.msc_mermaid.specs.declared.TheConstants.{LINE_LIMIT}
 use Rattle.msc_scenarios.specs.declared.naming.Pass.{Pass}
 use Rattle.msc_scenarios.specs.declared.naming.Pass.TheVariants as passes
 use Rattle.msc_mermaid.specs.Keys.{are_spelled}
@@ -130,11 +129,12 @@ free_name names name k zero = name
 free_name names name k (suc n) =
     cond (is_taken names (candidate name k)) (free_name names name (k + 1) n) (candidate name k)
 
--- the names of lines behind these names: each is the first that is not there yet
+-- the names of lines behind these names: each is the first that is not there yet; of one more candidates than
+-- there are names one is free
 unfoldable pub names_behind : List (List ℕ) → List (List ℕ) → List (List ℕ)
 names_behind names [] = names
 names_behind names (ident ∷ idents) =
-    names_behind (names ++ free_name names (made ident (codes "p")) 1 LINE_LIMIT ∷ []) idents
+    names_behind (names ++ free_name names (made ident (codes "p")) 1 (length names + 1) ∷ []) idents
 
 -- the round of a loop, behind an underscore
 abbrev pub round_text : ℕ → List ℕ

@@ -8,7 +8,7 @@ ghost use Rattle.msc_scenarios.specs.Choosing.{by_fate, straight};
 
 use crate::course::{Form, branches_of, extent, is_choice, is_there};
 use crate::walking::{branch_at, owned_by};
-use crate::way::{Way, behind, choices_of, healed, put_chosen, straight};
+use crate::way::{Way, behind, choices_of, followed, healed, put_chosen, straight};
 use listed::Listed;
 use msc_mermaid::{DEPTH_LIMIT, Diagram, Kind, Placed, Statement};
 use std::alloc::{AllocError, Global};
@@ -19,7 +19,7 @@ fn repeated(alloc: Global, body: &[Way], count: usize) -> Result<Vec<Way>, Alloc
 {
     let mut ways = straight(alloc)?;
     for _ in 0..count {
-        ways = behind(alloc, ways.as_slice(), body)?;
+        ways = followed(alloc, ways, body)?;
     }
     Ok(ways)
 }
@@ -223,7 +223,7 @@ fn block(
     let branches = branches_of(alloc, inside)?;
     let form = Form::of(kind, branches.len());
     let next = formed(alloc, depth, rounds, form, branches.as_slice())?;
-    behind(alloc, ways.as_slice(), next.as_slice())
+    followed(alloc, ways, next.as_slice())
 }
 
 /// These ways, and then those through one statement, with those behind it.

@@ -1,6 +1,6 @@
 //! How many scenarios a diagram has.
 
-ghost use Rattle.std.specs.Prelude.{◌≡◌, ◌≤◌, length, map, IfOk, take, drop};
+ghost use Rattle.std.specs.Prelude.{◌≡◌, ◌≤◌, length, map, IfOk, take, drop, IsTrue};
 ghost use Rattle.msc_scenarios.specs.Counting.{all, behind, block, by_branches, by_options};
 ghost use Rattle.msc_scenarios.specs.Counting.{by_rounds, by_sides};
 ghost use Rattle.msc_scenarios.specs.Counting.{count, formed, one, plus, repeated, scenarios, times};
@@ -51,6 +51,13 @@ impl Ways {
         }
     }
 
+    /// Whether these are as many as the others.
+    fn are_as_many(self, others: Ways) -> bool
+        ensures { IsTrue result → self ≡ others }
+    {
+        self.through == others.through && self.broken == others.broken
+    }
+
     /// All of them.
     fn all(self) -> usize
         ensures { result ≡ all self }
@@ -58,23 +65,31 @@ impl Ways {
         plus(self.through, self.broken)
     }
 
-    /// Those through so many rounds of a loop.
+    /// Those through so many rounds of a loop. A round that changes nothing is the last one that
+    /// is counted.
     fn repeated(self, count: usize) -> Ways
         ensures { result ≡ repeated self count (unbroken 1) }
     {
         let mut ways = Ways::unbroken(1);
         for _ in 0..count {
-            ways = ways.behind(self);
+            let next = ways.behind(self);
+            if next.are_as_many(ways) {
+                return ways;
+            }
+            ways = next;
         }
         ways
     }
 
-    /// Those through a loop, by each number of rounds.
+    /// Those through a loop, by each number of rounds. Past the limit nothing more is counted.
     fn by_rounds(self, rounds: &[usize]) -> usize
         ensures { result ≡ by_rounds self rounds.now 0 }
     {
         let mut number = 0;
         for &count in rounds {
+            if number == SCENARIO_LIMIT + 1 {
+                return number;
+            }
             number = plus(number, self.repeated(count).all());
         }
         number

@@ -9,6 +9,7 @@ ghost use Rattle.msc_scenarios.specs.Courses.{heads, is_choice, is_exchange, is_
 use crate::ROUND_LIMIT;
 use msc_mermaid::{Arrow, Closer, Fate, ImportFault, Kind, Placed, Statement};
 use msc_parser::Name;
+use msc_place::Position;
 use std::alloc::{AllocError, Global};
 
 /// A message of a course: its sender and its receiver, as numbers of lines from 0, its name and its
@@ -31,8 +32,8 @@ pub struct Message {
 pub enum Step {
     /// An arrow is met.
     Meets(Message),
-    /// Parallel branches begin, on this line of the text.
-    Opens(usize),
+    /// Parallel branches begin, at this place of the text.
+    Opens(Position),
     /// One of them has ended.
     Next,
     /// All of them have.

@@ -1,13 +1,12 @@
 //! The names of a diagram's lines, and the numbers of its arrows.
 
-ghost use Rattle.std.specs.Prelude.{◌≡◌, [], IfOk};
+ghost use Rattle.std.specs.Prelude.{◌≡◌, ◌+◌, [], length, IfOk};
 ghost use Rattle.msc_scenarios.specs.Naming.{candidate, free_name, is_taken, kind_of, names_behind};
 ghost use Rattle.msc_scenarios.specs.Naming.{number_name};
 
 use crate::naming::made;
 use itoa::Buffer;
 use listed::Listed;
-use msc_mermaid::LINE_LIMIT;
 use msc_parser::Name;
 use std::alloc::{AllocError, Global};
 
@@ -31,11 +30,11 @@ fn candidate(alloc: Global, name: &[u8], number: usize) -> Result<Vec<u8>, Alloc
     Ok(numbered)
 }
 
-/// The first candidate that is not there.
+/// The first candidate that is not there. Of one more than there are names one is free.
 fn free_name(alloc: Global, names: &[Name], name: &[u8]) -> Result<Vec<u8>, AllocError>
-    ensures { IfOk result (λ v. v.items ≡ free_name names.now name.now 1 LINE_LIMIT) }
+    ensures { IfOk result (λ v. v.items ≡ free_name names.now name.now 1 (length names.now + 1)) }
 {
-    for i in 0..LINE_LIMIT {
+    for i in 0..names.len() + 1 {
         let free = candidate(alloc, name, i + 1)?;
         if !is_taken(names, free.as_slice()) {
             return Ok(free);

@@ -5,7 +5,8 @@ ghost use Rattle.msc_scenarios.specs.Courses.{at_rest, unended};
 ghost use Rattle.msc_mermaid.specs.Reading.{Leaves};
 ghost use Rattle.msc_scenarios.specs.Courses.{block, branch_at, broken, choice_of, choose, follow};
 ghost use Rattle.msc_scenarios.specs.Courses.{formed, goes, line_at, meet, message_of, one, owned_by};
-ghost use Rattle.msc_scenarios.specs.Courses.{put, rounds_from, said, side_by_side, unbroken, walk};
+ghost use Rattle.msc_scenarios.specs.Courses.{put, rounds_from, said, side_by_side, start_of, unbroken};
+ghost use Rattle.msc_scenarios.specs.Courses.{walk};
 
 use crate::ARROW_LIMIT;
 use crate::course::{
@@ -17,6 +18,7 @@ use crate::naming::made;
 use listed::Listed;
 use msc_mermaid::{Arrow, DEPTH_LIMIT, Diagram, ImportFault, Kind, Placed, Statement};
 use msc_parser::Name;
+use msc_place::Position;
 use std::alloc::{AllocError, Global};
 use std::marker::Model;
 
@@ -45,6 +47,16 @@ impl<'w> Model for Walker<'w> {
       arrows = w.arrows;
       ending = w.ending;
     } };
+}
+
+/// Where a statement begins.
+fn start_of(placed: &Placed) -> Position
+    ensures { result ≡ start_of placed.now }
+{
+    Position {
+        line: placed.line,
+        column: placed.column,
+    }
 }
 
 /// The place of a line.
@@ -130,7 +142,7 @@ impl Walker<'_> {
     {
         let heads = heads(arrow);
         if self.arrows > ARROW_LIMIT - heads {
-            self.ending = Ending::Stopped(ImportFault::TooManyArrows(placed.line));
+            self.ending = Ending::Stopped(ImportFault::TooManyArrows(start_of(placed)));
             return Ok(());
         }
         let message = message_of(alloc, self.lines, placed, arrow, lost, rounds)?;
@@ -139,17 +151,17 @@ impl Walker<'_> {
         Ok(())
     }
 
-    /// Takes the choice of a block on this line of the text, and answers it.
+    /// Takes the choice of a block that begins here, and answers it.
     #[tactic(auto, unfolding(crate::specs::Courses::choose))]
-    fn choose(&mut self, line: usize, most: usize, main: usize) -> Result<usize, AllocError>
+    fn choose(&mut self, here: Position, most: usize, main: usize) -> Result<usize, AllocError>
         ensures value { IfOk result (λ c. c ≡ choice_of main self.old) }
-        ensures taken { OnOk result (self.new ≡ choose line most main self.old) }
+        ensures taken { OnOk result (self.new ≡ choose here most main self.old) }
     {
         let number = self.taken.len();
         let choice = self.given.get(number).copied().unwrap_or(main);
         self.taken.push(choice)?;
         if choice > most {
-            self.ending = Ending::Stopped(ImportFault::Choice(line, number + 1, most));
+            self.ending = Ending::Stopped(ImportFault::Choice(here, number + 1, most));
         }
         Ok(choice)
     }
@@ -168,7 +180,7 @@ impl Walker<'_> {
         if !is_choice(arrow) {
             return self.meet(alloc, placed, arrow, is_loss(arrow.fate), rounds);
         }
-        let choice = self.choose(placed.line, 1, 0)?;
+        let choice = self.choose(start_of(placed), 1, 0)?;
         if !self.goes() {
             return Ok(());
         }
@@ -286,25 +298,25 @@ impl Walker<'_> {
         Ok(())
     }
 
-    /// Walks a block of this form, on this line of the text.
+    /// Walks a block of this form, which begins here.
     #[cycle(walking)]
     #[tactic(auto, unfolding(crate::specs::Courses::formed))]
     fn formed(
         &mut self,
         alloc: Global,
         depth: usize,
-        line: usize,
+        here: Position,
         form: Form,
         branches: &[&[Placed]],
         rounds: &[usize],
     ) -> Result<(), AllocError>
         ensures { OnOk result (self.new ≡ formed
-            (walk depth) line form (map (λ x. x.now) branches.now) rounds.now self.old) }
+            (walk depth) here form (map (λ x. x.now) branches.now) rounds.now self.old) }
     {
         match form {
             Form::Plain => self.walk(alloc, depth, branch_at(branches, 0), rounds),
             Form::Par => {
-                self.put(Step::Opens(line))?;
+                self.put(Step::Opens(here))?;
                 self.side_by_side(alloc, depth, branches, rounds)?;
                 if self.goes() {
                     self.put(Step::Closes)?;
@@ -312,7 +324,7 @@ impl Walker<'_> {
                 Ok(())
             }
             _ => {
-                let choice = self.choose(line, form.most(branches.len()), form.main())?;
+                let choice = self.choose(here, form.most(branches.len()), form.main())?;
                 if !self.goes() {
                     return Ok(());
                 }
@@ -321,27 +333,27 @@ impl Walker<'_> {
         }
     }
 
-    /// Walks a block of this kind, with these statements inside.
+    /// Walks a block of this kind, which begins here, with these statements inside.
     #[cycle(walking)]
     #[tactic(auto, unfolding(crate::specs::Courses::block))]
     fn block(
         &mut self,
         alloc: Global,
         depth: usize,
-        line: usize,
+        here: Position,
         kind: Kind,
         inside: &[Placed],
         rounds: &[usize],
     ) -> Result<(), AllocError>
         ensures { OnOk result (self.new
-            ≡ block (walk depth) line kind inside.now rounds.now self.old) }
+            ≡ block (walk depth) here kind inside.now rounds.now self.old) }
     {
         if !is_there(kind, inside) {
             return Ok(());
         }
         let branches = branches_of(alloc, inside)?;
         let form = Form::of(kind, branches.len());
-        self.formed(alloc, depth, line, form, branches.as_slice(), rounds)
+        self.formed(alloc, depth, here, form, branches.as_slice(), rounds)
     }
 
     /// Walks one statement, with those behind it.
@@ -361,7 +373,7 @@ impl Walker<'_> {
             Statement::Says(arrow) => self.say(alloc, placed, arrow, rounds),
             Statement::Begins(kind) => {
                 let inside = &rest[..extent(rest)];
-                self.block(alloc, depth, placed.line, *kind, inside, rounds)
+                self.block(alloc, depth, start_of(placed), *kind, inside, rounds)
             }
             Statement::Declares(_, _) | Statement::Closes(_) => Ok(()),
         }

@@ -2,12 +2,13 @@
 
 ghost use Rattle.std.specs.Prelude.{◌≡◌, ◌≤◌, ◌+◌, ◌++◌, false, map, IfOk, OnOk};
 ghost use Rattle.msc_scenarios.specs.declared.TheConstants.{CHOICE_LIMIT};
-ghost use Rattle.msc_scenarios.specs.Choosing.{behind, chosen, goes_on, healed, joined, straight, under};
-ghost use Rattle.msc_scenarios.specs.Choosing.{with_end};
+ghost use Rattle.msc_scenarios.specs.Choosing.{behind, chosen, gone_on, goes_on, healed, joined};
+ghost use Rattle.msc_scenarios.specs.Choosing.{straight, under, with_end};
 
 use crate::CHOICE_LIMIT;
 use listed::Listed;
 use std::alloc::{AllocError, Global};
+use std::mem;
 
 /// Nothing, where a list of choices has room for so many more. A diagram with few scenarios may
 /// have loops in loops of many rounds, each round with choices: so a list with more than
@@ -51,6 +52,29 @@ impl Way {
             choices: Listed::from_vec(choices),
             broken: next.broken,
         })
+    }
+
+    /// Appends the other, in place.
+    fn append(&mut self, alloc: Global, next: &Way) -> Result<(), AllocError>
+        ensures { OnOk result (self.new ≡ joined self.old next.now) }
+    {
+        has_room(self.choices.as_slice().len(), next.choices.as_slice().len())?;
+        let none = Listed::from_vec(Vec::new(alloc));
+        let mut choices = mem::replace(&mut self.choices, none).into_vec();
+        choices.extend_from_slice(next.choices.as_slice())?;
+        self.choices = Listed::from_vec(choices);
+        self.broken = next.broken;
+        Ok(())
+    }
+
+    /// Goes on with the other, in place, if no break ended it.
+    fn go_on(&mut self, alloc: Global, next: &Way) -> Result<(), AllocError>
+        ensures { OnOk result (self.new ≡ gone_on next.now self.old) }
+    {
+        if !self.broken {
+            self.append(alloc, next)?;
+        }
+        Ok(())
     }
 
     /// It behind a choice, ended by a break or not.
@@ -103,6 +127,31 @@ pub(crate) fn behind(alloc: Global, first: &[Way], second: &[Way]) -> Result<Vec
         way.put_on(alloc, second, &mut ways)?;
     }
     Ok(ways)
+}
+
+/// The same, where there is one second way: no way is copied.
+fn extended(alloc: Global, first: Vec<Way>, next: &Way) -> Result<Vec<Way>, AllocError>
+    ensures { IfOk result (λ v. v.items ≡ map (gone_on next.now) first.items) }
+{
+    let mut ways = first;
+    for way in ways.iter_mut() {
+        way.go_on(alloc, next)?;
+    }
+    Ok(ways)
+}
+
+/// The same of ways that are used up.
+pub(crate) fn followed(
+    alloc: Global,
+    first: Vec<Way>,
+    second: &[Way],
+) -> Result<Vec<Way>, AllocError>
+    ensures { IfOk result (λ v. v.items ≡ behind first.items second.now) }
+{
+    if second.len() == 1 {
+        return extended(alloc, first, &second[0]);
+    }
+    behind(alloc, first.as_slice(), second)
 }
 
 /// Puts each of these ways behind a choice, ended by a break or not.

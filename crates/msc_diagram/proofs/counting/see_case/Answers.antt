@@ -1,5 +1,5 @@
-use Rattle.std.proofs.Common.{◌≡◌, true, sym, ap, ◌∙◌, subst}
-use Rattle.msc_reason.specs.Counting.{listed}
+use Rattle.std.proofs.Common.{◌≡◌, sym, ap, ◌∙◌, subst}
+use Rattle.msc_reason.specs.Counting.{counting, listed}
 use Rattle.msc_reason.specs.Marked.{lack_in}
 use Rattle.msc_reason.specs.Selected.{selected, Selected}
 use Rattle.msc_reason.specs.declared.left_out.LeftOut.{LeftOut}
@@ -11,11 +11,13 @@ pub returns : goal.returns
 returns c =
     let e = c.in_ok-enforced.enforced in
     let s = c.args.scenario.now in
-    let closest = c.args.closest.now in
-    let seen = c.in_ok-see_all.ensures s (subst (AreAllPlaces s) (sym c.as_slice.ensures.value) c.in_ok-places.ensures) in
-    let asks = c.in_ok-listing.ensures ∙ ap (λ (l : LeftOut). selected e l true) c.of_kinds-left.ensures in
+    let old = c.args.answer.now in
+    let all = c.in_ok-see_all.ensures s (subst (AreAllPlaces s) (sym c.as_slice.ensures.value) c.in_ok-places.ensures) in
+    let some = c.in_ok-see_counting.ensures s (subst (AreAllPlaces s) (sym c.as_slice-2.ensures.value) c.in_ok-places.ensures)
+    ∙ ap (λ (l : LeftOut). above_with s old.counting (counting e l (lack_in e))) c.of_kinds-left.ensures in
+    let asks = c.in_ok-listing.ensures ∙ ap (λ (l : LeftOut). selected e l c.args.question.closest) c.of_kinds-left.ensures in
     success_holds c.see_listed.result
-    (λ few. case_seen c.args.queues c.args.allowed s e c.args.all.now c.see_all.new.seen closest c.see_listed.new.seen c.in_ok-enforced.ensures.chart c.in_ok-enforced.ensures.queues
-    c.enforced-2.ensures.order c.enforced-2.ensures.chart c.the_chosen_run_reverses.ensures.exists c.short_runs_show.ensures.exists seen
-    (subst (λ (x : Selected). c.see_listed.new.seen ≡ above_with s closest (listed x.judged x.allowed x.closest (lack_in x.judged))) asks few))
-    (c.see_listed.ensures s (subst (AreAllPlaces s) (sym c.as_slice-2.ensures.value) c.in_ok-places.ensures))
+    (λ few. case_seen c.args.queues c.args.question s e old _ c.in_ok-enforced.ensures.chart c.in_ok-enforced.ensures.queues
+    c.enforced-2.ensures.order c.enforced-2.ensures.chart c.the_chosen_run_reverses.ensures.exists c.short_runs_show.ensures.exists all some
+    (subst (λ (x : Selected). c.see_listed.new.seen ≡ above_with s old.listed (listed x.judged x.allowed x.closest (lack_in x.judged))) asks few))
+    (c.see_listed.ensures s (subst (AreAllPlaces s) (sym c.as_slice-3.ensures.value) c.in_ok-places.ensures))

@@ -1,60 +1,79 @@
-use Rattle.std.proofs.Common.{ℕ, List, [], ◌++◌, Err, length, nat_eq, refl, sym, ap, ap₂, ◌∙◌, subst}
+use Rattle.std.proofs.Common.{◌≡◌, ℕ, List, [], ◌++◌, Err, length, sym, ap, ap₂, ◌∙◌, subst}
 use Rattle.std.specs.Io.KnownBytes.{Appends}
-use Rattle.std.proofs.lemmas.List.{length-map}
 use Rattle.std.proofs.lemmas.Result.{err_from_is_err_and}
 use Rattle.msc_diagram.proofs.Answering.{all_end, all_stop, all_stop_below}
+use Rattle.msc_diagram.proofs.Above.{above_agrees, above_begins, counts_agree}
+use Rattle.msc_diagram.specs.Counts.{counts_text, diagram_end, place_counts}
 use Rattle.msc_diagram.specs.Judging.{lines_in}
-use Rattle.msc_diagram.specs.Scenarios.{cases_text, diagram_end, diagram_head, Case}
-use Rattle.msc_diagram.specs.Telling.{PutsCases, TellsCases}
+use Rattle.msc_diagram.specs.Scenarios.{cases_text, diagram_head}
+use Rattle.msc_diagram.specs.Telling.{above_text, PutsCases, TellsCases}
 use Rattle.msc_diagram.specs.declared.cases.Asked.{Asked}
 use Rattle.msc_diagram.specs.declared.cases.Shape.TheVariants as shapes
 use Rattle.msc_diagram.specs.declared.judging.Form.TheVariants as forms
+use Rattle.msc_diagram.specs.declared.numbers.PlaceCounts.{PlaceCounts}
 use Rattle.msc_diagram.specs.declared.place.Place.{Place}
 use Rattle.msc_diagram.proofs.judging.write_lines.Goals as goal
+
+-- what stands above the scenarios is on the page
+headed : (page top head above counts : List ℕ) → page ≡ top ++ above → top ≡ head → above ≡ counts → (text : List ℕ) → (head ++ counts) ++ text ≡ page ++ text
+headed page top head above counts put is same text =
+    ap (λ (t : List ℕ). t ++ text) (sym (put ∙ ap₂ (λ (s t : List ℕ). s ++ t) is same))
 
 pub returns-in_err-passed : goal.returns-in_err-passed
 returns-in_err-passed g c =
     let exit = err_from_is_err_and c.from_residual-in_err-passed.result c.from_residual-in_err-passed.ensures.1 in
-    let a : Asked = record { queues = c.args.queues; question = c.args.question; shape = shapes.Lines c.args.words } in
-    let page : List ℕ = c.put_top.new.page.bytes.items in
+    let q = c.args.question in let look = c.args.look in let queues = c.args.queues in let scenarios = c.args.scenarios.now in
+    let a : Asked = record { queues = queues; question = q; shape = shapes.Lines look.words } in
+    let page : List ℕ = c.put_counts.new.page.bytes.items in
     let last : List ℕ = c.put_cases.new.page.bytes.items in
     let f = c.in_err-passed.field-0.0 in
-    let head = c.in_ok-put_top.ensures ∙ ap (λ (t : List ℕ). t ++ diagram_head c.args.name.now c.args.queues (length c.args.scenarios.now)) c.new-page.ensures in
-    rw (exit.1, exit.2) (all_stop g.W.Write.contents c.args.name.now c.args.scenarios.now c.args.queues c.args.question (forms.Lines c.args.words) a page
-    (λ l cases are. are) (λ cases. ap (λ (t : List ℕ). t ++ cases_text (lines_in c.args.words) c.args.queues c.args.question 1 [] cases) (sym head)) (λ cases. refl)
+    let head : List ℕ = diagram_head c.args.name.now queues (length scenarios) in
+    let top = c.in_ok-put_top.ensures ∙ ap (λ (t : List ℕ). t ++ head) c.new-page.ensures in
+    let begins = above_begins scenarios queues q look c.in_ok-above.above c.in_ok-above.ensures in
+    rw (exit.1, exit.2) (all_stop g.W.Write.contents c.args.name.now scenarios queues q (forms.Lines look) a page (λ l cases are. are) begins.0 begins.1
+    (λ cases. headed page c.put_top.new.page.bytes.items head (above_text q c.in_ok-above.above) (counts_text q begins.0) c.in_ok-put_counts.ensures top begins.2
+    (cases_text (lines_in look.words) queues q 1 [] cases))
     f c.args.writer.now c.put_cases.new.writer c.put_cases.new.seen last
-    (subst (λ (above : List (Place × Place)). TellsCases a c.args.scenarios.now above c.put_cases.new.seen (g.W.Write.contents c.args.writer.now) (g.W.Write.contents c.put_cases.new.writer) page last (Err f))
+    (subst (λ (above : List (Place × Place)). TellsCases a scenarios above c.put_cases.new.seen (g.W.Write.contents c.args.writer.now) (g.W.Write.contents c.put_cases.new.writer) page last (Err f))
     c.new-seen.ensures c.in_err-passed.ensures))
 
 pub returns-in_err-put_bottom : goal.returns-in_err-put_bottom
 returns-in_err-put_bottom g c =
     let exit = err_from_is_err_and c.from_residual-in_err-put_bottom.result c.from_residual-in_err-put_bottom.ensures.1 in
-    let a : Asked = record { queues = c.args.queues; question = c.args.question; shape = shapes.Lines c.args.words } in
-    let page : List ℕ = c.put_top.new.page.bytes.items in
+    let q = c.args.question in let look = c.args.look in let queues = c.args.queues in let scenarios = c.args.scenarios.now in
+    let a : Asked = record { queues = queues; question = q; shape = shapes.Lines look.words } in
+    let page : List ℕ = c.put_counts.new.page.bytes.items in
     let last : List ℕ = c.put_cases.new.page.bytes.items in
-    let head = c.in_ok-put_top.ensures ∙ ap (λ (t : List ℕ). t ++ diagram_head c.args.name.now c.args.queues (length c.args.scenarios.now)) c.new-page.ensures in
-    rw (exit.1, exit.2) (all_stop_below g.W.Write.contents c.args.name.now c.args.scenarios.now c.args.queues c.args.question (forms.Lines c.args.words) a page
-    (λ l cases are. are) (λ cases. ap (λ (t : List ℕ). t ++ cases_text (lines_in c.args.words) c.args.queues c.args.question 1 [] cases) (sym head)) (λ cases. refl)
+    let head : List ℕ = diagram_head c.args.name.now queues (length scenarios) in
+    let top = c.in_ok-put_top.ensures ∙ ap (λ (t : List ℕ). t ++ head) c.new-page.ensures in
+    let begins = above_begins scenarios queues q look c.in_ok-above.above c.in_ok-above.ensures in
+    rw (exit.1, exit.2) (all_stop_below g.W.Write.contents c.args.name.now scenarios queues q (forms.Lines look) a page (λ l cases are. are) begins.0 begins.1
+    (λ cases. headed page c.put_top.new.page.bytes.items head (above_text q c.in_ok-above.above) (counts_text q begins.0) c.in_ok-put_counts.ensures top begins.2
+    (cases_text (lines_in look.words) queues q 1 [] cases))
     c.args.writer.now c.put_cases.new.writer c.put_cases.new.seen last c.in_ok-passed.passed
-    (subst (λ (above : List (Place × Place)). PutsCases a c.args.scenarios.now above c.put_cases.new.seen (g.W.Write.contents c.args.writer.now) (g.W.Write.contents c.put_cases.new.writer) page last c.in_ok-passed.passed)
+    (subst (λ (above : List (Place × Place)). PutsCases a scenarios above c.put_cases.new.seen (g.W.Write.contents c.args.writer.now) (g.W.Write.contents c.put_cases.new.writer) page last c.in_ok-passed.passed)
     c.new-seen.ensures c.in_ok-passed.ensures))
 
 pub returns : goal.returns
 returns g c =
-    let a : Asked = record { queues = c.args.queues; question = c.args.question; shape = shapes.Lines c.args.words } in
-    let page : List ℕ = c.put_top.new.page.bytes.items in
+    let q = c.args.question in let look = c.args.look in let queues = c.args.queues in let scenarios = c.args.scenarios.now in
+    let a : Asked = record { queues = queues; question = q; shape = shapes.Lines look.words } in
+    let page : List ℕ = c.put_counts.new.page.bytes.items in
     let last : List ℕ = c.put_cases.new.page.bytes.items in
     let final : List ℕ = c.put_bottom.new.page.bytes.items in
     let passed = c.in_ok-passed.passed in
-    let head = c.in_ok-put_top.ensures ∙ ap (λ (t : List ℕ). t ++ diagram_head c.args.name.now c.args.queues (length c.args.scenarios.now)) c.new-page.ensures in
-    let p = subst (λ (above : List (Place × Place)). PutsCases a c.args.scenarios.now above c.put_cases.new.seen (g.W.Write.contents c.args.writer.now) (g.W.Write.contents c.put_cases.new.writer) page last passed)
+    let above = c.in_ok-above.above in
+    let counts = c.counts_from-counts.result in
+    let head : List ℕ = diagram_head c.args.name.now queues (length scenarios) in
+    let top = c.in_ok-put_top.ensures ∙ ap (λ (t : List ℕ). t ++ head) c.new-page.ensures in
+    let p = subst (λ (above : List (Place × Place)). PutsCases a scenarios above c.put_cases.new.seen (g.W.Write.contents c.args.writer.now) (g.W.Write.contents c.put_cases.new.writer) page last passed)
     c.new-seen.ensures c.in_ok-passed.ensures in
-    let count = ap length (sym p.are.each) ∙ length-map p.cases (λ (x : Case). x.scenario) in
-    let listed = c.len-listed.ensures.value ∙ ap length p.seen in
-    all_end g.W.Write.contents c.args.name.now c.args.scenarios.now c.args.queues c.args.question (forms.Lines c.args.words) a page
-    (λ l cases are. are) (λ cases. ap (λ (t : List ℕ). t ++ cases_text (lines_in c.args.words) c.args.queues c.args.question 1 [] cases) (sym head)) (λ cases. refl)
-    c.args.writer.now c.put_cases.new.writer c.write_all.new.self c.put_cases.new.seen last final (diagram_end (length c.args.scenarios.now) c.len-listed.result passed) passed _
-    p c.in_ok-put_bottom.ensures
-    (ap (λ (n : ℕ). diagram_end n c.len-listed.result passed) count ∙ ap₂ (λ (m k : ℕ). diagram_end (length p.cases) m k) listed p.counted)
-    (ap (λ (n : ℕ). nat_eq n 0) c.len-listed.ensures.value)
+    let same = c.counts_from-counts.ensures ∙ counts_agree scenarios queues q above p.cases c.len.result c.in_ok-above.ensures p.are (c.len.ensures.value ∙ ap length p.seen) in
+    all_end g.W.Write.contents c.args.name.now scenarios queues q (forms.Lines look) a page (λ l cases are. are)
+    c.args.writer.now c.put_cases.new.writer c.write_all.new.self c.put_cases.new.seen last final (diagram_end look.drawn counts passed) passed _
+    p (headed page c.put_top.new.page.bytes.items head (above_text q above) (counts_text q (place_counts queues q p.cases)) c.in_ok-put_counts.ensures top
+    (above_agrees scenarios queues q above p.cases c.in_ok-above.ensures p.are) (cases_text (lines_in look.words) queues q 1 [] p.cases))
+    c.in_ok-put_bottom.ensures
+    (ap₂ (λ (k : PlaceCounts) (m : ℕ). diagram_end look.drawn k m) same p.counted)
+    (ap (λ (k : PlaceCounts). k.listed) same)
     (subst (Appends (g.W.Write.contents c.put_cases.new.writer) (g.W.Write.contents c.write_all.new.self)) c.as_slice.ensures.value c.in_ok-write_all.ensures.bytes)

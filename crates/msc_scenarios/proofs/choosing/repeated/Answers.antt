@@ -1,5 +1,5 @@
 use Rattle.std.proofs.Common.{◌≡◌, ◌-◌, ◌+◌, suc, sym, ap, ◌∙◌, arith}
-use Rattle.msc_scenarios.specs.Choosing.{behind, repeated}
+use Rattle.msc_scenarios.specs.Choosing.{repeated}
 use Rattle.msc_scenarios.proofs.ChoiceLemmas.{repeated_more, repeated_none}
 use Rattle.msc_scenarios.proofs.choosing.repeated.Goals as goal
 
@@ -7,7 +7,7 @@ pub loop-preserved : goal.loop-preserved
 loop-preserved c =
     let l = c.loop in let body = c.args.body.now in
     let left : c.args.count - l.counter ≡ suc (c.args.count - (l.counter + 1)) = omega (arith, c.loop-test.true) in
-    ap (repeated body (c.args.count - (l.counter + 1))) (c.in_ok-ways-2.ensures ∙ ap (λ x. behind x body) c.as_slice.ensures.value)
+    ap (repeated body (c.args.count - (l.counter + 1))) c.in_ok-ways-2.ensures
     ∙ sym (repeated_more body (c.args.count - l.counter) (c.args.count - (l.counter + 1)) l.ways.items left)
     ∙ l.invariant
 

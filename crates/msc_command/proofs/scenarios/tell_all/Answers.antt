@@ -1,0 +1,15 @@
+use Rattle.msc_command.proofs.Answered.{refused_so}
+use Rattle.msc_command.specs.Scenarios.{BeginsAll, PrintsAll, PrintsCounted}
+use Rattle.msc_command.proofs.scenarios.tell_all.Goals as goal
+
+pub returns-in-Ok : goal.returns-in-Ok
+returns-in-Ok g c =
+    let said = c.in-Ok.ensures in
+    (said.0, (c.in-Ok.one.listed, said.1), said.2)
+
+pub returns-in-Err : goal.returns-in-Err
+returns-in-Err g c =
+    let x = c.args.words in let file = c.args.file.now in let name = c.args.name.now in let scenarios = c.args.scenarios.now in
+    refused_so g.O.Write.contents (PrintsCounted x.quiet x.checking file name c.args.drawn scenarios) (PrintsAll x.quiet x.checking file name c.args.drawn scenarios)
+    (BeginsAll x.quiet x.checking file name c.args.drawn scenarios) (BeginsAll x.quiet x.checking file name c.args.drawn scenarios) (λ r. ⊥) (λ r. ⊥)
+    (λ printed begins. begins) (λ r said. said) c.in-Err.refusal _ _ c.in-Err.ensures

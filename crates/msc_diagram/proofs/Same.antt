@@ -1,0 +1,144 @@
+-- What is known of a scenario is the same, whoever found it: its races, those that count, and those that are listed.
+use Rattle.std.proofs.Common.{◌≡◌, zero, suc, ℕ, ◌<◌, Bool, cond, not, ◌&&◌, ◌||◌, nat_eq, List, [], ◌∷◌, length, map, refl, sym, ap, ap₂, ◌∙◌, subst, arith}
+use Rattle.std.specs.Cmp.{both_ways}
+use Rattle.std.specs.List.{filter, All}
+use Rattle.msc_chart.proofs.Drawn.{before_parts}
+use Rattle.msc_chart.proofs.ListLemmas.{by_test}
+use Rattle.msc_chart.specs.Charts.{before, is_controlled, partner}
+use Rattle.msc_chart.specs.Drawings.{Drawing, IsAccepted}
+use Rattle.msc_chart.specs.Lists.{pairs_of, Occurs}
+use Rattle.msc_chart.specs.Orders.{queue}
+use Rattle.msc_chart.specs.declared.queue.Queues.{Queues}
+use Rattle.msc_order.specs.Tables.{orders, Table}
+use Rattle.msc_race.proofs.Listing.Pairs.{of_parts}
+use Rattle.msc_race.specs.Races.{is_raced}
+use Rattle.msc_race.specs.Views.{races_of, wiring_of}
+use Rattle.msc_race.specs.Wired.{enforced_chart, EnforcedChart, IsEnforced}
+use Rattle.msc_reason.specs.Counting.{counting, counts, is_alone, is_listed, listed}
+use Rattle.msc_reason.specs.Kinds.{has_kind}
+use Rattle.msc_reason.specs.LeftOut.{is_accepted, of_kinds}
+use Rattle.msc_reason.specs.Marked.{kind_in, lack_in}
+use Rattle.msc_reason.specs.declared.kinds.KindSet.{KindSet}
+use Rattle.msc_reason.specs.declared.lack.RaceKind.{RaceKind}
+use Rattle.msc_reason.specs.declared.lack.RaceKind.TheVariants.{Early, Queues as QueueRace, Unordered, Overtaken}
+use Rattle.msc_reason.specs.declared.left_out.LeftOut.{LeftOut}
+use Rattle.msc_judge.specs.declared.question.Question.{Question}
+use Rattle.msc_diagram.specs.Counts.{counting_places, counts_of, listed_places, place_counts, race_places}
+use Rattle.msc_diagram.specs.Places.{above_with}
+use Rattle.msc_diagram.specs.Scenarios.{all_of, asked_of, counting_of, places_from, AreCases, Case, IsCase}
+use Rattle.msc_diagram.specs.declared.place.Place.{Place}
+use Rattle.msc_diagram.specs.declared.scenario.Scenario.{Scenario}
+
+-- two tests that agree on the items of a list keep the same ones
+pub filter_agreed : {X : Type 0} (p q : X → Bool) (xs : List X) → ((x : X) → Occurs xs x → p x ≡ q x) → filter p xs ≡ filter q xs
+filter_agreed p q [] same = refl
+filter_agreed {X} p q (x ∷ xs) same =
+    ap₂ (λ (b : Bool) (l : List X). cond b (x ∷ l) l) (same x (zero, refl)) (filter_agreed p q xs (λ y there. same y (suc there.0, there.1)))
+
+module _ (d : Drawing) (queues : Queues) (t u : Table) (accepted : IsAccepted d) (is : IsEnforced (enforced_chart d queues t)) (its : IsEnforced (enforced_chart d queues u)) where
+  -- the chart with the one order, and with the other
+  abbrev one : EnforcedChart
+  one = enforced_chart d queues t
+
+  abbrev two : EnforcedChart
+  two = enforced_chart d queues u
+
+  -- both tables order events in the same way
+  same_order : (x y : ℕ) → x < length d.events → y < length d.events → orders t x y ≡ orders u x y
+  same_order x y first second = both_ways (orders t x y) (orders u x y)
+      (λ held. its.enforced.complete x y (is.enforced.holds x y first second held))
+      (λ held. is.enforced.complete x y (its.enforced.holds x y first second held))
+
+  -- so the same pairs race
+  same_raced : (x y : ℕ) → is_raced d.events t x y ≡ is_raced d.events u x y
+  unfolding is_raced
+  same_raced x y = by_test (before d.events x y)
+      (λ drawn. let known = before_parts d.events x y drawn in ap (λ (b : Bool). before d.events x y && not b) (same_order x y known.0 known.1))
+      (λ fails. rw fails refl)
+
+  pub same_races : races_of one ≡ races_of two
+  same_races =
+      let test : is_raced d.events t ≡ is_raced d.events u = λ j x y. same_raced x y j in
+      ap (λ (test : ℕ → ℕ → Bool). pairs_of test (length d.events)) test
+
+  -- both events of a race are events of the chart
+  known_race : (p : ℕ × ℕ) → Occurs (races_of one) p → (p.0 < length d.events) × (p.1 < length d.events)
+  known_race (x, y) there = let parts = of_parts (is_raced d.events t) (length d.events) x y there in (parts.0, parts.1)
+
+  -- races are of the same kinds
+  same_kind : (x y : ℕ) → x < length d.events → y < length d.events → kind_in one x y ≡ kind_in two x y
+  same_kind x y first second =
+      ap (λ (b : Bool). cond (is_controlled d.events x) Early (cond (not (nat_eq (queue (wiring_of one) x) (queue (wiring_of one) y))) QueueRace (cond b Overtaken Unordered)))
+      (same_order (partner d.events y) (partner d.events x) (accepted.matched.in_range y second) (accepted.matched.in_range x first))
+
+  module _ (left : LeftOut) where
+    -- so the same races count
+    same_counts : (p : ℕ × ℕ) → Occurs (races_of one) p → counts left (lack_in one) p ≡ counts left (lack_in two) p
+    same_counts p there =
+        let known = known_race p there in
+        ap (λ (kind : RaceKind). not (is_accepted left p) && not (has_kind left.kinds kind)) (same_kind p.0 p.1 known.0 known.1)
+
+    pub same_counting : counting one left (lack_in one) ≡ counting two left (lack_in two)
+    same_counting =
+        filter_agreed (counts left (lack_in one)) (counts left (lack_in two)) (races_of one) same_counts
+        ∙ ap (filter (counts left (lack_in two))) same_races
+
+    -- and the same are listed
+    same_test : (closest : Bool) (p : ℕ × ℕ) → Occurs (races_of one) p
+        → is_listed one left closest (lack_in one) p ≡ is_listed two left closest (lack_in two) p
+    same_test closest p there =
+        ap₂ (λ (b : Bool) (l : List (ℕ × ℕ)). b && (not closest || is_alone d.events l p)) (same_counts p there) same_counting
+
+    pub same_listed : (closest : Bool) → listed one left closest (lack_in one) ≡ listed two left closest (lack_in two)
+    same_listed closest =
+        filter_agreed (is_listed one left closest (lack_in one)) (is_listed two left closest (lack_in two)) (races_of one) (same_test closest)
+        ∙ ap (filter (is_listed two left closest (lack_in two))) same_races
+
+-- two findings of one scenario agree on some races of it
+abbrev pub Agree : Queues → Bool → Bool → (Case → List (ℕ × ℕ)) → Type 0
+Agree queues short shorter pairs =
+    (c b : Case) → c.scenario ≡ b.scenario → IsCase queues short c → IsCase queues shorter b → pairs c ≡ pairs b
+
+module _ (queues : Queues) (short shorter : Bool) where
+  -- the order of the one finding, of the scenario of the other
+  moved : (c b : Case) → c.scenario ≡ b.scenario → IsCase queues shorter b → IsEnforced (enforced_chart c.scenario.chart queues b.order)
+  moved c b same its = subst (λ (s : Scenario). IsEnforced (enforced_chart s.chart queues b.order)) (sym same) its.enforced
+
+  pub all_agree : Agree queues short shorter (all_of queues)
+  all_agree c b same is its =
+      same_races c.scenario.chart queues c.order b.order is.accepted is.enforced (moved c b same its)
+      ∙ ap (λ (s : Scenario). races_of (enforced_chart s.chart queues b.order)) same
+
+  pub counting_agree : (kinds : KindSet) → Agree queues short shorter (counting_of queues kinds)
+  counting_agree kinds c b same is its =
+      same_counting c.scenario.chart queues c.order b.order is.accepted is.enforced (moved c b same its) (of_kinds kinds)
+      ∙ ap (λ (s : Scenario). let e = enforced_chart s.chart queues b.order in counting e (of_kinds kinds) (lack_in e)) same
+
+  pub listed_agree : (q : Question) → Agree queues short shorter (asked_of queues q)
+  listed_agree q c b same is its =
+      same_listed c.scenario.chart queues c.order b.order is.accepted is.enforced (moved c b same its) (of_kinds q.allowed) q.closest
+      ∙ ap (λ (s : Scenario). let e = enforced_chart s.chart queues b.order in listed e (of_kinds q.allowed) q.closest (lack_in e)) same
+
+  -- so the places of these races are the same
+  pub places_agree : (pairs : Case → List (ℕ × ℕ)) → Agree queues short shorter pairs → (above : List (Place × Place)) (cs bs : List Case)
+      → map (λ (c : Case). c.scenario) cs ≡ map (λ (c : Case). c.scenario) bs → All (IsCase queues short) cs → All (IsCase queues shorter) bs
+      → places_from pairs above cs ≡ places_from pairs above bs
+  places_agree pairs agree above [] [] same are its = refl
+  places_agree pairs agree above [] (b ∷ bs) same are its = absurd cc
+  places_agree pairs agree above (c ∷ cs) [] same are its = absurd cc
+  places_agree pairs agree above (c ∷ cs) (b ∷ bs) same are its =
+      let first : c.scenario ≡ b.scenario = cc in
+      let rest : map (λ (x : Case). x.scenario) cs ≡ map (λ (x : Case). x.scenario) bs = cc in
+      let here = agree c b first (are zero c (omega arith)) (its zero b (omega arith)) in
+      ap₂ (λ (s : Scenario) (l : List (ℕ × ℕ)). places_from pairs (above_with s above l) cs) first here
+      ∙ places_agree pairs agree (above_with b.scenario above (pairs b)) cs bs rest (λ k x within. are (suc k) x (omega (arith, within))) (λ k x within. its (suc k) x (omega (arith, within)))
+
+-- and so are all numbers of places
+pub counted_agree : (scenarios : List Scenario) (queues : Queues) (short shorter : Bool) (q : Question) (cs bs : List Case)
+    → AreCases queues short scenarios cs → AreCases queues shorter scenarios bs → place_counts queues q cs ≡ place_counts queues q bs
+counted_agree scenarios queues short shorter q cs bs are its =
+    let same = are.each ∙ sym its.each in
+    let all : race_places queues cs ≡ race_places queues bs = places_agree queues short shorter (all_of queues) (all_agree queues short shorter) [] cs bs same are.all its.all in
+    let some : counting_places queues q.allowed cs ≡ counting_places queues q.allowed bs = places_agree queues short shorter (counting_of queues q.allowed) (counting_agree queues short shorter q.allowed) [] cs bs same are.all its.all in
+    let few : listed_places queues q cs ≡ listed_places queues q bs = places_agree queues short shorter (asked_of queues q) (listed_agree queues short shorter q) [] cs bs same are.all its.all in
+    λ j. counts_of q (all j) (some j) (few j)

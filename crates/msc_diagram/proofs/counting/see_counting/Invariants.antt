@@ -1,0 +1,16 @@
+use Rattle.std.proofs.Common.{◌≡◌}
+use Rattle.msc_race.specs.Walks.{HasReached}
+use Rattle.msc_reason.proofs.Sums.{kept_below}
+use Rattle.msc_reason.specs.Counting.{counts}
+use Rattle.msc_reason.specs.Marked.{lack_in}
+use Rattle.msc_diagram.specs.Places.{above_with, AreAllPlaces}
+use Rattle.msc_diagram.specs.declared.scenario.Scenario.{Scenario}
+use Rattle.msc_diagram.proofs.counting.see_counting.Given as goal
+
+-- the races of the events so far that count were seen
+abbrev pub invariant-loop-e : goal.invariant-loop-e
+invariant-loop-e l = record {
+  reached : HasReached l.enforced.chart.events l.e l.walk;
+  seen : (s : Scenario) → AreAllPlaces s l.places
+      → l.seen ≡ above_with s l.fn.seen (kept_below l.enforced (counts l.left (lack_in l.enforced)) l.e);
+}

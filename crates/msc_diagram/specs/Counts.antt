@@ -1,0 +1,91 @@
+-- How many places of races the scenarios of a diagram have. A place is a pair of places of events: the instance,
+-- and both arrows with the end of each. This project's own numbers.
+use Rattle.std.specs.Prelude.{◌≡◌, ℕ, Bool, ◌&&◌, ◌||◌, not, cond, List, [], ◌++◌, Option, None, Some, codes, length, nat_eq}
+use Rattle.std.specs.Fmt.{decimal}
+use Rattle.std.specs.List.{filter, list_any}
+use Rattle.msc_chart.specs.declared.queue.Queues.{Queues}
+use Rattle.msc_judge.specs.declared.question.Question.{Question}
+use Rattle.msc_reason.specs.Kinds.{is_empty}
+use Rattle.msc_reason.specs.declared.kinds.KindSet.{KindSet}
+use Rattle.msc_report.specs.Texts.{text_line}
+use Rattle.msc_diagram.specs.Places.{same_places}
+use Rattle.msc_diagram.specs.Scenarios.{all_of, asked_of, counting_of, places_from, AreCases, Case}
+use Rattle.msc_diagram.specs.declared.numbers.PlaceCounts.{PlaceCounts}
+use Rattle.msc_diagram.specs.declared.place.Place.{Place}
+use Rattle.msc_diagram.specs.declared.scenario.Scenario.{Scenario}
+
+-- options choose among the races
+abbrev pub chooses : Question → Bool
+chooses q = q.closest || not (is_empty q.allowed)
+
+-- the places of all races of these scenarios, each once
+abbrev pub race_places : Queues → List Case → List (Place × Place)
+race_places queues cases = places_from (all_of queues) [] cases
+
+-- those at which a race of some scenario counts
+abbrev pub counting_places : Queues → KindSet → List Case → List (Place × Place)
+counting_places queues kinds cases = places_from (counting_of queues kinds) [] cases
+
+-- those at which a race is listed: one that counts, or a closest one, in some scenario
+abbrev pub listed_places : Queues → Question → List Case → List (Place × Place)
+listed_places queues q cases = places_from (asked_of queues q) [] cases
+
+-- the places of the first list that are not in the second
+abbrev pub without : List (Place × Place) → List (Place × Place) → List (Place × Place)
+without places others = filter (λ p. not (list_any (same_places p) others)) places
+
+-- those that are allowed: all races there, in all scenarios, are of kinds that are left out
+abbrev pub allowed_places : Queues → KindSet → List Case → List (Place × Place)
+allowed_places queues kinds cases = without (race_places queues cases) (counting_places queues kinds cases)
+
+-- how many places are in lists of all, of those that count and of those that are listed
+abbrev pub counts_of : Question → List (Place × Place) → List (Place × Place) → List (Place × Place) → PlaceCounts
+counts_of q all counting listed = record {
+  races = length all;
+  allowed = cond (is_empty q.allowed) None (Some (length (without all counting)));
+  closest = cond q.closest (Some (length listed)) None;
+  listed = length listed;
+}
+
+-- how many places of races these scenarios have: all; with kinds that are left out those that are allowed; with
+-- `closest` those of the closest races; and those that are listed
+abbrev pub place_counts : Queues → Question → List Case → PlaceCounts
+place_counts queues q cases = counts_of q (race_places queues cases) (counting_places queues q.allowed cases) (listed_places queues q cases)
+
+-- so many places, if all races are listed
+abbrev pub counts_of_all : ℕ → PlaceCounts
+counts_of_all races = record { races = races; allowed = None; closest = None; listed = races }
+
+-- these are the numbers of some scenarios, by what is known of them
+abbrev pub AreCountsOf : List Scenario → Queues → Question → PlaceCounts → Type 0
+AreCountsOf scenarios queues q counts =
+    (cases : List Case) × AreCases queues q.short scenarios cases × (counts ≡ place_counts queues q cases)
+
+-- the line of a word and a number
+abbrev pub number_line : List ℕ → ℕ → List ℕ
+number_line word number = word ++ text_line (decimal number)
+
+-- the same of a number that an option asks for
+abbrev pub option_line : List ℕ → Option ℕ → List ℕ
+option_line word None = []
+option_line word (Some number) = number_line word number
+
+-- how many places are allowed, and how many closest
+abbrev pub options_text : PlaceCounts → List ℕ
+options_text counts = option_line (codes "allowed ") counts.allowed ++ option_line (codes "closest ") counts.closest
+
+-- what options print above the scenarios: how many places there are, if there are some
+abbrev pub counts_text : Question → PlaceCounts → List ℕ
+counts_text q counts =
+    cond (chooses q && not (nat_eq counts.races 0)) (number_line (codes "races ") counts.races ++ options_text counts) []
+
+-- the line of a diagram without races
+abbrev pub pass_line : Bool → List ℕ
+pass_line drawn = cond drawn (text_line (codes "pass, parallel branches drawn one below the other")) (text_line (codes "pass"))
+
+-- what is printed below the scenarios: that there are no races, or how many places are listed and how many
+-- scenarios pass
+abbrev pub diagram_end : Bool → PlaceCounts → ℕ → List ℕ
+diagram_end drawn counts passed =
+    cond (nat_eq counts.races 0) (pass_line drawn ++ options_text counts)
+    (number_line (codes "listed ") counts.listed ++ number_line (codes "passed ") passed)

@@ -1,0 +1,56 @@
+//! The hint on a text that is read as a chart, and is a sequence diagram.
+
+ghost use Rattle.std.specs.Prelude.{◌≡◌, IfOk};
+
+use crate::hints::hint;
+use listed::Listed;
+use msc_markdown::Markdown;
+use msc_mermaid::ImportFault;
+use msc_notes::{Note, Tag, Told};
+use std::alloc::{AllocError, Global};
+
+/// Whether a text is a sequence diagram, by the first of its lines that counts, or is Markdown that
+/// has one. The only error is want of memory.
+pub fn is_sequence_diagram(alloc: Global, text: &[u8]) -> Result<bool, AllocError> {
+    match Markdown::of(alloc, text) {
+        Ok(found) => Ok(found.is_diagram() || !found.numbers().is_empty()),
+        Err(ImportFault::Memory) => Err(AllocError),
+        Err(_) => Ok(false),
+    }
+}
+
+/// The notes with this hint in the place of others: behind what was found, and before the rest.
+fn with_hint(alloc: Global, notes: Vec<Note>, words: &[u8]) -> Result<Vec<Note>, AllocError> {
+    let mut first = Vec::new(alloc);
+    let mut rest = Vec::new(alloc);
+    for note in notes {
+        match note.tag {
+            Tag::Found => first.push(note)?,
+            Tag::Hint => drop(note),
+            _ => rest.push(note)?,
+        }
+    }
+    hint(alloc, &mut first, words)?;
+    for note in rest {
+        first.push(note)?;
+    }
+    Ok(first)
+}
+
+/// What is told of the first fault of a text that was read as a chart and is a sequence diagram:
+/// that it is one, and what reads it, in place of other hints. The only error is want of memory.
+pub fn tell_other_way(alloc: Global, told: Told, is_check: bool) -> Result<Told, AllocError>
+    ensures { IfOk result (λ other. other.place ≡ told.place) }
+{
+    let words: &[u8] = if is_check {
+        b"this is a sequence diagram of Mermaid: --from any reads it"
+    } else {
+        b"this is a sequence diagram of Mermaid: msc import makes a chart of it"
+    };
+    let Told { place, notes } = told;
+    let notes = with_hint(alloc, notes.into_vec(), words)?;
+    Ok(Told {
+        place,
+        notes: Listed::from_vec(notes),
+    })
+}

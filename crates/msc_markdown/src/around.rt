@@ -1,0 +1,279 @@
+//! One line more of a text of Markdown: what of it belongs to a block, and which block is around the
+//! next one.
+
+ghost use Rattle.std.specs.Prelude.{◌≡◌, ◌≤◌, length};
+ghost use Rattle.std.specs.List.{prefix_len};
+ghost use Rattle.msc_lexer.specs.Bytes.{begins};
+ghost use Rattle.msc_mermaid.specs.Parts.{stretch};
+ghost use Rattle.msc_markdown.specs.Arounds.{around_of, begun, behind_marks, columns_before, form_of};
+ghost use Rattle.msc_markdown.specs.Arounds.{is_colon, is_left_out, is_option, is_option_byte};
+ghost use Rattle.msc_markdown.specs.Arounds.{is_option_of, left_by, nothing, on_behind, outside, part_of};
+ghost use Rattle.msc_markdown.specs.Arounds.{passed, start_of, within};
+
+use crate::blanks::behind;
+use crate::closing::{Closing, Ends, closing_of};
+use crate::marks::{marks, quoted, quoted_in_front, quotes, quotes_before};
+use msc_mermaid::{LinePart, counted, is_head, is_word_byte, trimmed};
+
+/// How a block of a diagram is written.
+#[derive(Clone, Copy, Debug, PartialEq, Eq)]
+pub enum Form {
+    /// Between fences, or in a directive.
+    Fenced,
+    /// In an element of HTML or a shortcode of Hugo: a browser reads it first.
+    Markup,
+    /// In a line outside of all blocks.
+    Stray,
+}
+
+/// The block around a line.
+#[derive(Clone, Copy, Debug, PartialEq, Eq)]
+pub(crate) struct Around {
+    /// How many marks of block quotes its lines have at least.
+    pub quotes: usize,
+    pub closing: Closing,
+    /// It is one of a diagram.
+    pub marked: bool,
+    /// Options of MyST may follow.
+    pub options: bool,
+}
+
+/// What a line leaves.
+#[derive(Clone, Copy)]
+pub(crate) struct Left<'t> {
+    /// What of it belongs to a block.
+    pub part: LinePart<'t>,
+    /// The form of the block of a diagram that starts on it.
+    pub start: Option<Form>,
+    /// The block around the next line.
+    pub after: Option<Around>,
+}
+
+/// Whether `:` stands here.
+fn begins_colon(bytes: &[u8]) -> bool
+    ensures { result ≡ begins is_colon bytes.now }
+{
+    match bytes {
+        [] => false,
+        [first, ..] => *first == b':',
+    }
+}
+
+/// Whether the name of an option has this byte.
+fn is_option_byte(byte: u8) -> bool
+    ensures { result ≡ is_option_byte byte }
+{
+    is_word_byte(byte) || byte == b'-'
+}
+
+/// How many such bytes stand here.
+fn option_bytes(bytes: &[u8]) -> usize
+    ensures length { result ≡ prefix_len is_option_byte bytes.now }
+    ensures within { result ≤ length bytes.now }
+{
+    bytes
+        .iter()
+        .take_while(|byte| is_option_byte(**byte))
+        .count()
+}
+
+/// Whether a name of so many bytes stands here before a colon.
+fn is_option_of(count: usize, bytes: &[u8]) -> bool
+    ensures { result ≡ is_option_of count bytes.now }
+{
+    count > 0 && begins_colon(behind(bytes, count))
+}
+
+/// Whether it is an option of MyST.
+fn is_option(bytes: &[u8]) -> bool
+    ensures { result ≡ is_option bytes.now }
+{
+    let name = behind(bytes, 1);
+    begins_colon(bytes) && is_option_of(option_bytes(name), name)
+}
+
+/// What stands on a line behind the marks in front.
+fn behind_marks(line: &[u8]) -> &[u8]
+    ensures { result.now ≡ behind_marks line.now }
+{
+    &line[marks(line)..]
+}
+
+/// How many columns of a line stand before its last bytes, which are these.
+fn columns_before(line: &[u8], bytes: &[u8]) -> usize
+    ensures { result ≡ columns_before line.now bytes.now }
+{
+    if bytes.len() > line.len() {
+        return 0;
+    }
+    counted(&line[..line.len() - bytes.len()])
+}
+
+/// Nothing of the line of this number.
+fn nothing(at: usize) -> LinePart<'static>
+    ensures { stretch result ≡ nothing at }
+{
+    LinePart {
+        line: at,
+        before: 0,
+        bytes: &[],
+    }
+}
+
+impl Closing {
+    /// The form of a block with this end.
+    fn form(self) -> Form
+        ensures { result ≡ form_of self }
+    {
+        match self {
+            Closing::Element(_) | Closing::Short(_) => Form::Markup,
+            Closing::Backquotes(_) | Closing::Tildes(_) | Closing::Colons => Form::Fenced,
+        }
+    }
+}
+
+impl Around {
+    /// The block that starts with a line, and has this end.
+    fn of(closing: Closing, line: &[u8]) -> Around
+        ensures { result ≡ around_of closing line.now }
+    {
+        let rest = behind_marks(line);
+        Around {
+            quotes: quotes(&line[..marks(line)]),
+            closing,
+            marked: closing.is_marked(rest),
+            options: closing.has_options(rest),
+        }
+    }
+
+    /// The form of a block of a diagram.
+    fn start(self) -> Option<Form>
+        ensures { result ≡ start_of self }
+    {
+        if self.marked {
+            Some(self.closing.form())
+        } else {
+            None
+        }
+    }
+
+    /// Whether a line of the block is left out.
+    fn is_left_out(self, bytes: &[u8]) -> bool
+        ensures { result ≡ is_left_out self bytes.now }
+    {
+        let text = trimmed(bytes);
+        self.options && (text.is_empty() || is_option(text))
+    }
+
+    /// What belongs to the block of what stands behind so many columns of a line.
+    fn part(self, at: usize, before: usize, bytes: &[u8]) -> LinePart<'_>
+        ensures { stretch result ≡ part_of at self before bytes.now }
+    {
+        if self.marked && !self.is_left_out(bytes) {
+            LinePart {
+                line: at,
+                before,
+                bytes,
+            }
+        } else {
+            nothing(at)
+        }
+    }
+
+    /// The block goes on.
+    fn on(self, bytes: &[u8]) -> Around
+        ensures { result ≡ on_behind self bytes.now }
+    {
+        Around {
+            quotes: self.quotes,
+            closing: self.closing,
+            marked: self.marked,
+            options: self.is_left_out(bytes),
+        }
+    }
+
+    /// What a line of the block leaves, of which this stands behind so many columns.
+    #[tactic(auto, unfolding(crate::specs::Arounds::within))]
+    fn within(self, at: usize, start: Option<Form>, before: usize, held: &[u8]) -> Left<'_>
+        ensures part { stretch result.part ≡ (within at self start before held.now).part }
+        ensures start { result.start ≡ (within at self start before held.now).start }
+        ensures after { result.after ≡ (within at self start before held.now).after }
+    {
+        let text = self.closing.before_end(held);
+        let after = if self.closing.is_end(held) {
+            None
+        } else {
+            Some(self.on(text))
+        };
+        Left {
+            part: self.part(at, before, text),
+            start,
+            after,
+        }
+    }
+}
+
+/// What a line leaves that a block with this end starts with.
+fn begun(at: usize, closing: Closing, line: &[u8]) -> Left<'_>
+    ensures part { stretch result.part ≡ (begun at closing line.now).part }
+    ensures start { result.start ≡ (begun at closing line.now).start }
+    ensures after { result.after ≡ (begun at closing line.now).after }
+{
+    let around = Around::of(closing, line);
+    let text = closing.text_of(behind_marks(line));
+    around.within(at, around.start(), columns_before(line, text), text)
+}
+
+/// What a line leaves that no block starts with.
+fn passed(at: usize, line: &[u8]) -> Left<'_>
+    ensures part { stretch result.part ≡ (passed at line.now).part }
+    ensures start { result.start ≡ (passed at line.now).start }
+    ensures after { result.after ≡ (passed at line.now).after }
+{
+    let before = quoted_in_front(line);
+    let bytes = &line[before..];
+    if is_head(bytes) {
+        return Left {
+            part: LinePart {
+                line: at,
+                before,
+                bytes,
+            },
+            start: Some(Form::Stray),
+            after: None,
+        };
+    }
+    Left {
+        part: nothing(at),
+        start: None,
+        after: None,
+    }
+}
+
+/// What a line outside of all blocks leaves.
+fn outside(at: usize, ends: Ends, line: &[u8]) -> Left<'_>
+    ensures part { stretch result.part ≡ (outside at ends line.now).part }
+    ensures start { result.start ≡ (outside at ends line.now).start }
+    ensures after { result.after ≡ (outside at ends line.now).after }
+{
+    match closing_of(ends, behind_marks(line)) {
+        None => passed(at, line),
+        Some(closing) => begun(at, closing, line),
+    }
+}
+
+/// What a line leaves that this block is around, if any, where so many ends of shortcodes follow.
+#[tactic(auto, unfolding(crate::specs::Arounds::left_by))]
+pub(crate) fn left_by(at: usize, ends: Ends, line: &[u8], around: Option<Around>) -> Left<'_>
+    ensures part { stretch result.part ≡ (left_by at ends line.now around).part }
+    ensures start { result.start ≡ (left_by at ends line.now around).start }
+    ensures after { result.after ≡ (left_by at ends line.now around).after }
+{
+    match around {
+        Some(block) if block.quotes <= quotes_before(line) => {
+            let before = quoted(block.quotes, line);
+            block.within(at, None, before, &line[before..])
+        }
+        _ => outside(at, ends, line),
+    }
+}

@@ -1,0 +1,163 @@
+//! A diagram in a part of a text: some of its lines, or what of them belongs to the diagram.
+
+ghost use Rattle.std.specs.Prelude.{◌≡◌, IfOk, map};
+ghost use Rattle.msc_mermaid.specs.Gives.{Gives};
+ghost use Rattle.msc_mermaid.specs.Parts.{blanked, entity_place, first_place, has_entity, is_said};
+ghost use Rattle.msc_mermaid.specs.Parts.{may_say, part_step, place_in, said_of, steps_of, stretch};
+ghost use Rattle.msc_mermaid.specs.Reading.{Leaves};
+
+use crate::fault::ImportFault;
+use crate::key::Mark;
+use crate::lines::Row;
+use crate::progress::{Inside, Progress};
+use crate::reading::Reader;
+use crate::seeking::{Sought, from_entity, holds};
+use crate::shape::{Shape, shape_of};
+use crate::statement::{Cross, Diagram};
+use crate::waiting::Waiting;
+use crate::white::{behind_white, is_white, trimmed};
+use msc_place::Position;
+use std::alloc::{AllocError, Global};
+
+/// What of the line of a number, from 1, belongs to a diagram, and how many columns of the line
+/// stand before it.
+#[derive(Clone, Copy, Debug)]
+pub struct LinePart<'t> {
+    pub line: usize,
+    pub before: usize,
+    pub bytes: &'t [u8],
+}
+
+/// The line of a part, with blanks for what stands before it.
+fn line_of(alloc: Global, part: LinePart<'_>) -> Result<Vec<u8>, AllocError>
+    ensures { IfOk result (λ v. v.items ≡ blanked (stretch part.entry)) }
+{
+    let mut line = vec![in alloc; b' '; part.before]?;
+    line.extend_from_slice(part.bytes)?;
+    Ok(line)
+}
+
+/// Where the first byte of a part stands that is no white space.
+fn place_in(alloc: Global, part: LinePart<'_>) -> Result<Position, AllocError>
+    ensures { IfOk result (λ p. p ≡ place_in (stretch part.entry)) }
+{
+    let line = line_of(alloc, part)?;
+    let row = Row {
+        line: part.line,
+        bytes: line.as_slice(),
+    };
+    Ok(row.position_of(behind_white(line.as_slice())))
+}
+
+/// Where the first byte stands that is no white space, in parts of lines of a text that ends here;
+/// and else its end. The only error is want of memory.
+pub fn first_place(
+    alloc: Global,
+    parts: &[LinePart<'_>],
+    end: Position,
+) -> Result<Position, AllocError>
+    ensures { IfOk result (λ p. p ≡ first_place (map stretch parts.now) end) }
+{
+    for i in 0..parts.len() {
+        if !is_white(parts[i].bytes) {
+            return place_in(alloc, parts[i]);
+        }
+    }
+    Ok(end)
+}
+
+/// Whether a line of this shape is one of statements, of a diagram that has begun or not.
+fn is_said(begun: bool, shape: Shape) -> bool
+    ensures { result ≡ is_said begun shape }
+{
+    match shape {
+        Shape::Head => true,
+        Shape::Other => begun,
+        Shape::Nothing | Shape::Directive | Shape::Comment => false,
+    }
+}
+
+impl Inside {
+    /// Whether a line within it may be one of statements.
+    fn may_say(self) -> bool
+        ensures { result ≡ may_say self }
+    {
+        match self {
+            Inside::Start | Inside::Nothing | Inside::Rest | Inside::Configuration => true,
+            Inside::Front | Inside::Directive | Inside::Description => false,
+        }
+    }
+}
+
+impl Progress {
+    /// Whether a line of statements, in which no directive stands, has an entity of HTML.
+    fn has_entity(&self, bytes: &[u8]) -> bool
+        ensures { result ≡ has_entity bytes.now self.now }
+    {
+        self.inside.may_say()
+            && is_said(self.begun, shape_of(trimmed(bytes)))
+            && !holds(bytes, Sought::Text(Mark::Directive))
+            && holds(bytes, Sought::Entity)
+    }
+
+    /// Reads one part more, where a browser reads the text first, or not.
+    #[tactic(auto, unfolding(crate::specs::Parts::part_step))]
+    fn part(
+        &mut self,
+        alloc: Global,
+        markup: bool,
+        cross: Option<Cross>,
+        part: LinePart<'_>,
+    ) -> Result<(), ImportFault>
+        ensures { Leaves result self.new (part_step markup cross (stretch part.entry) self.old) }
+    {
+        let bytes = line_of(alloc, part)?;
+        let line = bytes.as_slice();
+        if markup && self.has_entity(line) {
+            let row = Row {
+                line: part.line,
+                bytes: line,
+            };
+            return Err(ImportFault::Entity(row.position_of(from_entity(line))));
+        }
+        self.step(alloc, cross, part.line, line)
+    }
+
+    /// Reads these parts, from the first one on.
+    fn parts(
+        &mut self,
+        alloc: Global,
+        markup: bool,
+        cross: Option<Cross>,
+        parts: &[LinePart<'_>],
+    ) -> Result<(), ImportFault>
+        ensures { Leaves result self.new (steps_of markup cross (map stretch parts.now) self.old) }
+    {
+        for i in 0..parts.len() {
+            self.part(alloc, markup, cross, parts[i])?;
+        }
+        Ok(())
+    }
+}
+
+/// The diagram of parts of some lines of a text that ends here, or its first fault. Where a browser
+/// reads the text first, an entity of HTML in a line of statements is one.
+#[tactic(auto, unfolding(crate::specs::Parts::said_of))]
+pub fn diagram_of_parts(
+    alloc: Global,
+    markup: bool,
+    cross: Option<Cross>,
+    end: Position,
+    parts: &[LinePart<'_>],
+) -> Result<Diagram, ImportFault>
+    ensures { Gives (λ x. x) result (said_of markup cross end (map stretch parts.now)) }
+{
+    let mut progress = Progress {
+        inside: Inside::Start,
+        begun: false,
+        reader: Reader::new(alloc),
+        waiting: Waiting::new(alloc),
+    };
+    progress.parts(alloc, markup, cross, parts)?;
+    progress.ended(end)
+}
