@@ -163,7 +163,7 @@ pub(crate) fn diagram_text(
         return with_plain_lines(alloc, text);
     };
     match number_in(task, &found) {
-        Some(number) => block_text(alloc, text, &found, number),
+        Some(number) => block_text(alloc, &found, number),
         None => with_plain_lines(alloc, text),
     }
 }

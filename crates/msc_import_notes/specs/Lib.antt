@@ -1,2 +1,3 @@
 -- what is promised
 pub mod Places
+pub mod Plain

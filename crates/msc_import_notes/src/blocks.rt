@@ -1,64 +1,16 @@
-//! The text of a block of Markdown, and what is told of the blocks of a text.
+//! What is told of the blocks of a text of Markdown.
 
 ghost use Rattle.std.specs.Prelude.{◌≡◌, IfOk};
 
 use crate::hints::{hint, what_stands, worded};
 use listed::Listed;
 use msc_markdown::Markdown;
-use msc_mermaid::{Expectation, ImportFault, LinePart, lines_of};
+use msc_mermaid::{Expectation, ImportFault};
 use msc_notes::{Note, Tag, Told};
 use std::alloc::{AllocError, Global};
 
 /// The most numbers of blocks that are told.
 const NUMBERS: usize = 20;
-
-/// Puts so many blanks behind a text.
-fn put_blanks(text: &mut Vec<u8>, count: usize) -> Result<(), AllocError> {
-    for _ in 0..count {
-        text.push(b' ')?;
-    }
-    Ok(())
-}
-
-/// Puts a line behind a text, with blanks for what does not belong to its part.
-fn put_line(text: &mut Vec<u8>, line: &[u8], part: Option<LinePart>) -> Result<(), AllocError> {
-    let Some(part) = part else {
-        return put_blanks(text, line.len());
-    };
-    let own = part.before.saturating_add(part.bytes.len());
-    put_blanks(text, part.before)?;
-    text.extend_from_slice(part.bytes)?;
-    put_blanks(text, line.len().saturating_sub(own))
-}
-
-/// The part of the line of a number, if one of these is.
-fn part_on<'t>(parts: &[LinePart<'t>], line: usize) -> Option<LinePart<'t>> {
-    let first = parts.first()?;
-    let at = line.checked_sub(first.line)?;
-    let part = parts.get(at)?;
-    Some(*part)
-}
-
-/// The text of a block of Markdown, by its number from 1: that of the whole file with one LF for
-/// each end of a line, in which blanks stand for all that does not belong to the block. So places
-/// are those of the whole text. The only error is want of memory.
-pub fn block_text(
-    alloc: Global,
-    text: &[u8],
-    found: &Markdown<'_>,
-    number: usize,
-) -> Result<Vec<u8>, AllocError> {
-    let lines = lines_of(alloc, text)?;
-    let parts = found.block_parts(number);
-    let mut plain = Vec::new(alloc);
-    for i in 0..lines.len() {
-        if i > 0 {
-            plain.push(b'\n')?;
-        }
-        put_line(&mut plain, lines[i], part_on(parts, i + 1))?;
-    }
-    Ok(plain)
-}
 
 /// Puts the hint on the numbers of a text's sequence diagrams behind notes, if it has some.
 fn put_numbers(alloc: Global, notes: &mut Vec<Note>, numbers: &[usize]) -> Result<(), AllocError> {

@@ -19,11 +19,13 @@ mod kinds;
 mod names;
 mod near;
 mod other_way;
+mod plain;
 mod scenarios;
 mod statement;
 mod tell;
 
-pub use blocks::{block_text, with_block_notes, with_whole_lines};
+pub use blocks::{with_block_notes, with_whole_lines};
 pub use other_way::{is_sequence_diagram, tell_other_way};
+pub use plain::{block_text, with_plain_lines};
 pub use scenarios::tell_scenarios;
-pub use tell::{fault_line, tell_import, with_plain_lines};
+pub use tell::{fault_line, tell_import};

@@ -1,6 +1,7 @@
 //! The hint on a text that is read as a chart, and is a sequence diagram.
 
 ghost use Rattle.std.specs.Prelude.{◌≡◌, IfOk};
+ghost use Rattle.msc_import_notes.specs.Plain.{is_sequence_diagram};
 
 use crate::hints::hint;
 use listed::Listed;
@@ -11,7 +12,9 @@ use std::alloc::{AllocError, Global};
 
 /// Whether a text is a sequence diagram, by the first of its lines that counts, or is Markdown that
 /// has one. The only error is want of memory.
-pub fn is_sequence_diagram(alloc: Global, text: &[u8]) -> Result<bool, AllocError> {
+pub fn is_sequence_diagram(alloc: Global, text: &[u8]) -> Result<bool, AllocError>
+    ensures { IfOk result (λ is. is ≡ is_sequence_diagram text.now) }
+{
     match Markdown::of(alloc, text) {
         Ok(found) => Ok(found.is_diagram() || !found.numbers().is_empty()),
         Err(ImportFault::Memory) => Err(AllocError),

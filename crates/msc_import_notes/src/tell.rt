@@ -11,24 +11,10 @@ use crate::names::{declared, name_answer, receiver, sender, word_at};
 use crate::near::lowered;
 use crate::statement::Statement;
 use listed::Listed;
-use msc_mermaid::{Expectation, ImportFault, diagram_of, lines_of};
+use msc_mermaid::{Expectation, ImportFault, diagram_of};
 use msc_notes::{Note, Tag, Told};
 use msc_place::{Lines, Position};
 use std::alloc::{AllocError, Global};
-
-/// The text of a diagram with one LF for each end of a line, and without a byte order mark: the
-/// positions of its places are those that faults have.
-pub fn with_plain_lines(alloc: Global, text: &[u8]) -> Result<Vec<u8>, AllocError> {
-    let lines = lines_of(alloc, text)?;
-    let mut plain = Vec::new(alloc);
-    for i in 0..lines.len() {
-        if i > 0 {
-            plain.push(b'\n')?;
-        }
-        plain.extend_from_slice(lines.get(i).copied().unwrap_or(b""))?;
-    }
-    Ok(plain)
-}
 
 /// Where a fault stands, if it stands anywhere.
 fn position_of(fault: ImportFault) -> Option<Position>

@@ -1,0 +1,6 @@
+use Rattle.std.proofs.Common.{◌≡◌, map, take}
+use Rattle.std.specs.List.{join_with_byte}
+use Rattle.msc_import_notes.proofs.plain.joined.Given as goal
+
+abbrev pub invariant-loop-i : goal.invariant-loop-i
+invariant-loop-i l = l.plain.items ≡ join_with_byte 10 (map (λ x. x.now) (take l.i l.lines))
