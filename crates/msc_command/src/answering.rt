@@ -1,5 +1,5 @@
-//! The answers of tasks: the text is read once, its chart is made, and what is asked of it is
-//! answered and printed.
+//! The answers of tasks: each reads the text once, makes its chart, and prints what the task
+//! computes of it.
 
 ghost use Rattle.std.specs.Prelude.{◌≡◌, ℕ, List, option_map, IfErr, Ok, OnOk};
 ghost use Rattle.std.specs.Io.KnownBytes.{Keeps};
@@ -77,7 +77,7 @@ fn flush<O: Write>(output: &mut O) -> Result<(), Refusal<'static>>
     }
 }
 
-/// Writes what is asked of the races of a text's chart in a format, with these marks and rounds.
+/// Prints the verdict on a text's chart in a format, with these marks and rounds.
 fn check_in<O: Write>(
     alloc: Global,
     checking: Checking,
@@ -106,7 +106,7 @@ fn check_in<O: Write>(
     Ok(ended_by(passed))
 }
 
-/// Writes what is asked of the races of the chart of a text, of the file of this name.
+/// Prints the verdict on the chart of a text, which the file of this name holds.
 fn check<O: Write>(
     alloc: Global,
     checking: Checking,
@@ -220,7 +220,7 @@ fn ready<'w, O: Write>(
     Ok(ended_by(finishes))
 }
 
-/// Writes what is asked of the chart of a text, of the file of this name.
+/// Prints the answer to a task on the chart of a text, which the file of this name holds.
 fn answer_chart<'w, R: Threads + Wait + Sync, O: Write>(
     rt: &R,
     alloc: Global,
@@ -349,8 +349,8 @@ fn tell_failure<O: TellsFailure, E: Write>(faults: &mut E, refusal: Refusal<'_>,
     }
 }
 
-/// Writes the line of a refusal, and what is said of it where that is requested; and tells how the
-/// run ended.
+/// Writes the line of a refusal, with its notes if they are requested, and answers how the run
+/// ended.
 fn end_told<O: TellsFailure, E: Write>(
     alloc: Global,
     request: Request<'_>,
@@ -510,8 +510,8 @@ fn survey<O: TellsFailure, E: Write>(
     Ok(worst)
 }
 
-/// Writes what is asked of the races of the diagrams of a text: of all, if the words ask for that
-/// and it is Markdown with some; else of the one.
+/// Prints the verdicts on the diagrams of a text: on all those of Markdown if no block is named,
+/// else on the one.
 fn check_diagrams<O: TellsFailure, E: Write>(
     alloc: Global,
     request: Request<'_>,

@@ -1,7 +1,7 @@
-//! What is said of a refusal behind its line: where it stands in its text, and notes.
+//! The notes on a refusal, which follow its line: where it stands in its text, and hints.
 //!
-//! What is told of a fault is promised by `msc_notes`; where memory runs out, or a write fails, the
-//! line of the refusal stands alone, or a beginning of this behind it.
+//! `msc_notes` and `msc_import_notes` promise what a note says. If memory runs out or a write fails,
+//! the line of the refusal is printed without notes, or with the first of them.
 
 ghost use Rattle.std.specs.Prelude.{◌≡◌, IfOk, IfSome};
 ghost use Rattle.msc_import_notes.specs.Places.{fault_line, IsOnLine};
@@ -33,7 +33,7 @@ use std::alloc::{AllocError, Global};
 use std::io;
 use std::io::Write;
 
-/// Writes what was told of a fault of a text with these lines.
+/// Writes the notes on a fault of a text with these lines.
 fn write_told_of<E: Write>(
     alloc: Global,
     faults: &mut E,
@@ -49,12 +49,12 @@ fn write_told_of<E: Write>(
     write_told(faults, file.as_bytes(), lines, told, shown.as_slice())
 }
 
-/// Whether a task is asked of a chart by `msc check`.
+/// Whether the task is that of `msc check`.
 fn is_check(task: Task<'_>) -> bool {
     matches!(task, Task::Chart(Ask::Check(_) | Ask::Quiet(_)))
 }
 
-/// What is told of the first fault of a text: of one that is a diagram, what reads it.
+/// The notes on the first fault of a text. If the text is a diagram, they say what reads it.
 pub(crate) fn told_of_parse(
     alloc: Global,
     task: Task<'_>,
@@ -70,7 +70,7 @@ pub(crate) fn told_of_parse(
     Ok(told)
 }
 
-/// Writes what is said of the first fault of a text.
+/// Writes the notes on the first fault of a text.
 fn write_parse_notes<E: Write>(
     alloc: Global,
     faults: &mut E,
@@ -89,7 +89,7 @@ fn write_line<E: Write>(faults: &mut E, fault: ChartFault) -> io::Result<()> {
     write_fault(faults, &Fault::Chart(fault))
 }
 
-/// Writes what is said of the first fault of a text's draft, and of the further ones.
+/// Writes the notes on the first fault of a text's draft, and the further faults.
 fn write_chart_notes<E: Write>(
     alloc: Global,
     faults: &mut E,
@@ -168,7 +168,7 @@ pub(crate) fn diagram_text(
     }
 }
 
-/// What is told of a fault of an import of a text, of which this is the text of the diagram.
+/// The notes on a fault of an import of a text. `plain` is the text of its diagram.
 pub(crate) fn told_of_import(
     alloc: Global,
     task: Task<'_>,
@@ -194,7 +194,7 @@ pub(crate) fn told_of_import(
     }
 }
 
-/// Writes what is said of why nothing is imported of a text.
+/// Writes the notes on a refused import.
 fn write_import_notes<E: Write>(
     alloc: Global,
     faults: &mut E,
@@ -209,7 +209,7 @@ fn write_import_notes<E: Write>(
     write_told_of(alloc, faults, request.file, &lines, &told)
 }
 
-/// Writes what is said of a refusal of what is asked of a text.
+/// Writes the notes on a refusal of a request.
 pub(crate) fn write_notes<E: Write>(
     alloc: Global,
     faults: &mut E,
