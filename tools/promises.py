@@ -2,8 +2,8 @@
 """Looks whether what docs/PROMISES.md and docs/PROOFS.md name is there: calls and their clauses,
 laws, definitions and lemmas in the files that stand behind them, and tests; whether each public
 call with a contract has a docstring, which docs/contracts shows; whether each edit can be applied;
-and whether docs/contracts is what the sources say. Prints what is not so; the exit status is 1
-then.
+whether docs/contracts is what the sources say; and whether the links and paths of all documents
+lead to something. Prints what is not so; the exit status is 1 then.
 
     tools/promises.py            looks
     tools/promises.py --write    makes docs/contracts anew, and then looks
@@ -22,6 +22,8 @@ LISTED = re.compile(r"((?:`[^`]+`, )*`[^`]+`) \((?:`(\w+)`, )?`((?:specs|proofs)
 LAWS = re.compile(r"`(?:(\w+)::)?laws::(\w+)`((?:: (?:`\w+`(?:, )?)+)?)")
 # the crates of tests
 TESTS = ("program_tests", "chart_tests", "import_tests")
+# a link to a file or a heading, without the address of another place
+LINK = re.compile(r"\]\((?!\w+:)([^)#\s]*)#?([^)\s]*)\)")
 WORDS = r"(?m)^\s*(?:(?:pub|abbrev|unfoldable|opaque|data|record)\s+)*{}(?=[\s:(])"
 
 
@@ -142,6 +144,39 @@ def unsaid():
                 yield f"{it.path} of {crate} has a contract and no docstring"
 
 
+def is_path(path):
+    """Whether the repository has a path, from its top or from its crates. CRATE and NAME stand for
+    any name, and the ending of definitions can be left out."""
+    pattern = re.sub(r"\b(?:CRATE|NAME)\b", "*", path.removeprefix("./"))
+    roots = (TOP, CRATES)
+    return any(any(it.glob(pattern + end)) for it in roots for end in ("", ".antt"))
+
+
+def anchors(page):
+    """The names by which links reach the headings of a page."""
+    heads = re.findall(r"(?m)^#+ (.*)$", page.read_text())
+    return {re.sub(r"[^\w -]", "", head.lower()).replace(" ", "-") for head in heads}
+
+
+def missing_paths(page):
+    """Each line's number, and the links and paths of the line that lead to nothing. A path is a
+    word in backquotes that begins with a folder of the top or a crate; what a build makes is none.
+    Blocks are left out."""
+    known = {it.name for root in (TOP, CRATES) for it in root.iterdir()}
+    is_block = False
+    for number, line in enumerate(page.read_text().split("\n"), 1):
+        is_block ^= line.lstrip().startswith("```")
+        for link, anchor in () if is_block else LINK.findall(line):
+            to = page.parent / link if link else page
+            if not to.exists() or anchor and anchor not in anchors(to):
+                yield number, f"{link}#{anchor}".removesuffix("#")
+        for word in () if is_block else " ".join(re.findall(r"`([^`]+)`", line)).split():
+            parts = word.removeprefix("./").split("/")
+            is_named = parts[1:] and parts[0] in known and "out" not in parts
+            if is_named and not is_path(word):
+                yield number, word
+
+
 def stale():
     """The pages that are not what the sources say, and edits that cannot be applied."""
     made = contracts.pages()
@@ -175,6 +210,9 @@ def main():
     for page in ("docs/PROMISES.md", "docs/PROOFS.md"):
         text = (TOP / page).read_text()
         found += [f"{page}:{number}: there is no {it}" for number, it in missing(text)]
+    for page in sorted([*TOP.glob("*.md"), *TOP.glob("docs/*.md"), *TOP.glob("bench/*.md")]):
+        name = page.relative_to(TOP)
+        found += [f"{name}:{number}: there is no {it}" for number, it in missing_paths(page)]
     print("\n".join([*found, f"promises: {len(found)} faults"] if found else PASSED))
     return int(bool(found))
 
