@@ -17,7 +17,7 @@ ghost use Rattle.msc_source.specs.Inputs.{IsReadFrom};
 use crate::answering::{end_unread_task, perform};
 use crate::ending::{Status, end_with};
 use crate::grammar::{Lists, grammar};
-use crate::misuse::tell_misuse;
+use crate::misuse::write_misuse;
 use crate::recorded::TellsFailure;
 use crate::tasks::{Request, Task, file_of, notes_of, task_of};
 use crate::words::Verb;
@@ -73,18 +73,18 @@ fn tell_usage<O: Write, E: Write>(output: &mut O, faults: &mut E, error: &Error)
     }
 }
 
-/// What the words behind a command ask for, if they name it and are all there. Why they ask for
-/// nothing goes to `faults`.
+/// What the words behind a command of this name ask for. Why they are no command goes to `faults`.
 fn task_named<'w, E: Write>(name: &str, words: &'w ArgMatches, faults: &mut E) -> Option<Task<'w>>
     ensures { MatchOption result (IsNamedVainly name.now (found_of words.entry.now))
         (IsNamed name.now (found_of words.entry.now)) }
 {
-    let verb = Verb::of(name)?;
-    let task = task_of(verb, words);
-    if task.is_none() {
-        tell_misuse(faults, verb, words);
+    match task_of(Verb::of(name)?, words) {
+        Ok(task) => Some(task),
+        Err(misuse) => {
+            let _ = write_misuse(faults, misuse);
+            None
+        }
     }
-    task
 }
 
 /// Does what the words behind a command ask for, and tells how the run ended.
