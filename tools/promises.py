@@ -1,13 +1,15 @@
 #!/usr/bin/env python3
 """Looks whether what docs/PROMISES.md and docs/PROOFS.md name is there: calls and their clauses,
-laws, definitions and lemmas in the files that stand behind them, and tests; whether PROMISES has
-each public call with a contract; whether each edit can be applied; and whether docs/contracts is
-what the sources say. Prints what is not so; the exit status is 1 then.
+laws, definitions and lemmas in the files that stand behind them, and tests; whether each public
+call with a contract has a docstring, which docs/contracts shows; whether each edit can be applied;
+whether docs/contracts is what the sources say; and whether the links and paths of all documents
+lead to something. Prints what is not so; the exit status is 1 then.
 
     tools/promises.py            looks
     tools/promises.py --write    makes docs/contracts anew, and then looks
 """
 import argparse
+import functools
 import re
 import sys
 
@@ -20,6 +22,8 @@ LISTED = re.compile(r"((?:`[^`]+`, )*`[^`]+`) \((?:`(\w+)`, )?`((?:specs|proofs)
 LAWS = re.compile(r"`(?:(\w+)::)?laws::(\w+)`((?:: (?:`\w+`(?:, )?)+)?)")
 # the crates of tests
 TESTS = ("program_tests", "chart_tests", "import_tests")
+# a link to a file or a heading, without the address of another place
+LINK = re.compile(r"\]\((?!\w+:)([^)#\s]*)#?([^)\s]*)\)")
 WORDS = r"(?m)^\s*(?:(?:pub|abbrev|unfoldable|opaque|data|record)\s+)*{}(?=[\s:(])"
 
 
@@ -39,6 +43,7 @@ def missing_words(crate, text):
                 yield f"{name} in {place}"
 
 
+@functools.cache
 def named(crate):
     """The items of a crate by each of their names: the bare one, that with the type, and that with
     the module."""
@@ -49,23 +54,36 @@ def named(crate):
     return found
 
 
+def crate_of(crate, call):
+    """The crate of a call, which may stand before its name, and the name."""
+    first, _, rest = call.partition("::")
+    return (first, rest) if rest and (CRATES / first).is_dir() else (crate or "", call)
+
+
 def missing_calls(crate, cell):
-    """The calls of a cell, parted by `;`, that the crate has not, and the clauses behind `:` that
-    none of these calls has; behind a type may stand a trait that it has."""
-    items = named(crate)
+    """The calls of a cell, parted by `;`, that the crate before their name, or else this one, has
+    not, and the clauses behind `:` that none of these calls has; behind a type may stand a trait
+    that it has."""
     for part in cell.split(";"):
         lists = [re.findall(r"`([^`/]+)`", it) for it in re.split(r":(?=\s)", part)]
         calls, *clauses = [names for names in lists if names] or [[]]
-        calls = [it for it in calls if "laws::" not in it]
-        yield from (it for it in calls if it not in items)
-        found = [it for call in calls for it in items.get(call, ())]
+        calls = [crate_of(crate, it) for it in calls if "laws::" not in it]
+        yield from (f"{name} in {of or 'no crate'}" for of, name in calls if name not in named(of))
+        found = [it for of, name in calls for it in named(of).get(name, ())]
         known = {clause for it in found for _, clause, _ in it.clauses}
-        every = [it for of in items.values() for it in of if it.owner in calls]
-        traits = [it.name for it in every if it.kind == "trait"]
+        every = [(it, of) for of, _ in calls for items in named(of).values() for it in items]
+        traits = [it.name for it, of in every if it.kind == "trait" and (of, it.owner) in calls]
         known |= {re.sub(r"<.*", "", it).split("::")[-1] for it in traits}
         for name in clauses[0] if calls and clauses else []:
             if name not in known:
-                yield f"clause {name} of {', '.join(calls)}"
+                yield f"clause {name} of {', '.join(name for _, name in calls)}"
+
+
+def missing_in_prose(line):
+    """The calls of a line, each behind its crate, that are not there."""
+    for call in re.findall(r"`(\w+::\w[\w:]*)`", line):
+        if (CRATES / call.split("::")[0]).is_dir():
+            yield from missing_calls(None, f"`{call}`")
 
 
 def missing_laws(crate, text):
@@ -106,6 +124,7 @@ def missing(text):
         found = []
         if not line.startswith("|"):
             columns = None
+            found = [*missing_in_prose(line)]
         elif columns is None:
             columns = cells
         elif line.startswith("| ") and columns[1] == "Test":
@@ -116,14 +135,46 @@ def missing(text):
         yield from ((number, it) for it in found)
 
 
-def unsaid(text):
-    """The public calls with a contract of which the part on their crate says nothing."""
-    parts = dict(re.findall(r"(?ms)^## [^\n]*\(`(\w+)`\)$(.*?)(?=^## |\Z)", text))
+def unsaid():
+    """The public calls with a contract and no docstring, of which docs/contracts says nothing in
+    words."""
     for crate in filter(contracts.has_calls, sorted(it.name for it in CRATES.iterdir())):
-        names = {it.split("::")[-1] for it in re.findall(r"`([^`]+)`", parts.get(crate, ""))}
         for it in contracts.public_items(crate):
-            if it.kind == "call" and it.clauses and it.name not in names:
-                yield f"docs/PROMISES.md says nothing of {it.path} of {crate}"
+            if it.kind == "call" and it.clauses and not it.doc:
+                yield f"{it.path} of {crate} has a contract and no docstring"
+
+
+def is_path(path):
+    """Whether the repository has a path, from its top or from its crates. CRATE and NAME stand for
+    any name, and the ending of definitions can be left out."""
+    pattern = re.sub(r"\b(?:CRATE|NAME)\b", "*", path.removeprefix("./"))
+    roots = (TOP, CRATES)
+    return any(any(it.glob(pattern + end)) for it in roots for end in ("", ".antt"))
+
+
+def anchors(page):
+    """The names by which links reach the headings of a page."""
+    heads = re.findall(r"(?m)^#+ (.*)$", page.read_text())
+    return {re.sub(r"[^\w -]", "", head.lower()).replace(" ", "-") for head in heads}
+
+
+def missing_paths(page):
+    """Each line's number, and the links and paths of the line that lead to nothing. A path is a
+    word in backquotes that begins with a folder of the top or a crate; what a build makes is none.
+    Blocks are left out."""
+    known = {it.name for root in (TOP, CRATES) for it in root.iterdir()}
+    is_block = False
+    for number, line in enumerate(page.read_text().split("\n"), 1):
+        is_block ^= line.lstrip().startswith("```")
+        for link, anchor in () if is_block else LINK.findall(line):
+            to = page.parent / link if link else page
+            if not to.exists() or anchor and anchor not in anchors(to):
+                yield number, f"{link}#{anchor}".removesuffix("#")
+        for word in () if is_block else " ".join(re.findall(r"`([^`]+)`", line)).split():
+            parts = word.removeprefix("./").split("/")
+            is_named = parts[1:] and parts[0] in known and "out" not in parts
+            if is_named and not is_path(word):
+                yield number, word
 
 
 def stale():
@@ -155,10 +206,13 @@ def main():
     parser.add_argument("--write", action="store_true", help="make docs/contracts anew")
     if parser.parse_args().write:
         write()
-    found = [*stale(), *unsaid((TOP / "docs/PROMISES.md").read_text())]
+    found = [*stale(), *unsaid()]
     for page in ("docs/PROMISES.md", "docs/PROOFS.md"):
         text = (TOP / page).read_text()
         found += [f"{page}:{number}: there is no {it}" for number, it in missing(text)]
+    for page in sorted([*TOP.glob("*.md"), *TOP.glob("docs/*.md"), *TOP.glob("bench/*.md")]):
+        name = page.relative_to(TOP)
+        found += [f"{name}:{number}: there is no {it}" for number, it in missing_paths(page)]
     print("\n".join([*found, f"promises: {len(found)} faults"] if found else PASSED))
     return int(bool(found))
 
