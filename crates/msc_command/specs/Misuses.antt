@@ -1,7 +1,6 @@
--- Why words that `clap` took are no command, and what is printed of it.
-use Rattle.std.specs.Prelude.{◌≡◌, ◌⊎◌, ℕ, true, false, Bor, List, ◌++◌, Option, None, Some, codes}
-use Rattle.std.specs.Fmt.{decimal}
-use Rattle.std.specs.Io.KnownBytes.{Appends}
+-- Why words that `clap` took are no command.
+use Rattle.std.specs.Prelude.{◌≡◌, ◌⊎◌, ℕ, true, false, List, None, Some}
+use Rattle.std.specs.Borrow.{Bor}
 use Rattle.clap.specs.Matches.{first_value}
 use Rattle.clap.specs.declared.parser.matches.Found.{Found}
 use Rattle.msc_report.specs.declared.pair.EventName.{EventName}
@@ -110,60 +109,3 @@ IsMisuse verb found misuse =
 -- the words behind a command are none
 abbrev pub IsNoCommand : Verb → Found → Type 0
 IsNoCommand verb found = (misuse : Misuse) × IsMisuse verb found misuse
-
--- what stands below a line of wrong usage
-abbrev pub help_text : List ℕ
-help_text = codes "\n\nFor more information, try '--help'.\n"
-
--- a line of wrong usage
-abbrev pub usage_text : List ℕ → List ℕ
-usage_text words = codes "error: " ++ (words ++ help_text)
-
--- that this is missing
-abbrev pub missing_text : List ℕ → List ℕ
-missing_text words =
-    usage_text (codes "the following required arguments were not provided:\n  " ++ words)
-
--- that an option has such a text, and expects something else
-abbrev pub unexpected_text : List ℕ → List ℕ → List ℕ → List ℕ
-unexpected_text text option expected =
-    usage_text (codes "invalid value '" ++ (text ++ (codes "' for '" ++ (option ++ (codes "': expected " ++ expected)))))
-
--- that a word cannot be given with `--from`
-abbrev pub not_of_diagrams_text : Word → List ℕ
-not_of_diagrams_text word =
-    usage_text (codes "the argument '--from <mermaid|any>' cannot be used with '--" ++ (word_name word ++ codes "'"))
-
--- that as many scenarios cannot be requested
-abbrev pub no_limit_text : ℕ → List ℕ
-no_limit_text limit =
-    usage_text (codes "invalid value '" ++ (decimal limit ++ (codes "' for '--limit <N>': " ++ (decimal limit ++ codes " is not in 1..=4096"))))
-
--- that a word with this text names no event, and why
-abbrev pub IsNoEventText : Word → List ℕ → List ℕ → Type 0
-IsNoEventText word text printed =
-    (reason : List ℕ)
-    × (printed ≡ usage_text (codes "invalid value '" ++ (text ++ (codes "' for '<" ++ (word_name word ++ (codes ">': " ++ reason))))))
-
--- what is printed of words that are no command
-abbrev pub IsMisuseText : Misuse → List ℕ → Type 0
-IsMisuseText Excluded printed =
-    printed ≡ usage_text (codes "the argument '--places' cannot be used with '--plain'")
-IsMisuseText NoQueues printed = printed ≡ missing_text (codes "--queues <QUEUES>")
-IsMisuseText (LacksEvent word) printed = printed ≡ missing_text (codes "<" ++ (word_name word ++ codes ">"))
-IsMisuseText (NoEvent word text) printed = IsNoEventText word text.now printed
-IsMisuseText (NoChoices text) printed =
-    printed ≡ unexpected_text text.now (codes "--choose <C>") (codes "main, or numbers with commas")
-IsMisuseText NoDiagram printed = printed ≡ missing_text (codes "--from <mermaid|any>")
-IsMisuseText (NotOfDiagrams word) printed = printed ≡ not_of_diagrams_text word
-IsMisuseText (NoRounds text) printed =
-    printed ≡ unexpected_text text.now (codes "--rounds <R,R..>") (codes "numbers up to 1024 with commas")
-IsMisuseText (NoLimit limit) printed = printed ≡ no_limit_text limit
-
--- known bytes grow by something
-abbrev pub AppendsSome : Option (List ℕ) → Option (List ℕ) → Type 0
-AppendsSome old new = (printed : List ℕ) × Appends old new printed
-
--- known bytes grow by a text that passes
-abbrev pub AppendsOne : Option (List ℕ) → Option (List ℕ) → (List ℕ → Type 0) → Type 0
-AppendsOne old new Is = (printed : List ℕ) × Is printed × Appends old new printed

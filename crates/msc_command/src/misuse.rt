@@ -1,12 +1,6 @@
 //! Words that `clap` takes and that are no command: words that exclude each other, lack what the
-//! command needs, or name no event. They are refused in the form in which `clap` refuses words.
-
-ghost use Rattle.std.specs.Prelude.{◌++◌, codes, OnOk};
-ghost use Rattle.std.specs.Io.KnownBytes.{Appends};
-ghost use Rattle.msc_command.specs.Misuses.{missing_text, no_limit_text, not_of_diagrams_text};
-ghost use Rattle.msc_command.specs.Misuses.{unexpected_text, AppendsOne, AppendsSome};
-ghost use Rattle.msc_command.specs.Misuses.{IsMisuseText, IsNoEventText};
-ghost use Rattle.msc_command.specs.Words.{word_name};
+//! command needs, or name no event. They are refused in the form in which `clap` refuses words; no
+//! clause says what is printed, and transcripts compare it.
 
 use crate::tasks::GREATEST_LIMIT;
 use crate::words::Word;
@@ -40,9 +34,7 @@ pub(crate) enum Misuse<'w> {
 }
 
 /// Writes why a text is no number from a first one on.
-fn write_no_number<E: Write>(faults: &mut E, text: &str, first: u32) -> io::Result<()>
-    ensures { OnOk result (AppendsSome (E.contents faults.old) (E.contents faults.new)) }
-{
+fn write_no_number<E: Write>(faults: &mut E, text: &str, first: u32) -> io::Result<()> {
     match text.parse::<i64>() {
         Ok(number) => write!(faults, "{number} is not in {first}..=4294967295"),
         Err(error) => write!(faults, "{error}"),
@@ -50,10 +42,7 @@ fn write_no_number<E: Write>(faults: &mut E, text: &str, first: u32) -> io::Resu
 }
 
 /// Writes why a word with this text names no event.
-fn write_no_event<E: Write>(faults: &mut E, word: Word, text: &str) -> io::Result<()>
-    ensures { OnOk result (AppendsOne (E.contents faults.old) (E.contents faults.new)
-        (IsNoEventText word text.now)) }
-{
+fn write_no_event<E: Write>(faults: &mut E, word: Word, text: &str) -> io::Result<()> {
     let name = word.name();
     write!(faults, "error: invalid value '{text}' for '<{name}>': ")?;
     match text.strip_prefix(':') {
@@ -64,10 +53,7 @@ fn write_no_event<E: Write>(faults: &mut E, word: Word, text: &str) -> io::Resul
 }
 
 /// Writes that an argument is missing.
-fn write_missing<E: Write>(faults: &mut E, argument: &str) -> io::Result<()>
-    ensures { OnOk result (Appends (E.contents faults.old) (E.contents faults.new)
-        (missing_text argument.now)) }
-{
+fn write_missing<E: Write>(faults: &mut E, argument: &str) -> io::Result<()> {
     writeln!(
         faults,
         "error: the following required arguments were not provided:\n  {argument}{HELP}"
@@ -75,10 +61,7 @@ fn write_missing<E: Write>(faults: &mut E, argument: &str) -> io::Result<()>
 }
 
 /// Writes that the word for an event is missing.
-fn write_lacking<E: Write>(faults: &mut E, word: Word) -> io::Result<()>
-    ensures { OnOk result (Appends (E.contents faults.old) (E.contents faults.new)
-        (missing_text (codes "<" ++ (word_name word ++ codes ">")))) }
-{
+fn write_lacking<E: Write>(faults: &mut E, word: Word) -> io::Result<()> {
     let name = word.name();
     writeln!(
         faults,
@@ -87,10 +70,7 @@ fn write_lacking<E: Write>(faults: &mut E, word: Word) -> io::Result<()>
 }
 
 /// Writes that a word cannot be given with `--from`.
-fn write_not_of_diagrams<E: Write>(faults: &mut E, word: Word) -> io::Result<()>
-    ensures { OnOk result (Appends (E.contents faults.old) (E.contents faults.new)
-        (not_of_diagrams_text word)) }
-{
+fn write_not_of_diagrams<E: Write>(faults: &mut E, word: Word) -> io::Result<()> {
     let name = word.name();
     writeln!(
         faults,
@@ -104,10 +84,7 @@ fn write_unexpected<E: Write>(
     text: &str,
     option: &str,
     expected: &str,
-) -> io::Result<()>
-    ensures { OnOk result (Appends (E.contents faults.old) (E.contents faults.new)
-        (unexpected_text text.now option.now expected.now)) }
-{
+) -> io::Result<()> {
     writeln!(
         faults,
         "error: invalid value '{text}' for '{option}': expected {expected}{HELP}"
@@ -115,10 +92,7 @@ fn write_unexpected<E: Write>(
 }
 
 /// Writes that a limit of this many scenarios cannot be requested.
-fn write_no_limit<E: Write>(faults: &mut E, limit: u32) -> io::Result<()>
-    ensures { OnOk result (Appends (E.contents faults.old) (E.contents faults.new)
-        (no_limit_text limit)) }
-{
+fn write_no_limit<E: Write>(faults: &mut E, limit: u32) -> io::Result<()> {
     writeln!(
         faults,
         "error: invalid value '{limit}' for '--limit <N>': {limit} is not in 1..={GREATEST_LIMIT}{HELP}"
@@ -126,10 +100,7 @@ fn write_no_limit<E: Write>(faults: &mut E, limit: u32) -> io::Result<()>
 }
 
 /// Writes why words are no command.
-pub(crate) fn write_misuse<E: Write>(faults: &mut E, misuse: Misuse<'_>) -> io::Result<()>
-    ensures { OnOk result (AppendsOne (E.contents faults.old) (E.contents faults.new)
-        (IsMisuseText misuse.entry)) }
-{
+pub(crate) fn write_misuse<E: Write>(faults: &mut E, misuse: Misuse<'_>) -> io::Result<()> {
     match misuse {
         Misuse::Excluded => writeln!(
             faults,

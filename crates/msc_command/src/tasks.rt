@@ -539,7 +539,8 @@ fn scenarios_of<'w>(queues: Queues, words: &'w ArgMatches) -> Result<Task<'w>, M
     requires { is_of_scenarios (found_of words.now) ≡ true }
     ensures task { architecture (found_of words.entry.now) ≡ Some queues
         → IfOk result (AsksFor Verb.Check (found_of words.entry.now)) }
-    ensures misuse { IfErr result (IsDiagramMisuse (found_of words.entry.now)) }
+    ensures misuse { architecture (found_of words.entry.now) ≡ Some queues
+        → IfErr result (IsDiagramMisuse (found_of words.entry.now)) }
 {
     let checking = checking_of(queues, words, runs_shown(words));
     if checking.accept {
@@ -561,7 +562,8 @@ fn scenarios_of<'w>(queues: Queues, words: &'w ArgMatches) -> Result<Task<'w>, M
 fn check_of<'w>(queues: Queues, words: &'w ArgMatches) -> Result<Task<'w>, Misuse<'w>>
     ensures task { architecture (found_of words.entry.now) ≡ Some queues
         → IfOk result (AsksFor Verb.Check (found_of words.entry.now)) }
-    ensures misuse { IfErr result (IsCheckMisuse (found_of words.entry.now)) }
+    ensures misuse { architecture (found_of words.entry.now) ≡ Some queues
+        → IfErr result (IsCheckMisuse (found_of words.entry.now)) }
 {
     if lacks_from(words) {
         return Err(Misuse::NoDiagram);
