@@ -1,4 +1,5 @@
 -- What was answered of a chart is answered of its text, and a flush keeps it.
+use Rattle.std.proofs.lemmas.Bool.{false≢true}
 use Rattle.std.proofs.Common.{◌≡◌, ◌≢◌, ◌<◌, ℕ, Bool, true, false, List, [], is_some, length, Bor, Option, Some, None, option_map, Result, Ok, Err, inl, inr, refl, sym, subst, ◌∙◌}
 use Rattle.std.proofs.lemmas.List.{append-nil}
 use Rattle.std.specs.Io.KnownBytes.{Appends, Keeps}
@@ -74,17 +75,17 @@ quietly_long x s twice.Memory said = tt
 -- whether rounds are given is whether they are asked for
 pub rounds_given : (again : Bool) (d : Drawing) (two : Option (Bor Drawing)) → AreRounds again d (option_map (λ t. t.now) two) → is_some two ≡ again
 rounds_given again d None same = sym same
-rounds_given again d (Some t) (same, is) = sym same
+rounds_given again d (Some t) (same, is, short) = sym same
 
 -- and they are those of the chart
 pub rounds_are : (again : Bool) (d : Drawing) (two : Option (Bor Drawing)) → AreRounds again d (option_map (λ t. t.now) two) → AreTwoRounds d two
 rounds_are again d None same = tt
-rounds_are again d (Some t) (same, is) = is.0
+rounds_are again d (Some t) (same, is, short) = is
 
 -- and the chart is short enough for them
 pub has_room : (again : Bool) (d : Drawing) (two : Option (Bor Drawing)) → AreRounds again d (option_map (λ t. t.now) two) → HasRoom again d
-has_room again d None same = λ asked. absurd (sym same ∙ asked)
-has_room again d (Some t) (same, is) = λ asked. is.1
+has_room again d None same = λ asked. absurd (false≢true (sym same ∙ asked))
+has_room again d (Some t) (same, is, short) = λ asked. short
 
 module _ {W : Type 0} (contents : W → Option (List ℕ)) where
   -- what one thing was refused with another was, where what begins the one begins the other

@@ -1,5 +1,5 @@
 -- Words that name no event.
-use Rattle.std.proofs.Common.{◌≡◌, ℕ, List, Bor, Result, Ok, Err, Some, inl, inr}
+use Rattle.std.proofs.Common.{◌≡◌, ℕ, List, Bor, Result, Ok, Err, Some, inr}
 use Rattle.std.specs.Prelude.{IfErr, IfOk}
 use Rattle.clap.specs.Matches.{first_value}
 use Rattle.clap.specs.declared.parser.matches.Found.{Found}
