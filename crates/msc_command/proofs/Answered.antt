@@ -1,4 +1,5 @@
 -- What was answered of a chart is answered of its text, and a flush keeps it.
+use Rattle.std.proofs.lemmas.Bool.{false≢true}
 use Rattle.std.proofs.Common.{◌≡◌, ◌≢◌, ◌<◌, ℕ, Bool, true, false, List, [], is_some, length, Bor, Option, Some, None, option_map, Result, Ok, Err, inl, inr, refl, sym, subst, ◌∙◌}
 use Rattle.std.proofs.lemmas.List.{append-nil}
 use Rattle.std.specs.Io.KnownBytes.{Appends, Keeps}
@@ -39,7 +40,7 @@ use Rattle.msc_command.specs.Ending.{ended_by, of_marks, of_rounds}
 use Rattle.msc_command.specs.Formats.{IsFormat}
 use Rattle.msc_command.specs.Marked.{AreMarked, ReadsMarks}
 use Rattle.msc_command.specs.Readied.{names_of, AreReady}
-use Rattle.msc_command.specs.Rounds.{AreRounds, GivesRounds}
+use Rattle.msc_command.specs.Rounds.{AreRounds, GivesRounds, HasRoom}
 use Rattle.msc_command.specs.declared.tasks.Quieting.{Quieting}
 use Rattle.msc_command.specs.Sited.{IsStyle}
 use Rattle.msc_command.specs.declared.tasks.Readying.{Readying}
@@ -74,12 +75,17 @@ quietly_long x s twice.Memory said = tt
 -- whether rounds are given is whether they are asked for
 pub rounds_given : (again : Bool) (d : Drawing) (two : Option (Bor Drawing)) → AreRounds again d (option_map (λ t. t.now) two) → is_some two ≡ again
 rounds_given again d None same = sym same
-rounds_given again d (Some t) (same, is) = sym same
+rounds_given again d (Some t) (same, is, short) = sym same
 
 -- and they are those of the chart
 pub rounds_are : (again : Bool) (d : Drawing) (two : Option (Bor Drawing)) → AreRounds again d (option_map (λ t. t.now) two) → AreTwoRounds d two
 rounds_are again d None same = tt
-rounds_are again d (Some t) (same, is) = is
+rounds_are again d (Some t) (same, is, short) = is
+
+-- and the chart is short enough for them
+pub has_room : (again : Bool) (d : Drawing) (two : Option (Bor Drawing)) → AreRounds again d (option_map (λ t. t.now) two) → HasRoom again d
+has_room again d None same = λ asked. absurd (false≢true (sym same ∙ asked))
+has_room again d (Some t) (same, is, short) = λ asked. short
 
 module _ {W : Type 0} (contents : W → Option (List ℕ)) where
   -- what one thing was refused with another was, where what begins the one begins the other
@@ -126,12 +132,12 @@ module _ {W : Type 0} (contents : W → Option (List ℕ)) where
   put_so prints refuses bytes status says (Err r) old new is = rw is tt
 
   module _ (c : Checking) (file : List ℕ) (format : Format) (s : SourceText) (its : IsFormat c file s.text format)
-      (marks : Option (List Mark)) (are : AreMarked c.accept s.text marks) where
+      (marks : Option (List Mark)) (are : AreMarked c.accept s.text marks) (room : HasRoom c.again s.chart) where
     -- what is judged of a chart, with rounds of it where they are asked for
     judges : (again : Bool) → again ≡ c.again → (passed : Bool) (printed : List ℕ) → JudgesChart s.chart c.queues c.question marks again format passed printed
         → PrintsOf (asks.Check c) file s (ended_by passed) printed
     judges again asked passed printed says =
-        (format, its, marks, are, passed, refl, subst (λ (a : Bool). JudgesChart s.chart c.queues c.question marks a format passed printed) asked says)
+        (format, its, marks, are, room, passed, refl, subst (λ (a : Bool). JudgesChart s.chart c.queues c.question marks a format passed printed) asked says)
 
     -- where it was told it was answered
     pub judged : (again : Bool) → again ≡ c.again → (passed : Bool) (old new : W)
@@ -149,12 +155,12 @@ module _ {W : Type 0} (contents : W → Option (List ℕ)) where
     not_judged again asked writing.Device old new said = tt
 
   module _ (x : Readying) (file : List ℕ) (s : SourceText) (only : Option (List Bool)) (are : AreReady s.chart (names_of x) only)
-      (style : Style) (its : IsStyle x.look file s.text style) where
+      (style : Style) (its : IsStyle x.look file s.text style) (room : HasRoom x.again s.chart) where
     -- what is told of ready instances, with rounds of the chart where they are asked for
     readies : (again : Bool) → again ≡ x.again → (passed : Bool) (printed : List ℕ) → PrintsReady s.chart x.queues only again x.show style passed printed
         → PrintsOf (asks.Ready x) file s (ended_by passed) printed
     readies again asked passed printed says =
-        (only, are, style, its, passed, refl, subst (λ (a : Bool). PrintsReady s.chart x.queues only a x.show style passed printed) asked says)
+        (only, are, style, its, room, passed, refl, subst (λ (a : Bool). PrintsReady s.chart x.queues only a x.show style passed printed) asked says)
 
     -- where it was told it was answered
     pub readied : (again : Bool) → again ≡ x.again → (passed : Bool) (old new : W)

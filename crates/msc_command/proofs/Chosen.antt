@@ -1,5 +1,5 @@
 -- Which texts are checked diagram by diagram, and what is imported of one of them.
-use Rattle.std.proofs.Common.{◌≡◌, ◌||◌, ℕ, Bool, true, false, cond, nat_eq, nat_lt, List, length, Option, Some, None, Result, Ok, Err, refl, sym, ap, subst, ◌∙◌}
+use Rattle.std.proofs.Common.{◌≡◌, ℕ, Bool, true, false, cond, nat_lt, List, length, Option, Some, None, Result, Ok, Err, refl, sym, ap, subst}
 use Rattle.msc_import.specs.Importing.{found_as}
 use Rattle.msc_import.specs.Whole.{WantedAll, imported_all, imported_all_from}
 use Rattle.msc_lexer.specs.declared.TheConstants.{TEXT_LIMIT}
@@ -7,7 +7,7 @@ use Rattle.msc_markdown.specs.Markdowns.{Found, found_in, markdown}
 use Rattle.msc_mermaid.specs.declared.fault.ImportFault.{ImportFault}
 use Rattle.msc_mermaid.specs.declared.fault.ImportFault.TheVariants.{TooLong}
 use Rattle.msc_command.specs.Answering.{AnswersWith, BeginsDiagrams, Does, PrintsDiagrams, RefusesDiagrams}
-use Rattle.msc_command.specs.Surveys.{many_found, many_in, many_of}
+use Rattle.msc_command.specs.Surveys.{many_found, many_in}
 use Rattle.msc_command.specs.declared.ending.Refusal.{Refusal}
 use Rattle.msc_command.specs.declared.ending.Status.{Status}
 use Rattle.msc_command.specs.declared.tasks.ScenarioWords.{ScenarioWords}

@@ -1,9 +1,14 @@
 -- Words that name no event.
-use Rattle.std.proofs.Common.{◌≡◌, ◌∙◌, ℕ, List, [], Option, Some, None, ap, sym, subst}
-use Rattle.std.specs.Prelude.{MatchOption, unwrap_or}
+use Rattle.std.proofs.Common.{◌≡◌, ℕ, List, Bor, Result, Ok, Err, Some, inr}
+use Rattle.std.specs.Prelude.{IfErr, IfOk}
 use Rattle.clap.specs.Matches.{first_value}
 use Rattle.clap.specs.declared.parser.matches.Found.{Found}
-use Rattle.msc_command.specs.Asking.{IsColonAnd, IsEventWord, IsNameText, IsNoName, IsNoNumber, LacksEvent}
+use Rattle.msc_command.specs.Asking.{IsColonAnd, IsEventWord, IsNameText, IsNoName, IsNoNumber}
+use Rattle.msc_command.specs.Misuses.{IsEventMisuse}
+use Rattle.msc_command.specs.Words.{word_name}
+use Rattle.msc_command.specs.declared.misuse.Misuse.{Misuse}
+use Rattle.msc_command.specs.declared.misuse.Misuse.TheVariants.{NoEvent}
+use Rattle.msc_command.specs.declared.words.Word.{Word}
 use Rattle.msc_report.specs.declared.pair.EventName.{EventName}
 use Rattle.msc_report.specs.declared.pair.EventName.TheVariants.{Number, Line}
 
@@ -12,9 +17,14 @@ pub no_number : (text : List ℕ) → ((rest : List ℕ) → IsColonAnd text res
 no_number text apart none (Number n) named = none n named.1
 no_number text apart none (Line line) named = apart named.0 named.1
 
--- what a word says that stands, and names an event or none
-pub told_of : (found : Found) (id text : List ℕ) (name : Option EventName) → first_value found id ≡ Some text
-    → MatchOption name (IsNoName text) (IsNameText text) → MatchOption name (LacksEvent found id) (IsEventWord found id)
-told_of found id text (Some name) word named = record { text = text; word = word; named = named }
-told_of found id text None word none =
-    λ name e. none name (subst (λ t. IsNameText t name) (ap (λ (o : Option (List ℕ)). unwrap_or o []) (sym e.word ∙ word)) e.named)
+-- the word of an argument whose text names an event names it
+pub named_so : (found : Found) (id text : List ℕ) (r : Result EventName Misuse) → first_value found id ≡ Some text
+    → IfOk r (IsNameText text) → IfOk r (IsEventWord found id)
+named_so found id text (Ok name) word named = record { text = text; word = word; named = named }
+named_so found id text (Err misuse) word named = tt
+
+-- and one whose text names none is mistaken
+pub mistaken_so : (found : Found) (w : Word) (text : Bor (List ℕ)) (r : Result EventName Misuse) → first_value found (word_name w) ≡ Some text.now
+    → IfErr r (λ m. (m ≡ NoEvent w text) × IsNoName text.now) → IfErr r (IsEventMisuse found w)
+mistaken_so found w text (Ok name) given mistaken = tt
+mistaken_so found w text (Err misuse) given (is, none) = inr record { text = text; is = is; given = given; none = none }

@@ -50,12 +50,12 @@ diagram_refused (Some f) x file text printed is says = (x, file, text, f, is, sa
 -- so of what is printed for a task only several diagrams are
 printed_refused : (task : Task) (file text printed : List ℕ) → Prints task file text Refused printed → RefusesOne printed
 printed_refused tasks.Read file text printed (draft, has, same, is) = absurd cc
-printed_refused (tasks.Chart (asks.Check c)) file text printed (d, of_text, (format, its, marks, are, passed, same, says)) = absurd (never_ended passed same)
-printed_refused (tasks.Chart (asks.Quiet x)) file text printed (d, of_text, (marks, are, passed, same, says, none)) = absurd (never_ended passed same)
+printed_refused (tasks.Chart (asks.Check c)) file text printed (d, of_text, (format, its, marks, are, room, passed, same, says)) = absurd (never_ended passed same)
+printed_refused (tasks.Chart (asks.Quiet x)) file text printed (d, of_text, (marks, are, room, passed, same, says, none)) = absurd (never_ended passed same)
 printed_refused (tasks.Chart (asks.Explain x)) file text printed (d, of_text, (e, f, two, style, its, enforced, same, says)) = absurd (never_ended enforced same)
 printed_refused (tasks.Chart (asks.Run queues patience)) file text printed (d, of_text, (finished, same, says)) = absurd (never_finished finished same)
 printed_refused (tasks.Chart (asks.List placed)) file text printed (d, of_text, (sites, are, same, is)) = absurd cc
-printed_refused (tasks.Chart (asks.Ready x)) file text printed (d, of_text, (only, are, style, its, passed, same, says)) = absurd (never_ended passed same)
+printed_refused (tasks.Chart (asks.Ready x)) file text printed (d, of_text, (only, are, style, its, room, passed, same, says)) = absurd (never_ended passed same)
 printed_refused (tasks.Draw drawn) file text printed (d, is, (same, says)) = absurd cc
 printed_refused (tasks.Import x) file text printed (same, says) = absurd cc
 printed_refused (tasks.Scenarios x) file text printed says = diagram_refused (many_in x text) x file text printed refl says

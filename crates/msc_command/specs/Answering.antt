@@ -32,7 +32,7 @@ use Rattle.msc_command.specs.Marked.{AreMarked, HasFaultyMark}
 use Rattle.msc_command.specs.Naming.{AreTwoNamed, IsNamedFault}
 use Rattle.msc_command.specs.Readied.{names_of, AreReady, IsFirstUnknown}
 use Rattle.msc_command.specs.Refused.{form_of, TellsRefusal, TellsUnread}
-use Rattle.msc_command.specs.Rounds.{LacksRounds}
+use Rattle.msc_command.specs.Rounds.{HasRoom, LacksRounds}
 use Rattle.msc_command.specs.Scenarios.{BeginsScenarios, PrintsScenarios, RefusesScenarios}
 use Rattle.msc_command.specs.Sited.{AreSited, IsStyle}
 use Rattle.msc_command.specs.Surveys.{many_in, refused_text, AreLinesIn, BeginsSurvey, Surveys}
@@ -52,10 +52,10 @@ use Rattle.msc_command.specs.declared.tasks.Task.TheVariants.{Read, Chart, Draw,
 abbrev pub PrintsOf : Ask → List ℕ → SourceText → Status → List ℕ → Type 0
 PrintsOf (Check c) file s status printed =
     (format : Format) × IsFormat c file s.text format
-    × (marks : Option (List Mark)) × AreMarked c.accept s.text marks
+    × (marks : Option (List Mark)) × AreMarked c.accept s.text marks × HasRoom c.again s.chart
     × (passed : Bool) × (status ≡ ended_by passed) × JudgesChart s.chart c.queues c.question marks c.again format passed printed
 PrintsOf (Quiet x) file s status printed =
-    (marks : Option (List Mark)) × AreMarked x.accept s.text marks
+    (marks : Option (List Mark)) × AreMarked x.accept s.text marks × HasRoom x.again s.chart
     × (passed : Bool) × (status ≡ ended_by passed) × Passes s.chart x.queues x.allowed marks x.again passed × (printed ≡ [])
 PrintsOf (Explain x) file s status printed =
     (e f : ℕ) × AreTwoNamed s x.first x.second e f × (style : Style) × IsStyle x.look file s.text style
@@ -66,7 +66,7 @@ PrintsOf (Listing placed) file s status printed =
     (sites : Option SitesIn) × AreSited placed file s.text sites × (status ≡ Done) × (printed ≡ listed_text s.chart sites)
 PrintsOf (Ready x) file s status printed =
     (only : Option (List Bool)) × AreReady s.chart (names_of x) only × (style : Style) × IsStyle x.look file s.text style
-    × (passed : Bool) × (status ≡ ended_by passed) × PrintsReady s.chart x.queues only x.again x.show style passed printed
+    × HasRoom x.again s.chart × (passed : Bool) × (status ≡ ended_by passed) × PrintsReady s.chart x.queues only x.again x.show style passed printed
 
 -- the names of a pair that is asked for are those of no two events of the chart
 abbrev pub RefusesPair : Ask → SourceText → NamedFault → Type 0

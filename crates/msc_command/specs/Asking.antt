@@ -1,5 +1,5 @@
 -- What the words behind a command ask for, by what `clap` found of them.
-use Rattle.std.specs.Prelude.{◌≡◌, ◌<◌, ◌⊎◌, ◌^◌, ◌&&◌, ◌||◌, not, ℕ, Bool, true, false, List, [], ◌++◌, Option, Some, None, codes, map, option_and_then, unwrap_or, cond, option_map, is_some, nat_le}
+use Rattle.std.specs.Prelude.{◌≡◌, ◌<◌, ◌^◌, ◌&&◌, ◌||◌, not, ℕ, Bool, true, false, List, [], ◌++◌, Option, Some, None, codes, map, option_and_then, unwrap_or, cond, option_map, is_some, nat_le}
 use Rattle.std.specs.List.{list_any}
 use Rattle.std.specs.Option.{option_map_or}
 use Rattle.std.specs.Str.{bytes_eq}
@@ -85,10 +85,6 @@ pub record IsEventWord (found : Found) (id : List ℕ) (name : EventName) : Type
   pub text : List ℕ
   pub word : first_value found id ≡ Some text
   pub named : IsNameText text name
-
--- an argument has no such word
-abbrev pub LacksEvent : Found → List ℕ → Type 0
-LacksEvent found id = (name : EventName) → IsEventWord found id name → ⊥
 
 -- the number of an option, and what it is without it
 pub record IsOptionNumber (found : Found) (id : List ℕ) (without n : ℕ) : Type 0 where
@@ -296,13 +292,17 @@ pub record IsSurvey (found : Found) (x : ScenarioWords) : Type 0 where
   pub once : x.checking.again ≡ false
   pub quiet : IsFlag found (word_name words.Quiet) x.quiet
 
+-- the words of `check` are of a chart: none of them is of diagrams
+abbrev pub IsOfChart : Found → Type 0
+IsOfChart found = (is_of_scenarios found ≡ false) × (lacks_from found ≡ false)
+
 -- What the words behind a command ask for. What is to be quiet is told by the status alone.
 abbrev pub AsksFor : Verb → Found → Task → Type 0
 AsksFor verbs.Read found Read = Unit {0}
 AsksFor verbs.Check found (Chart (Check c)) =
-    (is_of_scenarios found ≡ false) × IsFlag found (word_name words.Quiet) false × IsChecking found unlimited c
+    IsOfChart found × IsFlag found (word_name words.Quiet) false × IsChecking found unlimited c
 AsksFor verbs.Check found (Chart (Quiet x)) =
-    (is_of_scenarios found ≡ false) × IsFlag found (word_name words.Quiet) true × IsQuieting found x
+    IsOfChart found × IsFlag found (word_name words.Quiet) true × IsQuieting found x
 AsksFor verbs.Check found (Scenarios x) = (is_of_scenarios found ≡ true) × IsSurvey found x
 AsksFor verbs.Explain found (Chart (Explain x)) = IsExplaining found x
 AsksFor verbs.Run found (Chart (Run queues patience)) =
@@ -316,39 +316,6 @@ AsksFor verbs.Ready found (Chart (Ready x)) = IsReadying found x
 AsksFor verbs.Import found (Import x) = IsImporting found x
 AsksFor verb found task = ⊥
 
--- the words lack the architecture, or one of two events
-abbrev pub LacksPair : Found → Type 0
-LacksPair found =
-    (architecture found ≡ None)
-    ⊎ (LacksEvent found (word_name words.FirstEvent) ⊎ LacksEvent found (word_name words.SecondEvent))
-
--- the words of `check` can't be asked of a diagram: marks are asked, or rounds of the chart, or the word
--- for rounds of loops gives no numbers, or as many scenarios can't be asked for
-abbrev pub LacksScenarios : Found → Type 0
-LacksScenarios found =
-    (IsFlag found (word_name words.Accept) true ⊎ IsFlag found (word_name words.Again) true)
-    ⊎ ((lacks_rounds (first_value found (word_name words.Rounds)) ≡ true)
-    ⊎ ((n : ℕ) × IsOptionNumber found (word_name words.Limit) default_limit n × (is_limit n ≡ false)))
-
--- what the words of `check` lack: the architecture, the word for a diagram where others are of one, or
--- what can be asked of a diagram
-abbrev pub LacksCheck : Found → Type 0
-LacksCheck found =
-    (architecture found ≡ None)
-    ⊎ ((lacks_from found ≡ true) ⊎ ((is_of_scenarios found ≡ true) × LacksScenarios found))
-
--- the words behind a command lack the architecture, or one of two events, where it takes them; or the
--- word for choices gives none; or `check` can't be asked so
-abbrev pub LacksWords : Verb → Found → Type 0
-LacksWords verbs.Check found = LacksCheck found
-LacksWords verbs.Read found = ⊥
-LacksWords verbs.List found = ⊥
-LacksWords verbs.Draw found = ⊥
-LacksWords verbs.Import found = lacks_choices (first_value found (word_name words.Choose)) ≡ true
-LacksWords verbs.Explain found = LacksPair found
-LacksWords verbs.Reverse found = LacksPair found
-LacksWords verb found = architecture found ≡ None
-
 -- words stand that exclude each other: that places are told, and that no more than plain lines are
 pub record IsTwofold (found : Found) (twofold : Bool) : Type 0 where
   pub places : Bool
@@ -356,10 +323,6 @@ pub record IsTwofold (found : Found) (twofold : Bool) : Type 0 where
   pub wants : IsFlag found (word_name words.Places) places
   pub forbids : IsFlag found (word_name words.Plain) plain
   pub both : twofold ≡ (places && plain)
-
--- the words behind a command ask for nothing: they lack what it needs, or exclude each other
-abbrev pub IsNoCommand : Verb → Found → Type 0
-IsNoCommand verb found = IsTwofold found true ⊎ LacksWords verb found
 
 -- whether what is said of a refusal is told behind its line: where places are asked for, and on a
 -- terminal unless plain lines are

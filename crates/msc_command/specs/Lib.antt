@@ -3,6 +3,7 @@ pub mod Words
 pub mod Grammar
 pub mod Importing
 pub mod Asking
+pub mod Misuses
 pub mod Sited
 pub mod Naming
 pub mod Readied

@@ -1,5 +1,5 @@
 -- What the program does with its words.
-use Rattle.std.specs.Prelude.{◌≡◌, ◌≢◌, ◌⊎◌, ℕ, List, MatchOption, Option, Some, codes}
+use Rattle.std.specs.Prelude.{◌≡◌, ◌≢◌, false, ◌⊎◌, ℕ, List, MatchOption, Option, Some, codes}
 use Rattle.std.specs.Io.KnownBytes.{Appends}
 use Rattle.clap.specs.Words.{Row, Text, rows_of, subcommand_rows_of}
 use Rattle.clap.specs.declared.error.kind.ErrorKind.{ErrorKind}
@@ -9,8 +9,9 @@ use Rattle.clap.specs.declared.parser.matches.Found.{Found}
 use Rattle.msc_markdown.specs.Markdowns.{Found as Markdown}
 use Rattle.msc_source.specs.Inputs.{IsReadFrom}
 use Rattle.msc_command.specs.Answering.{EndsAs, Prints}
-use Rattle.msc_command.specs.Asking.{file_of, AsksFor, IsNoCommand}
+use Rattle.msc_command.specs.Asking.{file_of, AsksFor, IsTwofold}
 use Rattle.msc_command.specs.Grammar.{AreAnswered, AreTaken}
+use Rattle.msc_command.specs.Misuses.{IsNoCommand}
 use Rattle.msc_command.specs.Refused.{IsRefusalText}
 use Rattle.msc_command.specs.Surveys.{many_in, Surveys}
 use Rattle.msc_command.specs.Words.{verb_of_word}
@@ -25,13 +26,14 @@ use Rattle.msc_command.specs.declared.words.Verb.{Verb}
 abbrev pub IsFileText : Found → Option (List ℕ) → Option (List ℕ) → List ℕ → Type 0
 IsFileText found rest left text = file_of found ≡ codes "-" → IsReadFrom rest left text
 
--- a command has no such name, or the words behind it lack what it needs
+-- no command has this name, or the words behind it are none
 abbrev pub IsNamedVainly : List ℕ → Found → Type 0
 IsNamedVainly name found = MatchOption (verb_of_word name) (Unit {0}) (λ verb. IsNoCommand verb found)
 
 -- the words behind a command of this name ask for a task
 abbrev pub IsNamed : List ℕ → Found → Task → Type 0
-IsNamed name found task = (verb : Verb) × (verb_of_word name ≡ Some verb) × AsksFor verb found task
+IsNamed name found task =
+    (verb : Verb) × (verb_of_word name ≡ Some verb) × AsksFor verb found task × IsTwofold found false
 
 -- nothing is done for words that name no task
 pub record AsksNothing {W : Type 0} (name : List ℕ) (found : Found) (status : Status) (old new : W) : Type 0 where

@@ -1,5 +1,5 @@
 -- What is answered of all sequence diagrams of a Markdown text: one after the other, in the order of their numbers.
-use Rattle.std.specs.Prelude.{◌≡◌, ◌⊎◌, ◌-◌, ◌++◌, ◌||◌, ℕ, Bool, cond, nat_eq, nat_le, List, [], ◌∷◌, length, map, Option, None, Some, Result, Ok, Err, codes}
+use Rattle.std.specs.Prelude.{◌≡◌, ◌⊎◌, ◌-◌, ◌++◌, ◌||◌, ℕ, cond, nat_eq, nat_le, List, [], ◌∷◌, length, map, Option, None, Some, Result, Ok, Err, codes}
 use Rattle.std.specs.Fmt.{decimal}
 use Rattle.msc_import.specs.Drafting.{chart_name}
 use Rattle.msc_judge.specs.declared.question.Question.{Question}

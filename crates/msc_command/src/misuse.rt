@@ -1,24 +1,36 @@
-//! What is said of words that `clap` takes and the program does not: words that exclude each other,
-//! and words that name no event. It is said as `clap` says such things.
+//! Words that `clap` takes and that are no command: words that exclude each other, lack what the
+//! command needs, or name no event. They are refused in the form in which `clap` refuses words; no
+//! clause says what is printed, and transcripts compare it.
 
-use crate::tasks::{
-    GREATEST_LIMIT, is_given, is_twofold, lacks_choices, lacks_from, lacks_rounds, limit_of,
-    name_in,
-};
-use crate::words::{Verb, Word};
-use clap::ArgMatches;
+use crate::tasks::GREATEST_LIMIT;
+use crate::words::Word;
 use std::io;
 use std::io::Write;
 
-/// What stands below a line of wrong usage.
+/// What follows a line of wrong usage.
 const HELP: &str = "\n\nFor more information, try '--help'.";
 
-/// Writes that two words exclude each other.
-fn write_twofold<E: Write>(faults: &mut E) -> io::Result<()> {
-    writeln!(
-        faults,
-        "error: the argument '--places' cannot be used with '--plain'{HELP}"
-    )
+/// Why words that `clap` took are no command.
+#[derive(Clone, Copy)]
+pub(crate) enum Misuse<'w> {
+    /// `--places` and `--plain` exclude each other.
+    Excluded,
+    /// The architecture is missing.
+    NoQueues,
+    /// The word for an event is missing.
+    LacksEvent(Word),
+    /// The word for an event, with this text, names none.
+    NoEvent(Word, &'w str),
+    /// The word for choices gives none.
+    NoChoices(&'w str),
+    /// Words of diagrams are given without `--from`.
+    NoDiagram,
+    /// A word cannot be given with `--from`.
+    NotOfDiagrams(Word),
+    /// The word for numbers of rounds gives none.
+    NoRounds(&'w str),
+    /// A limit of this many scenarios cannot be requested.
+    NoLimit(u32),
 }
 
 /// Writes why a text is no number from a first one on.
@@ -29,8 +41,8 @@ fn write_no_number<E: Write>(faults: &mut E, text: &str, first: u32) -> io::Resu
     }
 }
 
-/// Writes why a word names no event.
-fn write_no_name<E: Write>(faults: &mut E, word: Word, text: &str) -> io::Result<()> {
+/// Writes why a word with this text names no event.
+fn write_no_event<E: Write>(faults: &mut E, word: Word, text: &str) -> io::Result<()> {
     let name = word.name();
     write!(faults, "error: invalid value '{text}' for '<{name}>': ")?;
     match text.strip_prefix(':') {
@@ -40,36 +52,24 @@ fn write_no_name<E: Write>(faults: &mut E, word: Word, text: &str) -> io::Result
     writeln!(faults, "{HELP}")
 }
 
-/// Writes why a word names no event, if it stands and names none; answers whether it does.
-fn tell_no_name<E: Write>(faults: &mut E, words: &ArgMatches, word: Word) -> bool {
-    let Some(text) = words.get_str(word.name()) else {
-        return false;
-    };
-    if name_in(text).is_some() {
-        return false;
-    }
-    let _ = write_no_name(faults, word, text);
-    true
-}
-
-/// Writes that a word gives no choices.
-fn write_no_choices<E: Write>(faults: &mut E, words: &ArgMatches) -> io::Result<()> {
-    let word = words.get_str(Word::Choose.name()).unwrap_or("");
+/// Writes that an argument is missing.
+fn write_missing<E: Write>(faults: &mut E, argument: &str) -> io::Result<()> {
     writeln!(
         faults,
-        "error: invalid value '{word}' for '--choose <C>': expected main, or numbers with commas{HELP}"
+        "error: the following required arguments were not provided:\n  {argument}{HELP}"
     )
 }
 
-/// Writes that words are of a diagram, and none says that the text has one.
-fn write_no_diagram<E: Write>(faults: &mut E) -> io::Result<()> {
+/// Writes that the word for an event is missing.
+fn write_lacking<E: Write>(faults: &mut E, word: Word) -> io::Result<()> {
+    let name = word.name();
     writeln!(
         faults,
-        "error: the following required arguments were not provided:\n  --from <mermaid|any>{HELP}"
+        "error: the following required arguments were not provided:\n  <{name}>{HELP}"
     )
 }
 
-/// Writes that a word cannot be asked of a diagram.
+/// Writes that a word cannot be given with `--from`.
 fn write_not_of_diagrams<E: Write>(faults: &mut E, word: Word) -> io::Result<()> {
     let name = word.name();
     writeln!(
@@ -78,16 +78,20 @@ fn write_not_of_diagrams<E: Write>(faults: &mut E, word: Word) -> io::Result<()>
     )
 }
 
-/// Writes that a word gives no numbers of rounds.
-fn write_no_rounds<E: Write>(faults: &mut E, words: &ArgMatches) -> io::Result<()> {
-    let word = words.get_str(Word::Rounds.name()).unwrap_or("");
+/// Writes that the text of an option is not what it expects.
+fn write_unexpected<E: Write>(
+    faults: &mut E,
+    text: &str,
+    option: &str,
+    expected: &str,
+) -> io::Result<()> {
     writeln!(
         faults,
-        "error: invalid value '{word}' for '--rounds <R,R..>': expected numbers up to 1024 with commas{HELP}"
+        "error: invalid value '{text}' for '{option}': expected {expected}{HELP}"
     )
 }
 
-/// Writes that no such number of scenarios may be asked for.
+/// Writes that a limit of this many scenarios cannot be requested.
 fn write_no_limit<E: Write>(faults: &mut E, limit: u32) -> io::Result<()> {
     writeln!(
         faults,
@@ -95,38 +99,26 @@ fn write_no_limit<E: Write>(faults: &mut E, limit: u32) -> io::Result<()> {
     )
 }
 
-/// Writes why the words behind `msc check` ask for nothing.
-fn write_no_check<E: Write>(faults: &mut E, words: &ArgMatches) -> io::Result<()> {
-    if lacks_from(words) {
-        return write_no_diagram(faults);
-    }
-    for word in [Word::Accept, Word::Again] {
-        if is_given(words, word) {
-            return write_not_of_diagrams(faults, word);
+/// Writes why words are no command.
+pub(crate) fn write_misuse<E: Write>(faults: &mut E, misuse: Misuse<'_>) -> io::Result<()> {
+    match misuse {
+        Misuse::Excluded => writeln!(
+            faults,
+            "error: the argument '--places' cannot be used with '--plain'{HELP}"
+        ),
+        Misuse::NoQueues => write_missing(faults, "--queues <QUEUES>"),
+        Misuse::LacksEvent(word) => write_lacking(faults, word),
+        Misuse::NoEvent(word, text) => write_no_event(faults, word, text),
+        Misuse::NoChoices(text) => {
+            let expected = "main, or numbers with commas";
+            write_unexpected(faults, text, "--choose <C>", expected)
         }
-    }
-    if lacks_rounds(words) {
-        return write_no_rounds(faults, words);
-    }
-    write_no_limit(faults, limit_of(words))
-}
-
-/// Writes why the words behind a command ask for nothing.
-pub(crate) fn tell_misuse<E: Write>(faults: &mut E, verb: Verb, words: &ArgMatches) {
-    if is_twofold(words) {
-        let _ = write_twofold(faults);
-        return;
-    }
-    if let Verb::Import = verb
-        && lacks_choices(words)
-    {
-        let _ = write_no_choices(faults, words);
-    }
-    if let Verb::Check = verb {
-        let _ = write_no_check(faults, words);
-    }
-    if let Verb::Explain | Verb::Reverse = verb {
-        let _ = tell_no_name(faults, words, Word::FirstEvent)
-            || tell_no_name(faults, words, Word::SecondEvent);
+        Misuse::NoDiagram => write_missing(faults, "--from <mermaid|any>"),
+        Misuse::NotOfDiagrams(word) => write_not_of_diagrams(faults, word),
+        Misuse::NoRounds(text) => {
+            let expected = "numbers up to 1024 with commas";
+            write_unexpected(faults, text, "--rounds <R,R..>", expected)
+        }
+        Misuse::NoLimit(limit) => write_no_limit(faults, limit),
     }
 }

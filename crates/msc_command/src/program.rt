@@ -17,7 +17,7 @@ ghost use Rattle.msc_source.specs.Inputs.{IsReadFrom};
 use crate::answering::{end_unread_task, perform};
 use crate::ending::{Status, end_with};
 use crate::grammar::{Lists, grammar};
-use crate::misuse::tell_misuse;
+use crate::misuse::write_misuse;
 use crate::recorded::TellsFailure;
 use crate::tasks::{Request, Task, file_of, notes_of, task_of};
 use crate::words::Verb;
@@ -73,18 +73,18 @@ fn tell_usage<O: Write, E: Write>(output: &mut O, faults: &mut E, error: &Error)
     }
 }
 
-/// What the words behind a command ask for, if they name it and are all there. Why they ask for
-/// nothing goes to `faults`.
+/// What the words behind a command of this name ask for. Why they are no command goes to `faults`.
 fn task_named<'w, E: Write>(name: &str, words: &'w ArgMatches, faults: &mut E) -> Option<Task<'w>>
     ensures { MatchOption result (IsNamedVainly name.now (found_of words.entry.now))
         (IsNamed name.now (found_of words.entry.now)) }
 {
-    let verb = Verb::of(name)?;
-    let task = task_of(verb, words);
-    if task.is_none() {
-        tell_misuse(faults, verb, words);
+    match task_of(Verb::of(name)?, words) {
+        Ok(task) => Some(task),
+        Err(misuse) => {
+            let _ = write_misuse(faults, misuse);
+            None
+        }
     }
-    task
 }
 
 /// Does what the words behind a command ask for, and tells how the run ended.
@@ -168,35 +168,42 @@ pub fn refuse_words<E: Write>(faults: &mut E, error: &io::Error) -> u8
     Status::Refused.code()
 }
 
-/// The program `msc` over its words, the program's name first; answers the exit status.
+/// Runs the program `msc` with the words of a command line, the program's name first, and answers
+/// its exit status. QUEUES is `pair`, `mailbox` or `single`. FILE `-` is `input`; `rt` opens any
+/// other FILE. Numbers are from 0 to 4294967295. The answer goes to `output`:
 ///
-/// `msc read FILE` writes the canonical text of FILE to `output`, `msc check --queues QUEUES
-/// [--show N] FILE`, where QUEUES is `pair`, `mailbox` or `single`, the verdict on its chart and
-/// each race, the first N with a run that shows it, `msc explain --queues QUEUES FILE E F` why
-/// event E of its chart is enforced before event F, or a run that has F before E, and `msc run
-/// --queues QUEUES [--patience N] FILE` an execution of its chart, in which an instance gives up
-/// after N rounds in a row without a message. N, E and F are from 0 to 4294967295, N by default
-/// 4294967295 races and 1000000000 rounds. Of `check`, `--closest` lists the closest races alone,
-/// `--why` adds the kind of each and what it lacks, `--most N` lists the first N alone, `--allow
-/// KIND`, where KIND is `early`, `queues`, `unordered` or `overtaken`, leaves out the races of a
-/// kind, `--format count` writes their number, `--format lines` lines for editors, and `--quiet`
-/// nothing. `msc ready --queues QUEUES [--only NAME].. [--show N] FILE` writes whether instances
-/// that wait for one message can stick. Of `check` and `ready`, `--again` adds what is between a
-/// round of the chart and the next, where it is repeated. `msc list FILE` writes the events with
-/// their numbers. Of `check`, `explain` and `ready`, `--words` tells runs in words; E and F are
-/// `:LINE` too, the first event of that line. `--places` tells where events stand. FILE `-` is
-/// `input`, any other FILE is opened through `rt`.
+/// - `read FILE`: the canonical text.
+/// - `check --queues QUEUES FILE`: the verdict on the chart, and each race with a run that shows
+///   it. `--show N` shows runs of the first N races, `--most N` lists the first N, `--closest` only
+///   the closest ones. `--allow KIND` leaves out the races of a kind (`early`, `queues`,
+///   `unordered`, `overtaken`), `--accept` those that marks accept. `--why` adds kinds and causes.
+///   `--format count` prints numbers, `--format lines` lines for editors, `--quiet` nothing.
+/// - `check --from LANGUAGE ..`: the same for all scenarios of a sequence diagram, or of all
+///   diagrams of a Markdown text; `--fence N` takes its N-th block.
+/// - `explain --queues QUEUES FILE E F`: why event E is enforced before event F, or a run that has F
+///   first.
+/// - `ready --queues QUEUES [--only NAME].. FILE`: whether instances that wait for one message can
+///   stick. `--again` of `check` and `ready` adds what is between a round and the next.
+/// - `run --queues QUEUES [--patience N] FILE`: an execution, in which an instance gives up after N
+///   rounds in a row without a message.
+/// - `list FILE`: the events with their numbers; `draw [--queues QUEUES] FILE`: the chart as a
+///   picture; `reverse --queues QUEUES FILE E F`: a run that reverses a race, as a picture; `report
+///   --queues QUEUES FILE`: a page of HTML.
+/// - `import FILE`: the chart of a scenario of a sequence diagram.
 ///
-/// What goes wrong is found in the order: the words, opening FILE, reading it, its text, the pair
-/// of events or the names, its rounds, running it. A fault's line, and what is said of wrong words,
-/// go to `faults`; behind the line, where `--places` asks for it or `faults` is a terminal and
-/// `--plain` does not stand, what is said of the fault; where that writing fails the status stays.
-/// The status is 0 where the answer or the help asked for was written, 1 where there are races that
-/// are not left out, or E is not enforced before F, or a system of ready instances can stick or has
-/// races left, 2 where the text, a sequence diagram of a Markdown text, its rounds, the pair or a
-/// name was refused or the words are no command, 3 where some instance of the execution has not
-/// finished, and 4 where memory ran out, a thread could not be started, a file could not be opened
-/// or read, or the output could not be written.
+/// `--places` prints where events stand, and `--words` prints runs in words.
+///
+/// Refusals are looked for in this order: the words, opening FILE, reading it, its text, the pair of
+/// events or the names, its rounds, running it. The line of a refusal goes to `faults`, with notes
+/// if `--places` is given, or if `faults` is a terminal and `--plain` is not given. If that writing
+/// fails, the status stays.
+///
+/// The status is 0 if the answer or the requested help was written. It is 1 if there are races that
+/// are not left out, if E is not enforced before F, or if a system of ready instances can stick. It
+/// is 2 if the words are no command, or if the text, a diagram of a Markdown text, its rounds, the
+/// pair or a name was refused. It is 3 if some instance of an execution has not finished. It is 4 if
+/// memory ran out, a thread could not be started, a file could not be opened or read, or the output
+/// could not be written.
 pub fn command<R: Files + Threads + Wait + Sync, I: Read, O: TellsFailure, E: Write + IsTerminal>(
     rt: &R,
     alloc: Global,

@@ -1,20 +1,25 @@
 //! What a command line asks for, by the words that `clap` took.
 
-ghost use Rattle.std.specs.Prelude.{◌≡◌, ◌||◌, MatchOption, Some, cond, false, map, true};
+ghost use Rattle.std.specs.Prelude.{◌≡◌, ◌||◌, IfErr, IfOk, MatchOption, OnOk, Some, cond, false};
+ghost use Rattle.std.specs.Prelude.{map, option_map, true};
 ghost use Rattle.clap.specs.Matches.{first_value, found_of};
 ghost use Rattle.msc_command.specs.Asking.{architecture, file_of, form, names_kind, AreAllowed};
-ghost use Rattle.msc_command.specs.Asking.{AsksFor, IsDrawnForm, IsEventWord, IsFlag, IsLook, IsNoCommand, LacksWords};
+ghost use Rattle.msc_command.specs.Asking.{AsksFor, IsDrawnForm, IsEventWord, IsFlag, IsLook};
 ghost use Rattle.msc_command.specs.Asking.{chart_named, cross_named, lacks_choices, language_named};
 ghost use Rattle.msc_command.specs.Asking.{own_named, par_named, IsChecking, IsDiagram, IsQuieting};
 ghost use Rattle.msc_command.specs.Asking.{default_limit, is_limit, is_of_scenarios, lacks_from};
-ghost use Rattle.msc_command.specs.Asking.{lacks_rounds, stands, IsNumberGiven};
+ghost use Rattle.msc_command.specs.Asking.{lacks_rounds, stands, IsNumberGiven, IsOfChart};
 ghost use Rattle.msc_command.specs.Asking.{tells_notes, unlimited, AreRunsShown, IsTwofold};
 ghost use Rattle.msc_command.specs.Asking.{IsNameText, IsNoName, IsNoNumber, IsNumberText};
-ghost use Rattle.msc_command.specs.Asking.{words_of, IsOptionNumber, IsQuestion, LacksEvent, WantsNotes};
+ghost use Rattle.msc_command.specs.Asking.{words_of, IsOptionNumber, IsQuestion, WantsNotes};
+ghost use Rattle.msc_command.specs.Misuses.{IsCheckMisuse, IsDiagramMisuse, IsEventMisuse};
+ghost use Rattle.msc_command.specs.Misuses.{IsImportMisuse, IsLimitMisuse, IsMisuse, IsPairMisuse};
+ghost use Rattle.msc_command.specs.Misuses.{IsQueuesMisuse, IsRoundsMisuse, IsWordMisuse};
 ghost use Rattle.msc_command.specs.Refused.{form_of};
 ghost use Rattle.msc_command.specs.Words.{form_of_word, form_word, word_name};
 
 use crate::choices::{gives_choices, gives_rounds, title_of};
+use crate::misuse::Misuse;
 use crate::words::{Verb, Word};
 use clap::ArgMatches;
 use msc_chart::Queues;
@@ -247,7 +252,7 @@ fn number_in(text: &str) -> Option<u32>
 }
 
 /// The event that a text names, if it does: a number, or `:` and one from 1 on.
-pub(crate) fn name_in(text: &str) -> Option<EventName>
+fn name_in(text: &str) -> Option<EventName>
     ensures { MatchOption result (IsNoName text.now) (IsNameText text.now) }
 {
     match text.strip_prefix(':') {
@@ -262,14 +267,25 @@ pub(crate) fn name_in(text: &str) -> Option<EventName>
     }
 }
 
-/// The event that a word names, if it does.
-fn event_of(words: &ArgMatches, word: Word) -> Option<EventName>
-    ensures { MatchOption result (LacksEvent (found_of words.now) (word_name word))
-        (IsEventWord (found_of words.now) (word_name word)) }
+/// The event that a word with this text names.
+fn event_named<'w>(word: Word, text: &'w str) -> Result<EventName, Misuse<'w>>
+    ensures named { IfOk result (IsNameText text.now) }
+    ensures misuse { IfErr result (λ m. (m ≡ Misuse.NoEvent word text.entry) × IsNoName text.now) }
+{
+    match name_in(text) {
+        Some(name) => Ok(name),
+        None => Err(Misuse::NoEvent(word, text)),
+    }
+}
+
+/// The event that a word names.
+fn event_of<'w>(words: &'w ArgMatches, word: Word) -> Result<EventName, Misuse<'w>>
+    ensures named { IfOk result (IsEventWord (found_of words.entry.now) (word_name word)) }
+    ensures misuse { IfErr result (IsEventMisuse (found_of words.entry.now) word) }
 {
     match words.get_str(word.name()) {
-        Some(text) => name_in(text),
-        None => None,
+        Some(text) => event_named(word, text),
+        None => Err(Misuse::LacksEvent(word)),
     }
 }
 
@@ -295,7 +311,7 @@ fn stands(words: &ArgMatches, word: Word) -> bool
 }
 
 /// Whether a flag stands.
-pub(crate) fn is_given(words: &ArgMatches, word: Word) -> bool
+fn is_given(words: &ArgMatches, word: Word) -> bool
     ensures { IsFlag (found_of words.now) (word_name word) result }
 {
     words.get_flag(word.name())
@@ -362,7 +378,7 @@ pub(crate) fn notes_of(words: &ArgMatches, terminal: bool) -> bool
 }
 
 /// Whether words stand that exclude each other.
-pub(crate) fn is_twofold(words: &ArgMatches) -> bool
+fn is_twofold(words: &ArgMatches) -> bool
     ensures { IsTwofold (found_of words.now) result }
 {
     let (places, plain) = (is_given(words, Word::Places), is_given(words, Word::Plain));
@@ -389,11 +405,22 @@ pub(crate) fn file_of<'w>(words: &'w ArgMatches) -> &'w str
     }
 }
 
-/// The architecture that the words name.
-fn queues_of(words: &ArgMatches) -> Option<Queues>
+/// The architecture that the words name, if they name one.
+fn named_queues(words: &ArgMatches) -> Option<Queues>
     ensures { result ≡ architecture (found_of words.now) }
 {
     Queues::of(words.get_str(Word::Queues.name())?)
+}
+
+/// The architecture that the words name.
+fn queues_of<'w>(words: &'w ArgMatches) -> Result<Queues, Misuse<'w>>
+    ensures named { IfOk result (λ queues. architecture (found_of words.entry.now) ≡ Some queues) }
+    ensures misuse { IfErr result (IsQueuesMisuse (found_of words.entry.now)) }
+{
+    match named_queues(words) {
+        Some(queues) => Ok(queues),
+        None => Err(Misuse::NoQueues),
+    }
 }
 
 /// What the words of `msc check` ask of races under an architecture; where no word says it, so many
@@ -427,7 +454,7 @@ fn quieting_of(queues: Queues, words: &ArgMatches) -> Quieting
 
 /// What the words of `msc check` ask of a chart. What is to be quiet is told by the status alone.
 fn chart_check_of(queues: Queues, words: &ArgMatches) -> Task<'static>
-    requires { is_of_scenarios (found_of words.now) ≡ false }
+    requires { IsOfChart (found_of words.now) }
     ensures { architecture (found_of words.now) ≡ Some queues
         → AsksFor Verb.Check (found_of words.now) result }
 {
@@ -445,7 +472,7 @@ fn is_of_scenarios(words: &ArgMatches) -> bool
 }
 
 /// Whether words stand behind `msc check` that are of diagrams, without the word for one.
-pub(crate) fn lacks_from(words: &ArgMatches) -> bool
+fn lacks_from(words: &ArgMatches) -> bool
     ensures { result ≡ lacks_from (found_of words.now) }
 {
     let limits = stands(words, Word::Rounds) || stands(words, Word::Limit);
@@ -454,28 +481,11 @@ pub(crate) fn lacks_from(words: &ArgMatches) -> bool
     !is_of_scenarios(words) && (limits || which || arrows)
 }
 
-/// Whether the word for numbers of rounds stands and gives none.
-pub(crate) fn lacks_rounds(words: &ArgMatches) -> bool
-    ensures { result ≡ lacks_rounds (first_value (found_of words.now) (word_name Word.Rounds)) }
-{
-    match words.get_str(Word::Rounds.name()) {
-        Some(word) => !gives_rounds(word.as_bytes()),
-        None => false,
-    }
-}
-
 /// Whether a diagram may have so many scenarios.
 fn is_limit(limit: u32) -> bool
     ensures { result ≡ is_limit limit }
 {
     1 <= limit && limit <= GREATEST_LIMIT
-}
-
-/// How many scenarios there may be.
-pub(crate) fn limit_of(words: &ArgMatches) -> u32
-    ensures { IsOptionNumber (found_of words.now) (word_name Word.Limit) default_limit result }
-{
-    number_of(words, Word::Limit, DEFAULT_LIMIT)
 }
 
 /// How many races of a diagram are shown by runs, if no word gives a number: all if a run in words or a
@@ -495,40 +505,73 @@ fn runs_shown(words: &ArgMatches) -> u32
     shown_by(in_words, short)
 }
 
-/// What the words of `msc check` ask of a diagram, if they can be asked of one.
-fn scenarios_of<'w>(queues: Queues, words: &'w ArgMatches) -> Option<Task<'w>>
-    requires { is_of_scenarios (found_of words.now) ≡ true }
-    ensures { architecture (found_of words.entry.now) ≡ Some queues
-        → MatchOption result (LacksWords Verb.Check (found_of words.entry.now))
-        (AsksFor Verb.Check (found_of words.entry.now)) }
+/// The word for the numbers of rounds of loops, if it is given.
+fn rounds_word<'w>(words: &'w ArgMatches) -> Result<Option<&'w str>, Misuse<'w>>
+    ensures given { IfOk result (λ word. option_map (λ r. r.now) word
+        ≡ first_value (found_of words.entry.now) (word_name Word.Rounds)) }
+    ensures gives { OnOk result
+        (lacks_rounds (first_value (found_of words.entry.now) (word_name Word.Rounds)) ≡ false) }
+    ensures misuse { IfErr result (IsRoundsMisuse (found_of words.entry.now)) }
 {
-    let limit = limit_of(words);
-    let checking = checking_of(queues, words, runs_shown(words));
-    if checking.accept || checking.again || lacks_rounds(words) || !is_limit(limit) {
-        return None;
+    match words.get_str(Word::Rounds.name()) {
+        Some(word) if !gives_rounds(word.as_bytes()) => Err(Misuse::NoRounds(word)),
+        given => Ok(given),
     }
-    Some(Task::Scenarios(ScenarioWords {
+}
+
+/// How many scenarios there may be.
+fn limit_in<'w>(words: &'w ArgMatches) -> Result<u32, Misuse<'w>>
+    ensures given { IfOk result (IsOptionNumber (found_of words.entry.now) (word_name Word.Limit)
+        default_limit) }
+    ensures within { IfOk result (λ limit. is_limit limit ≡ true) }
+    ensures misuse { IfErr result (IsLimitMisuse (found_of words.entry.now)) }
+{
+    let limit = number_of(words, Word::Limit, DEFAULT_LIMIT);
+    if is_limit(limit) {
+        Ok(limit)
+    } else {
+        Err(Misuse::NoLimit(limit))
+    }
+}
+
+/// What the words of `msc check` ask of a diagram.
+fn scenarios_of<'w>(queues: Queues, words: &'w ArgMatches) -> Result<Task<'w>, Misuse<'w>>
+    requires { is_of_scenarios (found_of words.now) ≡ true }
+    ensures task { architecture (found_of words.entry.now) ≡ Some queues
+        → IfOk result (AsksFor Verb.Check (found_of words.entry.now)) }
+    ensures misuse { architecture (found_of words.entry.now) ≡ Some queues
+        → IfErr result (IsDiagramMisuse (found_of words.entry.now)) }
+{
+    let checking = checking_of(queues, words, runs_shown(words));
+    if checking.accept {
+        return Err(Misuse::NotOfDiagrams(Word::Accept));
+    }
+    if checking.again {
+        return Err(Misuse::NotOfDiagrams(Word::Again));
+    }
+    Ok(Task::Scenarios(ScenarioWords {
         diagram: diagram_of(words),
-        rounds: words.get_str(Word::Rounds.name()),
-        limit,
+        rounds: rounds_word(words)?,
+        limit: limit_in(words)?,
         checking,
         quiet: is_given(words, Word::Quiet),
     }))
 }
 
-/// What the words of `msc check` ask for, if none stands that cannot.
-fn check_of<'w>(queues: Queues, words: &'w ArgMatches) -> Option<Task<'w>>
-    ensures { architecture (found_of words.entry.now) ≡ Some queues
-        → MatchOption result (LacksWords Verb.Check (found_of words.entry.now))
-        (AsksFor Verb.Check (found_of words.entry.now)) }
+/// What the words of `msc check` ask for.
+fn check_of<'w>(queues: Queues, words: &'w ArgMatches) -> Result<Task<'w>, Misuse<'w>>
+    ensures task { architecture (found_of words.entry.now) ≡ Some queues
+        → IfOk result (AsksFor Verb.Check (found_of words.entry.now)) }
+    ensures misuse { architecture (found_of words.entry.now) ≡ Some queues
+        → IfErr result (IsCheckMisuse (found_of words.entry.now)) }
 {
     if lacks_from(words) {
-        return None;
+        return Err(Misuse::NoDiagram);
     }
     if is_of_scenarios(words) {
         return scenarios_of(queues, words);
     }
-    Some(chart_check_of(queues, words))
+    Ok(chart_check_of(queues, words))
 }
 
 /// What the words of `msc run` ask for.
@@ -540,13 +583,13 @@ fn run_of(queues: Queues, words: &ArgMatches) -> Task<'static>
     Task::Chart(Ask::Run(queues, patience))
 }
 
-/// What the words of `msc explain` ask for, if they name two events.
-fn explain_of(queues: Queues, words: &ArgMatches) -> Option<Task<'static>>
-    ensures { architecture (found_of words.now) ≡ Some queues
-        → MatchOption result (LacksWords Verb.Explain (found_of words.now))
-        (AsksFor Verb.Explain (found_of words.now)) }
+/// What the words of `msc explain` ask for.
+fn explain_of<'w>(queues: Queues, words: &'w ArgMatches) -> Result<Task<'w>, Misuse<'w>>
+    ensures task { architecture (found_of words.entry.now) ≡ Some queues
+        → IfOk result (AsksFor Verb.Explain (found_of words.entry.now)) }
+    ensures misuse { IfErr result (IsPairMisuse (found_of words.entry.now)) }
 {
-    Some(Task::Chart(Ask::Explain(Explaining {
+    Ok(Task::Chart(Ask::Explain(Explaining {
         queues,
         first: event_of(words, Word::FirstEvent)?,
         second: event_of(words, Word::SecondEvent)?,
@@ -577,16 +620,16 @@ fn drawn_form(words: &ArgMatches) -> msc_draw::Form
 fn draw_of(words: &ArgMatches) -> Task<'static>
     ensures { AsksFor Verb.Draw (found_of words.now) result }
 {
-    Task::Draw(Drawn::Chart(queues_of(words), drawn_form(words)))
+    Task::Draw(Drawn::Chart(named_queues(words), drawn_form(words)))
 }
 
-/// What the words of `msc reverse` ask for, if they name two events.
-fn reverse_of(queues: Queues, words: &ArgMatches) -> Option<Task<'static>>
-    ensures { architecture (found_of words.now) ≡ Some queues
-        → MatchOption result (LacksWords Verb.Reverse (found_of words.now))
-        (AsksFor Verb.Reverse (found_of words.now)) }
+/// What the words of `msc reverse` ask for.
+fn reverse_of<'w>(queues: Queues, words: &'w ArgMatches) -> Result<Task<'w>, Misuse<'w>>
+    ensures task { architecture (found_of words.entry.now) ≡ Some queues
+        → IfOk result (AsksFor Verb.Reverse (found_of words.entry.now)) }
+    ensures misuse { IfErr result (IsPairMisuse (found_of words.entry.now)) }
 {
-    Some(Task::Draw(Drawn::Run(Reversing {
+    Ok(Task::Draw(Drawn::Run(Reversing {
         queues,
         first: event_of(words, Word::FirstEvent)?,
         second: event_of(words, Word::SecondEvent)?,
@@ -667,13 +710,17 @@ fn chart_name_of<'w>(words: &'w ArgMatches) -> &'w [u8]
     }
 }
 
-/// The word for choices, if it gives them where it stands.
-pub(crate) fn lacks_choices(words: &ArgMatches) -> bool
-    ensures { result ≡ lacks_choices (first_value (found_of words.now) (word_name Word.Choose)) }
+/// The word for choices, if it is given.
+fn choices_word<'w>(words: &'w ArgMatches) -> Result<Option<&'w str>, Misuse<'w>>
+    ensures given { IfOk result (λ word. option_map (λ c. c.now) word
+        ≡ first_value (found_of words.entry.now) (word_name Word.Choose)) }
+    ensures gives { OnOk result
+        (lacks_choices (first_value (found_of words.entry.now) (word_name Word.Choose)) ≡ false) }
+    ensures misuse { IfErr result (IsImportMisuse (found_of words.entry.now)) }
 {
     match words.get_str(Word::Choose.name()) {
-        Some(word) => !gives_choices(word),
-        None => false,
+        Some(word) if !gives_choices(word) => Err(Misuse::NoChoices(word)),
+        given => Ok(given),
     }
 }
 
@@ -693,47 +740,45 @@ fn diagram_of<'w>(words: &'w ArgMatches) -> DiagramWords<'w>
     }
 }
 
-/// What the words of `msc import` ask for, if the word for choices gives them.
-fn import_of<'w>(words: &'w ArgMatches) -> Option<Task<'w>>
-    ensures { MatchOption result (LacksWords Verb.Import (found_of words.entry.now))
-        (AsksFor Verb.Import (found_of words.entry.now)) }
+/// What the words of `msc import` ask for.
+fn import_of<'w>(words: &'w ArgMatches) -> Result<Task<'w>, Misuse<'w>>
+    ensures task { IfOk result (AsksFor Verb.Import (found_of words.entry.now)) }
+    ensures misuse { IfErr result (IsImportMisuse (found_of words.entry.now)) }
 {
-    if lacks_choices(words) {
-        return None;
-    }
-    Some(Task::Import(ImportWords {
+    Ok(Task::Import(ImportWords {
         diagram: diagram_of(words),
-        choose: words.get_str(Word::Choose.name()),
+        choose: choices_word(words)?,
         list: is_given(words, Word::Listed),
     }))
 }
 
-/// What the words behind a command ask for, if they are all there.
-fn complete_task<'w>(verb: Verb, words: &'w ArgMatches) -> Option<Task<'w>>
-    ensures { MatchOption result (LacksWords verb (found_of words.entry.now))
-        (AsksFor verb (found_of words.entry.now)) }
+/// What the words behind a command ask for, if none of them exclude each other.
+fn complete_task<'w>(verb: Verb, words: &'w ArgMatches) -> Result<Task<'w>, Misuse<'w>>
+    ensures task { IfOk result (AsksFor verb (found_of words.entry.now)) }
+    ensures misuse { IfErr result (IsWordMisuse verb (found_of words.entry.now)) }
 {
     match verb {
-        Verb::Read => Some(Task::Read),
+        Verb::Read => Ok(Task::Read),
         Verb::Check => check_of(queues_of(words)?, words),
         Verb::Explain => explain_of(queues_of(words)?, words),
-        Verb::Run => Some(run_of(queues_of(words)?, words)),
-        Verb::List => Some(list_of(words)),
-        Verb::Draw => Some(draw_of(words)),
+        Verb::Run => Ok(run_of(queues_of(words)?, words)),
+        Verb::List => Ok(list_of(words)),
+        Verb::Draw => Ok(draw_of(words)),
         Verb::Reverse => reverse_of(queues_of(words)?, words),
-        Verb::Report => Some(Task::Draw(Drawn::Report(queues_of(words)?))),
-        Verb::Ready => Some(ready_of(queues_of(words)?, words)),
+        Verb::Report => Ok(Task::Draw(Drawn::Report(queues_of(words)?))),
+        Verb::Ready => Ok(ready_of(queues_of(words)?, words)),
         Verb::Import => import_of(words),
     }
 }
 
-/// What the words behind a command ask for, if they are all there and none excludes another.
-pub(crate) fn task_of<'w>(verb: Verb, words: &'w ArgMatches) -> Option<Task<'w>>
-    ensures { MatchOption result (IsNoCommand verb (found_of words.entry.now))
-        (AsksFor verb (found_of words.entry.now)) }
+/// What the words behind a command ask for, or the first reason why they are no command.
+pub(crate) fn task_of<'w>(verb: Verb, words: &'w ArgMatches) -> Result<Task<'w>, Misuse<'w>>
+    ensures task { IfOk result (AsksFor verb (found_of words.entry.now)) }
+    ensures apart { OnOk result (IsTwofold (found_of words.entry.now) false) }
+    ensures misuse { IfErr result (IsMisuse verb (found_of words.entry.now)) }
 {
     if is_twofold(words) {
-        return None;
+        return Err(Misuse::Excluded);
     }
     complete_task(verb, words)
 }

@@ -107,7 +107,7 @@ fn joined_block(
 /// each end of a line, in which blanks stand for all that does not belong to the block. So places
 /// are those of the whole text. The only error is want of memory.
 pub fn block_text(alloc: Global, found: &Markdown<'_>, number: usize) -> Result<Vec<u8>, AllocError>
-    ensures { IfOk result (λ v. v.items ≡ block_text number found.now.now) }
+    ensures { IfOk result (λ v. v.items ≡ block_text number found.now) }
 {
     let lines = lines_of(alloc, found.text())?;
     joined_block(alloc, lines.as_slice(), found.block_parts(number))

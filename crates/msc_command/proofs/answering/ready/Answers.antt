@@ -4,7 +4,7 @@ use Rattle.std.specs.Option.{option_copied}
 use Rattle.msc_chart.specs.Drawings.{Drawing}
 use Rattle.msc_judge.specs.Pages.{Tells}
 use Rattle.msc_text.specs.Readying.{PrintsReady}
-use Rattle.msc_command.proofs.Answered.{not_readied, readied, rounds_are, rounds_given}
+use Rattle.msc_command.proofs.Answered.{has_room, not_readied, readied, rounds_are, rounds_given}
 use Rattle.msc_command.specs.Rounds.{AreRounds}
 use Rattle.msc_command.specs.Sited.{IsStyle}
 use Rattle.msc_command.proofs.answering.ready.Goals as goal
@@ -27,7 +27,7 @@ returns-in_err-finishes g c =
     let told = subst (λ (d : Drawing). Tells g.O.Write.contents (PrintsReady d x.queues (option_copied c.lent-only.result) (is_some c.as_ref-two.result) x.show c.style_of-style.result) (Err c.in_err-finishes.field-0.0) c.args.output.now c.write_ready.new.writer)
     c.chart-chart.ensures c.in_err-finishes.ensures in
     rw (p.1, p.2) (not_readied g.O.Write.contents x c.args.file.now c.args.source.now _ are c.style_of-style.result its
-    _ (rounds_given x.again c.args.source.now.chart c.as_ref-two.result rounds) _ _ _ told)
+    (has_room x.again c.args.source.now.chart c.as_ref-two.result rounds) _ (rounds_given x.again c.args.source.now.chart c.as_ref-two.result rounds) _ _ _ told)
 
 pub returns : goal.returns
 returns g c =
@@ -38,4 +38,4 @@ returns g c =
     let told = subst (λ (d : Drawing). Tells g.O.Write.contents (PrintsReady d x.queues (option_copied c.lent-only.result) (is_some c.as_ref-two.result) x.show c.style_of-style.result) (Ok c.in_ok-finishes.finishes) c.args.output.now c.write_ready.new.writer)
     c.chart-chart.ensures c.in_ok-finishes.ensures in
     rw c.ended_by.ensures (readied g.O.Write.contents x c.args.file.now c.args.source.now _ are c.style_of-style.result its
-    _ (rounds_given x.again c.args.source.now.chart c.as_ref-two.result rounds) _ _ _ told)
+    (has_room x.again c.args.source.now.chart c.as_ref-two.result rounds) _ (rounds_given x.again c.args.source.now.chart c.as_ref-two.result rounds) _ _ _ told)

@@ -1,4 +1,4 @@
-use Rattle.std.proofs.Common.{ℕ, List, Err, Ok, sym, subst, ◌∙◌}
+use Rattle.std.proofs.Common.{ℕ, List, Err, sym, subst, ◌∙◌}
 use Rattle.std.proofs.lemmas.Result.{err_from_is_err_and}
 use Rattle.msc_command.proofs.AllSurveyed.{refused_block, spent_block, untold_block}
 use Rattle.msc_command.specs.Answering.{TellsBlock}
