@@ -42,7 +42,7 @@ CHARTS = {
 }
 DIAGRAMS = {
     "races": DIAGRAM, "no arrow": b"sequenceDiagram\nA=>>B: a", "no end": b"sequenceDiagram\nloop x",
-    "left": b"sequenceDiagram\nA\\-B: x", "outside": b"sequenceDiagram\nopt x\nelse\nend",
+    "left": b"sequenceDiagram\nA/|-B: x", "outside": b"sequenceDiagram\nopt x\nelse\nend",
     "crosses": b"sequenceDiagram\n" + b"A-xB: x\n" * 13, "too long": b" " * 1048577,
     "par": b"sequenceDiagram\npar x\nA->>B: a\nand y\nA->>C: b\nA->>B: c\nend",
     "flow": b"flowchart TD\nA-->B", "front": b"---\ntitle: x", "nothing": b"",

@@ -8,11 +8,12 @@ Of a random chart of each of these numbers of events (201, 257 and 300 if none i
 diagram whose chart has as many, each command prints what the definitions of tools/naive say, byte
 for byte; SVG and reports are read by tools/picture, and traces by whole_runs.py. Of the largest
 charts and diagrams that docs/LANGUAGE.md allows each command answers: its status is 0 or 1, standard
-error is empty, and its answer begins as it has to. Prints what differs, and last `N passed, M
+error is empty, and its answer begins as it has to. A run is made only if it is shown. Prints what differs, and last `N passed, M
 failed`.
 """
 import random
 import sys
+import tempfile
 import xml.etree.ElementTree
 
 from limits import of_events
@@ -29,6 +30,7 @@ import ready
 from answer import lines_answer, read_answer
 from marks import marks_for
 from picture import chart_picture, run_picture
+from refuse import Shim
 from studies import listing, places_of, study, words_of
 from verdict import Chart, is_enforced
 
@@ -271,6 +273,19 @@ def of_the_largest(count, program):
                       answer.output[:60])
 
 
+def runs_that_are_made(count, program):
+    """Looks whether a run is made only if it is shown: a chart whose races begin at 100 events takes
+    more and more memory with --show 0, 1 and all, and without --show."""
+    words = [program, "check", "--queues", "single"]
+    with tempfile.TemporaryDirectory() as folder:
+        shim, taken = Shim(folder), []
+        for more in (["--show", "0"], ["--show", "1"], []):
+            run([*words, *more, "-"], of_events(101), env=shim.env())
+            taken.append(shim.made()[0])
+        none, one, each = taken
+        count.add(none < one and 99 * (one - none) // 2 < each - one, "runs that are made", taken)
+
+
 def main():
     words = arguments(__doc__)
     words.add_argument("--events", default=SIZES, metavar="N,..",
@@ -281,6 +296,7 @@ def main():
     for place, events in enumerate(options.events):
         of_size(count, options.program, pick, place, events)
     of_the_largest(count, options.program)
+    runs_that_are_made(count, options.program)
     return count.end()
 
 
