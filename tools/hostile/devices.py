@@ -135,7 +135,8 @@ def causes(count, commands):
         words = [*words[:2], "--places", *words[2:]]
         for streams, cause in CLOSED.items():
             wanted = Answer(b"", FAULT.error + f"output: {cause}\n".encode(), 4)
-            count.compare(run(redirected(words, streams), commands.text), wanted, *words[1:], streams)
+            got = run(redirected(words, streams), commands.text)
+            count.compare(got, wanted, *words[1:], streams)
         wanted = Answer(b"", FAULT.error + f"file -: {CLOSED['>&-']}\n".encode(), 4)
         count.compare(run(redirected(words, "<&-")), wanted, *words[1:], "<&-")
 

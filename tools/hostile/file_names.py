@@ -1,6 +1,6 @@
 #!/usr/bin/env python3
-"""Gives the program files with names of every sort, with and without a fault, and files that are not
-there, and looks at each answer.
+"""Gives the program files with names of every sort, with and without a fault, and names of no file,
+and looks at each answer.
 
     file_names.py PROGRAM
 
@@ -41,7 +41,8 @@ CHARTS = {
     "diagram": DIAGRAM,
 }
 DIAGRAMS = {
-    "races": DIAGRAM, "no arrow": b"sequenceDiagram\nA=>>B: a", "no end": b"sequenceDiagram\nloop x",
+    "races": DIAGRAM, "no arrow": b"sequenceDiagram\nA=>>B: a",
+    "no end": b"sequenceDiagram\nloop x",
     "left": b"sequenceDiagram\nA/|-B: x", "outside": b"sequenceDiagram\nopt x\nelse\nend",
     "crosses": b"sequenceDiagram\n" + b"A-xB: x\n" * 13, "too long": b" " * 1048577,
     "par": b"sequenceDiagram\npar x\nA->>B: a\nand y\nA->>C: b\nA->>B: c\nend",
@@ -66,7 +67,8 @@ ON_DIAGRAMS = (
     ["check", "--from", "any", "--queues", "mailbox", "--format", "lines"],
     ["check", "--from", "any", "--queues", "mailbox", "--format", "count"],
     ["import", "--name", "t", "--places"], ["import", "--name", "t", "--list"],
-    ["import", "--name", "t", "--fence", "3", "--places"], ["check", "--queues", "pair", "--places"],
+    ["import", "--name", "t", "--fence", "3", "--places"],
+    ["check", "--queues", "pair", "--places"],
 )
 
 

@@ -7,9 +7,9 @@ memory, and looks whether it answers.
 Of a random chart of each of these numbers of events (201, 257 and 300 if none is given) and of a
 diagram whose chart has as many, each command prints what the definitions of tools/naive say, byte
 for byte; SVG and reports are read by tools/picture, and traces by whole_runs.py. Of the largest
-charts and diagrams that docs/LANGUAGE.md allows each command answers: its status is 0 or 1, standard
-error is empty, and its answer begins as it has to. A run is made only if it is shown. Prints what differs, and last `N passed, M
-failed`.
+charts that docs/LANGUAGE.md allows each command answers: its status is 0 or 1, standard error is
+empty, and its answer begins as it has to. A run is made only if it is shown. Prints what differs,
+and last `N passed, M failed`.
 """
 import random
 import sys
@@ -168,12 +168,15 @@ class Run:
 
 def pictures(count, program, pick, text):
     """Reads what is drawn and reported of a chart."""
+    for words in (["draw", "--svg"], *(["report", "--queues", queues] for queues in QUEUES)):
+        answer = run([program, *words, "-"], text.encode())
+        count.add(answer[1:] == (b"", 0), *words, answer[1:])
     try:
         readers.check_all(program, text.encode(), pick)
         wrong = None
     except (readers.Wrong, SystemExit, xml.etree.ElementTree.ParseError) as told:
         wrong = told
-    count.add(wrong is None, "draw, reverse and report", str(wrong)[-200:])
+    count.add(wrong is None, "draw, reverse and report", str(wrong).split("\n")[-1][:200])
 
 
 def faults(count, program, text):
@@ -274,8 +277,8 @@ def of_the_largest(count, program):
 
 
 def runs_that_are_made(count, program):
-    """Looks whether a run is made only if it is shown: a chart whose races begin at 100 events takes
-    more and more memory with --show 0, 1 and all, and without --show."""
+    """Looks whether a run is made only if it is shown: of a chart whose races begin at 100 events,
+    more allocations are made with --show 1 than with --show 0, and many more without --show."""
     words = [program, "check", "--queues", "single"]
     with tempfile.TemporaryDirectory() as folder:
         shim, taken = Shim(folder), []
