@@ -211,10 +211,14 @@ def of_size(count, program, pick, place, events):
     faults(count, program, text.replace(" to i3", " to j3").encode())
 
 
+# all messages are overtaken
+REVERSED = of_events(1024, step=-1)
+
+
 def largest_charts():
-    """The largest charts: their texts, and how many of each architecture's verdicts are `pass`."""
+    """The texts of the largest charts, and whether each architecture's verdict is `pass`."""
     yield of_events(1024, 1024), {"pair": True, "mailbox": True, "single": False}
-    yield of_events(1024, step=-1), {"pair": False, "mailbox": False, "single": False}
+    yield REVERSED, dict.fromkeys(QUEUES, False)
     wide = drawn(random.Random(1), INSTANCES, MESSAGES)
     yield wide, dict.fromkeys(QUEUES, False)
     for number in range(INSTANCES):
@@ -232,12 +236,14 @@ def asked_of_the_largest(text, queues, passes):
     for more in (["--show", "3"], ["--closest", "--why", "--show", "3", "--places"],
                  ["--closest", "--words", "--short", "--show", "3"], ["--accept", "--most", "9"]):
         yield ["check", *asked, *more, "-"], first, status
-    finding = b"in m0 from a" in text and not passes and "-:1:" or ""
-    yield ["check", *asked, "--format", "lines", "-"], finding, status
+    yield ["check", *asked, "--format", "lines", "-"], "" if passes else "-:1:", status
     yield ["check", *asked, "--format", "count", "-"], "pass" if passes else "races ", status
     yield ["check", *asked, "-q", "-"], "", status
-    for more in ([], ["--words", "--places", "--show", "1"]):
-        if b"in m1023 from a;in m1022" not in text:
+    # the name of the second instance
+    only = text.split(b"instance ")[2].split(b";")[0].decode()
+    for more in ([], ["--words", "--places", "--show", "1"], ["--only", only]):
+        # of the other one each two messages are a stick, which makes 60 MB
+        if text != REVERSED:
             yield ["ready", *asked, *more, "-"], head, None
     ends = ["2000", "1030"]
     yield ["explain", *asked, "-", *ends], head, None
@@ -246,6 +252,46 @@ def asked_of_the_largest(text, queues, passes):
     yield ["draw", *asked, "--svg", "-"], "<svg ", 0
     yield ["report", *asked, "-"], "<!DOCTYPE html>", 0
     yield ["run", *asked, "-"], head, 0
+
+
+def asked_of_rounds():
+    """The largest charts of which two rounds are one, words of commands, what their answers begin
+    with, and their statuses, None if it is not told here."""
+    for text in (of_events(512, 512), drawn(random.Random(1), INSTANCES, MESSAGES // 2)):
+        for queues in QUEUES:
+            asked, head = ["--queues", queues, "--again"], f"chart t\nqueues {queues}\n"
+            for more in (["--show", "3"], ["--why", "--closest", "--places", "--show", "1"],
+                         ["--closest", "--words", "--short", "--show", "3"]):
+                yield text, ["check", *asked, *more, "-"], head, 1
+            yield text, ["check", *asked, "--format", "lines", "-"], "-:1:", 1
+            yield text, ["check", *asked, "-q", "-"], "", 1
+            yield text, ["ready", *asked, "--words", "--show", "3", "-"], head, None
+
+
+def asked_of_diagrams():
+    """The same of a diagram whose chart is as large as it may be."""
+    pick = random.Random(1)
+    arrows = (f"P{pick.randrange(32)}->>P{pick.randrange(32)}: m" for _ in range(MESSAGES))
+    text = "sequenceDiagram\n" + "\n".join(arrows)
+    for queues in QUEUES:
+        asked = ["check", "--from", "any", "--queues", queues]
+        head = f"diagram diagram\nqueues {queues}\nscenarios 1\n"
+        for more in (["--show", "3"], ["--closest", "--why", "--words", "--short", "--most", "5"]):
+            yield text.encode(), [*asked, *more, "-"], head, 1
+        yield text.encode(), [*asked, "--format", "lines", "-"], "-:", 1
+        yield text.encode(), [*asked, "--format", "count", "-"], "races ", 1
+        yield text.encode(), [*asked, "-q", "-"], "", 1
+    yield text.encode(), ["import", "-"], "msc diagram;\n", 0
+    yield text.encode(), ["import", "--list", "-"], "chart diagram\nevents ", 0
+
+
+def are_answered(count, program, tried):
+    """Looks whether these words are answered of these texts, as it is told of them."""
+    for text, words, first, status in tried:
+        answer = run([program, *words], text)
+        is_answered = answer.error == b"" and answer.output.startswith(first.encode())
+        is_answered = is_answered and answer.status in ((0, 1) if status is None else (status,))
+        count.add(is_answered, len(text), *words, answer.error, answer.status, answer.output[:60])
 
 
 def races_of(program, text, queues):
@@ -268,12 +314,8 @@ def of_the_largest(count, program):
             for more in ([], ["--svg"]) if race else ():
                 words = ["reverse", "--queues", queues, *more, "-", *race]
                 tried.append((words, "<svg " if more else " ", 0))
-        for words, first, status in tried:
-            answer = run([program, *words], text)
-            is_answered = answer.error == b"" and answer.output.startswith(first.encode())
-            is_answered = is_answered and answer.status in ((0, 1) if status is None else (status,))
-            count.add(is_answered, len(text), *words, answer.error, answer.status,
-                      answer.output[:60])
+        are_answered(count, program, [(text, *it) for it in tried])
+    are_answered(count, program, [*asked_of_rounds(), *asked_of_diagrams()])
 
 
 def runs_that_are_made(count, program):

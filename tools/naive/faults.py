@@ -30,7 +30,7 @@ FILE, SHOWN = "some\x01 text.msc", "some? text.msc"
 
 
 def run(words, text, folder):
-    """Runs a program on a file of a folder with this text, or without a folder on standard input."""
+    """Runs a program on a text: on a file of a folder, or without one on standard input."""
     if folder:
         (folder / FILE).write_bytes(text)
     words = [*words, FILE if folder else "-"]
