@@ -16,6 +16,7 @@ import sys
 ROOT = pathlib.Path(__file__).resolve().parent.parent
 DEADLOCK = "charts/refused/deadlock.msc"
 RELAY = "charts/relay.msc"
+ARROW = "charts/import/refused/unknown_arrow.mmd"
 
 # Words, and whether notes are told where standard error is no terminal, and where it is one.
 FAULTS = [
@@ -26,6 +27,17 @@ FAULTS = [
     (["ready", "--queues", "pair", DEADLOCK], False, True),
     (["run", "--queues", "pair", DEADLOCK], False, True),
     (["explain", "--queues", "pair", DEADLOCK, "0", "1"], False, True),
+    (["check", "--queues", "pair", "-q", DEADLOCK], False, True),
+    (["check", "--queues", "pair", "--format", "count", DEADLOCK], False, True),
+    (["draw", DEADLOCK], False, True),
+    (["draw", "--plain", DEADLOCK], False, False),
+    (["reverse", "--queues", "pair", DEADLOCK, "0", "1"], False, True),
+    (["report", "--queues", "pair", DEADLOCK], False, True),
+    (["import", ARROW], False, True),
+    (["import", "--places", ARROW], True, True),
+    (["check", "--from", "any", "--queues", "pair", ARROW], False, True),
+    (["check", "--from", "any", "--queues", "pair", "--plain", ARROW], False, False),
+    (["check", "--queues", "pair", "no/such/\x1b[31mfile"], False, True),
     (["read", "charts/no_such_chart.msc"], False, True),
     (["read", "--plain", "charts/no_such_chart.msc"], False, False),
 ]
@@ -95,7 +107,7 @@ def main():
     program = os.path.abspath(sys.argv[1])
     failed = list(failures(program))
     for words in failed:
-        print("terminal: another answer:", *words)
+        print("terminal: another answer:", words)
     print(f"terminal: {3 * len(FAULTS) + 3 * len(ANSWERS)} runs, {len(failed)} others")
     return 1 if failed else 0
 

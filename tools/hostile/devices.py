@@ -20,6 +20,7 @@ from program import MOST, QUEUES, TOP, Answer, Count, add_commands, arguments, c
 from answer import again_answer, check_answer, read_answer
 from diagram_checks import wanted_of as checked_of
 from imports import wanted_of
+from limits import of_events
 from refuse import Shim
 
 CHART = (TOP / "charts/two_senders.msc").read_bytes()
@@ -36,6 +37,11 @@ FAULT = Answer(b"", b"device fault\n", 4)
 LONG, BLANK = b" " * 2 ** 21, b" " * 200000
 DIAGRAM = (TOP / "charts/import/websocket_chat.mmd").read_bytes()
 SILENT = Answer(b"", b"", 4)
+# the most calls of read on one input
+CALLS = 2097152
+# redirections of standard output that let nothing out, and why
+CLOSED = {">&-": "Bad file descriptor (os error 9)",
+          ">/dev/full": "No space left on device (os error 28)"}
 # a user that owns nothing here
 NOBODY = 64321
 
@@ -121,6 +127,39 @@ def outputs(count, commands, folder):
     for words in ([], ["read"], ["check", "--queues", "none", "-"]):
         answer = run(redirected([commands.program, *words], "2>/dev/full"))
         count.compare(answer, Answer(b"", b"", 2), *words, "2>/dev/full")
+
+
+def causes(count, commands):
+    """With --places the cause is told, of the stream that failed."""
+    for words, _ in commands.on():
+        words = [*words[:2], "--places", *words[2:]]
+        for streams, cause in CLOSED.items():
+            wanted = Answer(b"", FAULT.error + f"output: {cause}\n".encode(), 4)
+            got = run(redirected(words, streams), commands.text)
+            count.compare(got, wanted, *words[1:], streams)
+        wanted = Answer(b"", FAULT.error + f"file -: {CLOSED['>&-']}\n".encode(), 4)
+        count.compare(run(redirected(words, "<&-")), wanted, *words[1:], "<&-")
+
+
+def lines_for_editors(count, commands):
+    """With --format lines a fault is told on standard output too, and has gone out before standard
+    error tells it; where it cannot go out, that is what is told."""
+    for words, text, line in (
+        (["check"], b"msc t;", "grammar fault 3 at 6: expected a section"),
+        (["check", "--again"], of_events(513), "again fault 1: more than 512 messages"),
+        (["check", "--from", "any"], b"pie", "import fault 2 at 1: expected a diagram"),
+        (["check"], None, "device fault"),
+    ):
+        file = "-" if text else "no/such/file"
+        words = [commands.program, *words, "--queues", "pair", "--format", "lines", file]
+        both = run(redirected(words, "2>&1"), text)
+        lines = both.output.decode().splitlines()
+        is_told = lines[-1] == line and lines[0].endswith(f": error: {line}")
+        is_told = is_told and sum(line in it for it in lines) == 2
+        count.add(is_told and both.status == (2 if text else 4), *words[1:], both)
+        for streams in CLOSED:
+            answer = run(redirected(words, streams), text)
+            count.compare(answer, FAULT, *words[1:], streams)
 
 
 def without_reader(count, words, text):
@@ -253,6 +292,7 @@ def calls(count, commands, shim):
                     count.add(fails(answer, wanted, call), *words[1:], rule, answer)
         always = run(words, commands.text, env=shim.env(INTERRUPT_READ="1+"))
         count.compare(always, FAULT, *words[1:], "always interrupted")
+        count.add(shim.made()[2] == CALLS, *words[1:], "calls of read", shim.made()[2])
 
 
 def fails(answer, wanted, call):
@@ -271,11 +311,14 @@ def main():
     options = words.parse_args()
     program = str(pathlib.Path(options.program).resolve())
     count = Count()
+    if "check" in options.commands:
+        lines_for_editors(count, Commands(program, options.commands))
     for commands in (Commands(program, options.commands), Imports(program, options.commands)):
         with tempfile.TemporaryDirectory() as name:
             folder = pathlib.Path(name)
             shim = Shim(name)
             outputs(count, commands, folder)
+            causes(count, commands)
             inputs(count, commands, folder)
             pieces(count, commands, folder)
             while_read(count, commands, folder, shim)

@@ -164,6 +164,10 @@ def rounds():
     yield two, ["ready", "--queues", "mailbox"], 2 * 256 * 256, pair
 
 
+# an output with a mark that accepts no race
+MARKED = b"m0 to b comment 'race ok: none'"
+
+
 def faults_of_rounds():
     """Charts whose two rounds are no chart, words, and what is told."""
     messages = "again fault 1: more than 512 messages"
@@ -174,9 +178,16 @@ def faults_of_rounds():
                            (of_events(0, 513), actions), (of_events(0, 1024), actions)):
             yield text, [command], line
         yield of_events(513), [command, "--places"], messages
+        yield of_events(513, step=-1), [command], messages
         # what is told of a chart alone comes first
         yield of_events(1025), [command], "chart fault 5: more than 1024 messages"
         yield of_events(513, 0, 512), [command], "chart fault 7: output 512 has no input"
+    # also where the races of one round, or a mark of it, would tell the status
+    for more in (["-q"], ["-q", "--accept"], ["--format", "count"]):
+        for step in (1, -1):
+            yield of_events(513, step=step), ["check", *more], messages
+        yield of_events(512, 513), ["check", *more], actions
+        yield of_events(513).replace(b"m0 to b", MARKED), ["check", *more], messages
     yield of_events(513), ["ready", "--only", "b"], messages
     yield of_events(513), ["ready", "--only", "c"], "ready fault 1: no instance c"
     faulty = of_events(513).replace(b"m0 to b", b"m0 to b comment 'race ok'")

@@ -34,7 +34,7 @@ import compare
 import ready
 from marks import fault_of, marked, marks_for
 from ready import ALL, Ready, Wrong, examine, pair_words, random_chart, signal, want
-from studies import (KINDS, chosen, is_closest, kind, named, places_of, share_queue, shown_run,
+from studies import (KINDS, chosen, closest_of, kind, named, places_of, share_queue, shown_run,
                      some_options, study, words_of)
 from verdict import Chart, is_enforced, statements
 
@@ -106,8 +106,7 @@ class Several(Chart):
         return (self.place[x][1], self.place[y][1]) == (1, 2)
 
     def closest(self):
-        races = self.races()
-        return [race for race in races if is_closest(self, *race, races)]
+        return closest_of(self, self.races())
 
 
 def said(two, x):

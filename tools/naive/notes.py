@@ -22,6 +22,8 @@ WIDTH, BEFORE, MOST = 100, 49, 20
 # the faults of charts that are told together
 TOGETHER = (2, 3, 4, 6, 7, 8)
 MARK = b"\xef\xbb\xbf"
+# what stands for the file in a place
+PLACE = re.compile(r"(?<![^ ])-(?=:\d+:\d+)")
 
 
 def position(text, at):
@@ -352,6 +354,11 @@ def for_editors(lines):
             said = line[: own.start()] if own else line
             told.append(f"{where}: note: {SAID.get(said, said)}")
     return told
+
+
+def in_file(lines, file):
+    """The same lines, of a file of this name; the line of the text that is shown stays as it is."""
+    return [it if it.startswith("  ") else PLACE.sub(lambda _: file, it) for it in lines]
 
 
 def main():

@@ -12,7 +12,7 @@ import argparse
 import sys
 
 sys.dont_write_bytecode = True
-from studies import is_closest
+from studies import closest_of
 from verdict import Chart
 
 
@@ -177,8 +177,7 @@ def picture(drawn, order, bands, marks):
 
 def closest_marks(drawn):
     """For each segment the ends of the closest races from it to the next."""
-    races = drawn.races()
-    closest = [(e, f) for e, f in races if is_closest(drawn, e, f, races)]
+    closest = closest_of(drawn, drawn.races())
     for segment in segments(drawn):
         pairs = [pair for pair in closest if pair[0] in segment]
         if pairs:

@@ -20,7 +20,7 @@ from courses import scenarios
 from diagrams import made
 from mermaid import fault_bytes, texts_of, words_on_diagrams
 from source import Refused, Source, source_of
-from studies import KINDS, editor_lines, is_closest, kind, race_words, run_lines, shown_run, why
+from studies import KINDS, closest_of, editor_lines, kind, race_words, run_lines, shown_run, why
 from verdict import Chart
 
 QUEUES = ("pair", "mailbox", "single")
@@ -42,7 +42,7 @@ class Scenario:
     def left(self, allow, closest):
         """The races that count, or the closest of them."""
         left = [race for race in self.races if kind(self.drawn, *race) not in allow]
-        return [race for race in left if not closest or is_closest(self.drawn, *race, left)]
+        return closest_of(self.drawn, left) if closest else left
 
     def ends(self, race):
         """The place of a race: its line, and which ends of which arrows race on it."""

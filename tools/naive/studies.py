@@ -37,6 +37,15 @@ def is_closest(drawn, e, f, races):
     return not any((g, h) != (e, f) and is_within(drawn, e, f, g, h) for g, h in races)
 
 
+def closest_of(drawn, races):
+    """Those of these races within which lies no other one of them; one that does is of the same
+    line."""
+    own = {}
+    for e, f in races:
+        own.setdefault(drawn.events[e].line, []).append((e, f))
+    return [(e, f) for e, f in races if is_closest(drawn, e, f, own[drawn.events[e].line])]
+
+
 def share_queue(drawn, e, f):
     """e and f, a race, are inputs of one queue."""
     return not drawn.is_controlled(e) and drawn.queue(e) == drawn.queue(f)
@@ -129,8 +138,7 @@ def chosen(drawn, options, marks):
     if options["accept"]:
         taken, stale = verdict_on(drawn, races, marks)
         left = [race for race in named if race not in taken]
-    closest = [race for race in left if is_closest(drawn, *race, left)]
-    return races, named, left, closest, stale
+    return races, named, left, closest_of(drawn, left), stale
 
 
 def study(drawn, places, options, marks):

@@ -23,7 +23,7 @@ import xml.etree.ElementTree
 from pages import QUEUES, drawn_of, printed, texts
 from picture import label
 from reading import Draft
-from studies import is_closest
+from studies import closest_of
 
 SPACE = "http://www.w3.org/2000/svg"
 ARROW = re.compile(r"M(\d+),(\d+)(?:L(\d+),(\d+)|h\d+V(\d+)H(\d+))")
@@ -136,7 +136,7 @@ def check_all(program, text, pick):
     for queues in QUEUES:
         drawn, asked = drawn_of(text, queues), ["--queues", queues]
         races = drawn.races()
-        closest = [(e, f) for e, f in races if is_closest(drawn, e, f, races)]
+        closest = closest_of(drawn, races)
         check_picture(read(printed(program, ["draw", *asked, "--svg"], text)), drawn)
         check_report(printed(program, ["report", *asked], text), text, drawn, closest)
         if races:
