@@ -20,6 +20,7 @@ mod recorded;
 mod refused;
 mod rounds;
 mod scenarios;
+mod shown;
 mod sited;
 mod surveying;
 mod tasks;

@@ -19,6 +19,7 @@ use crate::ending::{Status, end_with};
 use crate::grammar::{Lists, grammar};
 use crate::misuse::write_misuse;
 use crate::recorded::TellsFailure;
+use crate::shown::Shown;
 use crate::tasks::{Request, Task, file_of, notes_of, task_of};
 use crate::words::Verb;
 use clap::{ArgMatches, Error};
@@ -64,7 +65,8 @@ fn tell_usage<O: Write, E: Write>(output: &mut O, faults: &mut E, error: &Error)
         return end_with(faults, Fault::Memory).0;
     }
     if error.use_stderr() {
-        let _ = write!(faults, "{error}");
+        let mut shown = Shown { inner: faults };
+        let _ = write!(shown, "{error}");
         return Status::Refused;
     }
     match write!(output, "{error}") {
@@ -81,7 +83,7 @@ fn task_named<'w, E: Write>(name: &str, words: &'w ArgMatches, faults: &mut E) -
     match task_of(Verb::of(name)?, words) {
         Ok(task) => Some(task),
         Err(misuse) => {
-            let _ = write_misuse(faults, misuse);
+            let _ = write_misuse(&mut Shown { inner: faults }, misuse);
             None
         }
     }
