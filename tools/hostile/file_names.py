@@ -7,7 +7,8 @@ and looks at each answer.
 What is printed of a file is what is printed of its text as standard input, with the file's name in
 each place; and of the name each byte below 32, and 127, is `?`, on both streams. A file that is not
 there is told on standard error, its name and the cause with `--places`, and on standard output with
-`--format lines`. Prints what differs, and last `N passed, M failed`.
+`--format lines`. Wrong words with such names are refused, and shown in the same way. Prints what
+differs, and last `N passed, M failed`.
 """
 import errno
 import os
@@ -130,12 +131,23 @@ def missing_files(count, program, folder):
                           *words, repr(name))
 
 
+def wrong_words(count, program):
+    """Looks at what is told of wrong words that hold such names."""
+    for name in NAMES[:-1]:
+        for words in (["read", "a", name], [name], ["read", f"--{name}"], ["check", "--queues", name],
+                      ["explain", "--queues", "pair", "a", name, "1"], ["import", "--choose", name]):
+            got = run([program, *words])
+            is_refused = got.status == 2 and not got.output and got.error.startswith(b"error: ")
+            count.add(is_refused and is_clean(got), "refused, and shown", *map(repr, words))
+
+
 def main():
     options, count = arguments(__doc__).parse_args(), Count()
     program = str(pathlib.Path(options.program).resolve())
     with tempfile.TemporaryDirectory() as name:
         named_files(count, program, pathlib.Path(name))
         missing_files(count, program, pathlib.Path(name))
+    wrong_words(count, program)
     return count.end()
 
 

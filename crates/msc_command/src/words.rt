@@ -166,7 +166,7 @@ impl Word {
     /// What the help says of it.
     pub fn help(self) -> &'static str {
         match self {
-            Word::File => "The chart's text; - is standard input",
+            Word::File => "The text to read; - is standard input",
             Word::Queues => {
                 "A queue for each sender and receiver, for each receiver, or for each message"
             }
