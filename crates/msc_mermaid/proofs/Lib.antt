@@ -1,5 +1,6 @@
 pub mod WhiteLemmas
 pub mod LineLemmas
+pub mod StartLemmas
 pub mod Found
 pub mod RowLemmas
 pub mod CuttingLemmas
@@ -10,3 +11,4 @@ pub mod PartLemmas
 pub mod PlaceLemmas
 pub mod LawLemmas
 pub mod StepLemmas
+pub mod SpellLemmas

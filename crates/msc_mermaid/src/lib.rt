@@ -40,14 +40,14 @@ pub use ahead::Ahead;
 pub use fault::{Expectation, ImportFault};
 pub use head::Head;
 pub use key::{are_spelled, begin_so};
-pub use lines::{counted, lines_of};
+pub use lines::{counted, lines_of, starts_of};
 pub use mermaid::{beginning_of, diagram_of, end_of};
 pub use part::{LinePart, diagram_of_parts, first_place};
 pub use pattern::{begins_word, is_word_byte};
 pub use row::{Closer, Kind};
 pub use seeking::entity_in;
 pub use shape::is_head;
-pub use statement::{Arrow, Cross, Diagram, Fate, Placed, Statement};
+pub use statement::{Arrow, Cross, Diagram, Fate, Placed, Span, Statement};
 pub use white::trimmed;
 
 /// The greatest number of blocks inside each other.
