@@ -99,9 +99,9 @@ module _ (cross : Option Cross) (d : Diagram) where
     said_outlined : (markup : Bool) (parts : List Stretch) → room (map blanked parts) ≤ TEXT_LIMIT + 1 → said_by markup any cross f parts ≡ Ok d → IsFound d
     said_outlined markup parts low e = by (is_none any parts) e
       where
-        by : (b : Bool) → ◌≡◌ {A = Result Diagram ImportFault} (cond b (Err (Expected (first_place parts f.end) expectations.AnyDiagram)) (said_of markup cross f.starts f.end parts)) (Ok d) → IsFound d
+        by : (b : Bool) → ◌≡◌ {A = Result Diagram ImportFault} (cond b (Err (Expected (first_place parts f.end) expectations.AnyDiagram)) (said_of markup cross f.line_starts f.end parts)) (Ok d) → IsFound d
         by true e = cc
-        by false e = parts_outlined markup f.starts f.end parts low e
+        by false e = parts_outlined markup f.line_starts f.end parts low e
 
     block_outlined : (s : Start) (others : List Start) → block_diagram any cross f s others ≡ Ok d → IsFound d
     block_outlined s others e = by (is_block s) e

@@ -128,7 +128,7 @@ is_diagram lines = is_begun (look ahead.Start lines)
 -- each line belongs to a block; the blocks of diagrams; and the numbers, from 1, of those that are sequence diagrams.
 pub record Found : Type 0 where
   pub text : List ℕ
-  pub starts : List ℕ
+  pub line_starts : List ℕ
   pub end : Position
   pub whole : Bool
   pub parts : List Stretch
@@ -139,7 +139,7 @@ pub record Found : Type 0 where
 abbrev pub found_of : List ℕ → List (List ℕ) → List Stretch → List Start → Found
 found_of text lines parts blocks = record {
   text = text;
-  starts = starts_of text;
+  line_starts = starts_of text;
   end = end_of lines;
   whole = is_diagram lines;
   parts = parts;
@@ -175,7 +175,7 @@ is_none any parts = any && not (has_head (bytes_in parts))
 -- the diagram of a block of these parts, which a browser reads first or not; of any language, if it may be any
 abbrev pub said_by : Bool → Bool → Option Cross → Found → List Stretch → Result Diagram ImportFault
 said_by markup any cross f parts =
-    cond (is_none any parts) (Err (Expected (first_place parts f.end) expectations.AnyDiagram)) (said_of markup cross f.starts f.end parts)
+    cond (is_none any parts) (Err (Expected (first_place parts f.end) expectations.AnyDiagram)) (said_of markup cross f.line_starts f.end parts)
 
 -- the diagram of a block
 abbrev pub block_diagram : Bool → Option Cross → Found → Start → List Start → Result Diagram ImportFault

@@ -286,7 +286,7 @@ fn numbers_of(
 #[derive(Drop)]
 pub struct Markdown<'t> {
     text: &'t [u8],
-    starts: Vec<usize>,
+    line_starts: Vec<usize>,
     end: Position,
     whole: bool,
     parts: Vec<LinePart<'t>>,
@@ -303,7 +303,7 @@ impl<'t> Model for Markdown<'t> {
 
     ghost view = { λ m. record {
       text = m.text.now;
-      starts = m.starts.items;
+      line_starts = m.line_starts.items;
       end = m.end;
       whole = m.whole;
       parts = map stretch m.parts.items;
@@ -369,7 +369,7 @@ impl<'t> Markdown<'t> {
         if text.len() > TEXT_LIMIT {
             return Err(ImportFault::TooLong);
         }
-        let starts = starts_of(alloc, text)?;
+        let line_starts = starts_of(alloc, text)?;
         let lines = lines_of(alloc, text)?;
         let whole = look(lines.as_slice()) == Ahead::Diagram;
         let Passed { parts, starts } = pass(alloc, lines.as_slice())?;
@@ -377,7 +377,7 @@ impl<'t> Markdown<'t> {
         let numbers = numbers_of(alloc, blocks.as_slice(), parts.as_slice())?;
         Ok(Markdown {
             text,
-            starts,
+            line_starts,
             end: end_of(lines.as_slice()),
             whole,
             parts,
@@ -452,7 +452,7 @@ impl<'t> Markdown<'t> {
             let place = first_place(alloc, parts, self.end)?;
             return Err(ImportFault::Expected(place, Expectation::AnyDiagram));
         }
-        let starts = self.starts.as_slice();
+        let starts = self.line_starts.as_slice();
         diagram_of_parts(alloc, markup, cross, starts, self.end, parts)
     }
 
