@@ -14,45 +14,137 @@ type Sited = (
     &'static [EventSite],
 );
 
-/// The bytes between two.
-const fn span(first: usize, past: usize) -> Span {
-    Span { first, past }
-}
-
-/// An event, by the bytes of its label and of its statement.
-const fn event(label: Span, statement: Span) -> EventSite {
-    EventSite { statement, label }
-}
-
 /// A byte order mark and ends of lines of two bytes; a block of Markdown behind bytes that are no
 /// columns; and a configuration over several lines.
 const SITED: &[Sited] = &[
     (
         b"\xef\xbb\xbfsequenceDiagram\r\n    participant A as wrap: The  first\r\n  A->>+ B : one; B--xA:nowrap: two \r\n",
-        &[span(36, 37), span(67, 68)],
-        &[Some(span(47, 57)), None],
         &[
-            event(span(71, 74), span(61, 74)),
-            event(span(71, 74), span(61, 74)),
-            event(span(90, 93), span(76, 93)),
+            Span {
+                first: 36,
+                past: 37,
+            },
+            Span {
+                first: 67,
+                past: 68,
+            },
+        ],
+        &[
+            Some(Span {
+                first: 47,
+                past: 57,
+            }),
+            None,
+        ],
+        &[
+            EventSite {
+                label: Span {
+                    first: 71,
+                    past: 74,
+                },
+                statement: Span {
+                    first: 61,
+                    past: 74,
+                },
+            },
+            EventSite {
+                label: Span {
+                    first: 71,
+                    past: 74,
+                },
+                statement: Span {
+                    first: 61,
+                    past: 74,
+                },
+            },
+            EventSite {
+                label: Span {
+                    first: 90,
+                    past: 93,
+                },
+                statement: Span {
+                    first: 76,
+                    past: 93,
+                },
+            },
         ],
     ),
     (
         b"# Title \xc3\xa9\n\n> <pre title=\"\xc3\xa9\" class=\"mermaid\">sequenceDiagram\n> Alice->>Bob: caf\xc3\xa9 #35; x\n> </pre>\n",
-        &[span(64, 69), span(72, 75)],
+        &[
+            Span {
+                first: 64,
+                past: 69,
+            },
+            Span {
+                first: 72,
+                past: 75,
+            },
+        ],
         &[None, None],
         &[
-            event(span(77, 89), span(64, 89)),
-            event(span(77, 89), span(64, 89)),
+            EventSite {
+                label: Span {
+                    first: 77,
+                    past: 89,
+                },
+                statement: Span {
+                    first: 64,
+                    past: 89,
+                },
+            },
+            EventSite {
+                label: Span {
+                    first: 77,
+                    past: 89,
+                },
+                statement: Span {
+                    first: 64,
+                    past: 89,
+                },
+            },
         ],
     ),
     (
         b"sequenceDiagram\n participant A@{ \"type\": \"queue\",\n\n \"alias\": \"Data, as\" }\n A->>B: one\n",
-        &[span(29, 30), span(79, 80)],
-        &[Some(span(62, 70)), None],
         &[
-            event(span(82, 85), span(75, 85)),
-            event(span(82, 85), span(75, 85)),
+            Span {
+                first: 29,
+                past: 30,
+            },
+            Span {
+                first: 79,
+                past: 80,
+            },
+        ],
+        &[
+            Some(Span {
+                first: 62,
+                past: 70,
+            }),
+            None,
+        ],
+        &[
+            EventSite {
+                label: Span {
+                    first: 82,
+                    past: 85,
+                },
+                statement: Span {
+                    first: 75,
+                    past: 85,
+                },
+            },
+            EventSite {
+                label: Span {
+                    first: 82,
+                    past: 85,
+                },
+                statement: Span {
+                    first: 75,
+                    past: 85,
+                },
+            },
         ],
     ),
 ];
