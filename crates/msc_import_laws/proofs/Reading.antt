@@ -1,5 +1,5 @@
 -- What is read of a text keeps few lines, arrows between them, and a number of its own for each arrow.
-use Rattle.std.proofs.Common.{◌≡◌, ℕ, zero, suc, ◌+◌, ◌-◌, ◌<◌, ◌≤◌, Bool, true, false, cond, nat_lt, length, drop, sym, arith, inl, inr, List, [], ◌∷◌, ◌++◌, Option, None, Some, Result, Ok, refl, ap, subst, ◌∙◌}
+use Rattle.std.proofs.Common.{◌≡◌, ℕ, zero, suc, ◌+◌, ◌<◌, ◌≤◌, Bool, true, false, cond, nat_lt, length, drop, sym, arith, inl, inr, List, [], ◌∷◌, ◌++◌, Option, None, Some, Result, Ok, refl, ap, subst, ◌∙◌}
 use Rattle.std.specs.Str.{bytes_eq}
 use Rattle.std.proofs.lemmas.Bool.{ltb-true}
 use Rattle.std.proofs.lemmas.List.{length_push}
@@ -11,11 +11,6 @@ use Rattle.msc_chart.proofs.Places.{any-place, place-any}
 use Rattle.msc_mermaid.specs.declared.TheConstants.{LINE_LIMIT}
 use Rattle.msc_mermaid.specs.declared.fault.ImportFault.{ImportFault}
 use Rattle.msc_mermaid.specs.declared.fault.ImportFault.TheVariants.{Outside, TooDeep, TooManyLines}
-use Rattle.msc_mermaid.specs.declared.declaring.Tails.{Tails}
-use Rattle.msc_mermaid.specs.declared.outline.Opened.{Opened}
-use Rattle.msc_mermaid.specs.declared.reading.Spot.{Spot}
-use Rattle.msc_mermaid.specs.declared.saying.Said.{Said}
-use Rattle.msc_mermaid.specs.declared.saying.Said.TheVariants as said
 use Rattle.msc_mermaid.specs.declared.statement.Arrow.{Arrow}
 use Rattle.msc_mermaid.specs.declared.statement.Cross.{Cross}
 use Rattle.msc_mermaid.specs.declared.statement.Diagram.{Diagram}
@@ -26,6 +21,7 @@ use Rattle.msc_mermaid.specs.declared.statement.Statement.TheVariants.{Declares,
 use Rattle.msc_mermaid.specs.Gives.{◌>>=◌, unless}
 use Rattle.msc_mermaid.specs.Outlines.{Outline, closed_by, finished, innermost, is_known, laid, meets, met, span_of, with_lines}
 use Rattle.msc_mermaid.specs.Saying.{said_at}
+use Rattle.msc_mermaid.proofs.StepLemmas.{noted_by}
 use Rattle.msc_mermaid.specs.Reading.{Read, untold, is_arrow, listed, noted, read_one, shown_span, told}
 use Rattle.msc_place.specs.declared.position.Position.{Position}
 use Rattle.msc_import_laws.specs.Lines.{StandsOnce}
@@ -193,29 +189,14 @@ read_same n k r q le a b c read = record {
 
 -- a statement is noted, or nothing is
 module _ (n : ℕ) (r : Read) (read : IsRead n r) (here : Position) (whole : Span) (q : Read) where
-  nothing_noted : ◌≡◌ {A = Result Read ImportFault} (Ok r) (Ok q) → IsRead (n + 1) q
-  nothing_noted e = let same : r ≡ q = cc in subst (IsRead (n + 1)) same (read_same n (n + 1) r r (omega arith) refl refl refl read)
-
-  dies_noted : (names : List (List ℕ)) → ◌≡◌ {A = Result Read ImportFault} (Ok (record { dying = names; arrows = r.arrows; outline = r.outline; said = r.said })) (Ok q) → IsRead (n + 1) q
-  dies_noted names e =
-      let now : Read = record { dying = names; arrows = r.arrows; outline = r.outline; said = r.said } in
-      let same : now ≡ q = cc in
-      subst (IsRead (n + 1)) same (read_same n (n + 1) r now (omega arith) refl refl refl read)
-
-  statement_noted : (s : Statement) (t : Tails) → (laid here whole.first (whole.past - t.name) s r.outline >>= (λ o. Ok (listed r here whole t.shown s o))) ≡ Ok q → IsRead (n + 1) q
-  statement_noted s t e =
-      let b = bound (laid here whole.first (whole.past - t.name) s r.outline) (λ o. Ok (listed r here whole t.shown s o)) q e in
-      let same : listed r here whole t.shown s b.0 ≡ q = let f : Ok (listed r here whole t.shown s b.0) ≡ Ok q = b.2 in cc in
-      subst (IsRead (n + 1)) same (listed_read n r read here whole (whole.past - t.name) t.shown s b.0 b.1)
-
-  all_noted : (s : Said) → noted r here whole s ≡ Ok q → IsRead (n + 1) q
-  unfolding noted
-  all_noted said.Nothing e = nothing_noted e
-  all_noted (said.Dies name) e = dies_noted (r.dying ++ name ∷ []) e
-  all_noted (said.Statement s tails) e = statement_noted s tails e
+  all_noted : (s : _) → noted r here whole s ≡ Ok q → IsRead (n + 1) q
+  all_noted s e =
+      noted_by (IsRead (n + 1)) r here whole q (read_same n (n + 1) r r (omega arith) refl refl refl read)
+      (λ names. read_same n (n + 1) r (record { dying = names; arrows = r.arrows; outline = r.outline; said = r.said }) (omega arith) refl refl refl read)
+      (λ t name tail o laid'. listed_read n r read here whole name tail t o laid') s e
 
 -- one statement
-pub one_read : (n : ℕ) (cross : Option Cross) (spot : Spot) (bytes : List ℕ) (r q : Read) → IsRead n r → read_one cross spot bytes r ≡ Ok q → IsRead (n + 1) q
+pub one_read : (n : ℕ) (cross : Option Cross) (spot : _) (bytes : List ℕ) (r q : Read) → IsRead n r → read_one cross spot bytes r ≡ Ok q → IsRead (n + 1) q
 unfolding read_one
 one_read n cross spot bytes r q read e =
     let whole = span_of spot.first (length bytes) in
@@ -229,7 +210,7 @@ drop_short (suc k) [] = omega arith
 drop_short (suc k) (x ∷ xs) = let r = drop_short k xs in omega (arith, r)
 
 -- a diagram is what was read, where all blocks have ended
-closed_is : {A : Type 0} (lines after : A) (x : Option Opened) → closed_by lines x ≡ Ok after → lines ≡ after
+closed_is : {A : Type 0} (lines after : A) (x : Option _) → closed_by lines x ≡ Ok after → lines ≡ after
 closed_is lines after None e = cc
 closed_is lines after (Some b) e = cc
 

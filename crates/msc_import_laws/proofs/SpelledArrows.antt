@@ -13,6 +13,7 @@ use Rattle.msc_import.specs.declared.siting.EventSite.{EventSite}
 use Rattle.msc_import.specs.Places.{event_sites, places, places_in, sites_of, walk_places}
 use Rattle.msc_import.specs.Laws.{ends_on}
 use Rattle.msc_import.specs.Plans.{Event, plans_of, sides_on}
+use Rattle.msc_mermaid.specs.Gives.{◌>>=◌}
 use Rattle.msc_mermaid.specs.declared.fault.ImportFault.{ImportFault}
 use Rattle.msc_mermaid.specs.declared.statement.Diagram.{Diagram}
 use Rattle.msc_place.specs.declared.position.Position.{Position}

@@ -1,6 +1,7 @@
 pub mod WhiteLemmas
 pub mod LineLemmas
 pub mod StartLemmas
+pub mod StandLemmas
 pub mod Found
 pub mod RowLemmas
 pub mod CuttingLemmas
@@ -11,4 +12,5 @@ pub mod PartLemmas
 pub mod PlaceLemmas
 pub mod LawLemmas
 pub mod StepLemmas
+pub mod FrontLemmas
 pub mod SpellLemmas

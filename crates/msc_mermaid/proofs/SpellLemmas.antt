@@ -1,5 +1,6 @@
 -- What a statement names and shows stands in it where so many of its bytes are left.
-use Rattle.std.proofs.Common.{◌≡◌, ◌≤◌, ℕ, zero, suc, ◌+◌, ◌-◌, Bool, true, false, cond, not, ◌&&◌, List, [], ◌∷◌, length, take, drop, Option, None, Some, Result, Ok, Err, refl, sym, ap, ◌∙◌, subst, arith, length-drop}
+use Rattle.std.proofs.Math.Seq.{take-length}
+use Rattle.std.proofs.Common.{◌≡◌, ◌≤◌, ℕ, zero, suc, ◌+◌, ◌-◌, Bool, true, false, cond, not, ◌&&◌, List, [], ◌∷◌, length, nat_lt, take, drop, Option, None, Some, Result, Ok, Err, refl, sym, ap, ◌∙◌, subst, arith, length-drop}
 use Rattle.std.specs.Prelude.{option_and_then, is_some}
 use Rattle.std.specs.List.{prefix_len}
 use Rattle.std.specs.Char.{is_ascii_digit}
@@ -15,15 +16,19 @@ use Rattle.msc_mermaid.specs.declared.key.Mark.TheVariants as marks
 use Rattle.msc_mermaid.specs.declared.seeking.Sought.TheVariants as sought
 use Rattle.msc_mermaid.specs.declared.statement.Arrow.{Arrow}
 use Rattle.msc_mermaid.specs.declared.statement.Cross.{Cross}
+use Rattle.msc_mermaid.specs.declared.statement.Statement.{Statement}
+use Rattle.msc_mermaid.specs.declared.statement.Statement.TheVariants.{Declares}
+use Rattle.msc_mermaid.specs.declared.declaring.Shown.{Shown}
 use Rattle.msc_place.specs.declared.position.Position.{Position}
 use Rattle.msc_mermaid.specs.Cutting.{bare_from, bare_step, without_entities}
 use Rattle.msc_mermaid.specs.Gives.{◌>>=◌, unless}
 use Rattle.msc_mermaid.specs.Keys.{begin_so, head_of, head_text, is_leftward, mark_text}
-use Rattle.msc_mermaid.specs.Laws.{SpellsArrow, left_of}
-use Rattle.msc_mermaid.specs.Names.{behind_colon, from_shown, name_at, name_tail, parted, sender, shown_text, unwrapped}
+use Rattle.msc_mermaid.specs.Laws.{SpellsArrow, SpellsName, left_of}
+use Rattle.msc_mermaid.specs.Names.{behind_colon, central_name, configured, declared, declares, from_shown, is_central, is_name, line_of, name_at, name_tail, parted, plain, sender, sender_of, shown_behind, shown_text, unwrapped}
+use Rattle.msc_mermaid.proofs.FrontLemmas.{trimmed_first}
 use Rattle.msc_mermaid.specs.Rows.{is_dash}
 use Rattle.msc_mermaid.specs.Saying.{arrow_by, arrow_of, arrow_with, behind_sign, is_sign, no_second}
-use Rattle.msc_mermaid.specs.Seeking.{before}
+use Rattle.msc_mermaid.specs.Seeking.{before, holds}
 use Rattle.msc_mermaid.specs.White.{before_white, behind_white, body, front, trimmed}
 
 -- the last bytes of some
@@ -157,11 +162,44 @@ spelled : (bytes : List ℕ) (x y : Arrow × Tails) → ◌≡◌ {A = Result (A
 spelled bytes x y same s =
     let one : x ≡ y = cc in subst (λ (z : Arrow × Tails). SpellsArrow bytes z.0 z.1) one s
 
+-- a statement that begins with no white space begins with what begins it, without white space at both ends
+trim_front : (bytes xs : List ℕ) → front 0 bytes ≡ 0 → IsFront bytes xs → IsFront bytes (trimmed xs)
+trim_front bytes xs none f =
+    let first : trimmed xs ≡ take (body 0 xs) xs = trimmed_first bytes xs f.count none f.is in
+    let r = front_front (body 0 xs) f.count bytes in
+    record { count = r.count; is = first ∙ ap (take (body 0 xs)) f.is ∙ r.is }
+
+name_front : (here : Position) (bytes xs name : List ℕ) → front 0 bytes ≡ 0 → IsFront bytes xs → name_at here xs ≡ Ok name → IsFront bytes name
+unfolding name_at
+name_front here bytes xs name none f e =
+    subst (IsFront bytes) (unless_is _ _ (trimmed xs) name e) (trim_front bytes xs none f)
+
+take_front : (bytes xs : List ℕ) (n : ℕ) → IsFront bytes xs → IsFront bytes (take n xs)
+take_front bytes xs n f =
+    let r = front_front n f.count bytes in record { count = r.count; is = ap (take n) f.is ∙ r.is }
+
+central_front : (here : Position) (bytes xs name : List ℕ) → front 0 bytes ≡ 0 → IsFront bytes xs → central_name here xs ≡ Ok name → IsFront bytes name
+unfolding central_name
+central_front here bytes xs name none f e =
+    let b = bound (name_at here xs) _ name e in
+    subst (IsFront bytes) (unless_is _ _ b.0 name b.2) (name_front here bytes xs b.0 none f b.1)
+
+sender_front : (here : Position) (bytes xs name : List ℕ) → front 0 bytes ≡ 0 → IsFront bytes xs → sender here xs ≡ Ok name → IsFront bytes name
+unfolding sender
+sender_front here bytes xs name none f e = by (is_central (trimmed xs)) e
+  where
+    own : IsFront bytes (trimmed xs)
+    own = trim_front bytes xs none f
+
+    by : (b : Bool) → cond b (central_name here (take (length (trimmed xs) - 2) (trimmed xs))) (name_at here (trimmed xs)) ≡ Ok name → IsFront bytes name
+    by true e = central_front here bytes (take (length (trimmed xs) - 2) (trimmed xs)) name none (take_front bytes (trimmed xs) (length (trimmed xs) - 2) own) e
+    by false e = name_front here bytes (trimmed xs) name none own e
+
 module _ (cross : Option Cross) (dying : List (List ℕ)) (here : Position) (a : Arrow) (t : Tails) where
-  -- the arrow of these parts spells its receiver and its label in the last bytes of the statement
-  arrow_by_spells : (bytes : List ℕ) (head : Head) (front' rest : List ℕ) → IsEnd bytes rest → arrow_by cross dying here head front' rest ≡ Ok (a, t) → SpellsArrow bytes a t
+  -- the arrow of these parts spells its ends and its label in the statement
+  arrow_by_spells : (bytes : List ℕ) (head : Head) (front' rest : List ℕ) → IsFront bytes front' → IsEnd bytes rest → arrow_by cross dying here head front' rest ≡ Ok (a, t) → SpellsArrow bytes a t
   unfolding arrow_by no_second parted name_at
-  arrow_by_spells bytes head front' rest e is =
+  arrow_by_spells bytes head front' rest f e is =
       let right = bound (unless (not (is_leftward head)) (Unsupported here head) rest) _ (a, t) is in
       let from = bound (sender here front') _ (a, t) right.2 in
       let behind = bound (no_second here (behind_white right.0)) _ (a, t) from.2 in
@@ -181,7 +219,8 @@ module _ (cross : Option Cross) (dying : List (List ℕ)) (here : Position) (a :
       let label = shown_stands bytes parts.0.1 (subst (IsEnd bytes) second end_label) in
       let name : left_of (name_tail named parts.0.0) (length (trimmed parts.0.0)) bytes ≡ trimmed parts.0.0 = subst (λ (x : List ℕ). left_of (name_tail named x) (length (trimmed x)) bytes ≡ trimmed x) first (name_stands bytes named n end_named) in
       let receiver : left_of (name_tail named parts.0.0) (length to.0) bytes ≡ to.0 = subst (λ (x : List ℕ). left_of (name_tail named parts.0.0) (length x) bytes ≡ x) same_to name in
-      spelled bytes _ (a, t) to.2 (record { receiver = receiver; label = label })
+      let first : front 0 bytes ≡ 0 → take (length from.0) bytes ≡ from.0 = λ none. front_back bytes from.0 (sender_front here bytes front' from.0 none f from.1) in
+      spelled bytes _ (a, t) to.2 (record { sender = first; receiver = receiver; label = label })
 
   -- and so does the arrow of a statement
   pub arrow_spells : (bytes : List ℕ) → arrow_of cross dying here bytes ≡ Ok (a, t) → SpellsArrow bytes a t
@@ -191,4 +230,63 @@ module _ (cross : Option Cross) (dying : List (List ℕ)) (here : Position) (a :
       by : (at : ℕ) (o : Option Head) → arrow_with cross dying here bytes at o ≡ Ok (a, t) → SpellsArrow bytes a t
       by at None e = cc
       by at (Some head) e =
-          arrow_by_spells bytes head (take at bytes) (drop (at + length (head_text head)) bytes) (fewer bytes bytes (at + length (head_text head)) (whole_end bytes)) e
+          arrow_by_spells bytes head (take at bytes) (drop (at + length (head_text head)) bytes) (record { count = at; is = refl }) (fewer bytes bytes (at + length (head_text head)) (whole_end bytes)) e
+
+-- a line that is declared spells its name
+declares_named : (bytes name : List ℕ) (tail : ℕ) (shown : Option Shown) → left_of tail (length name) bytes ≡ name → SpellsName bytes (declares name tail shown).0 (declares name tail shown).1
+declares_named bytes name tail None h ident shown e =
+    let same : name ≡ ident = cc in subst (λ (x : List ℕ). left_of tail (length x) bytes ≡ x) same h
+declares_named bytes name tail (Some s) h ident shown e =
+    let same : name ≡ ident = cc in subst (λ (x : List ℕ). left_of tail (length x) bytes ≡ x) same h
+
+named : (bytes : List ℕ) (x y : Statement × Tails) → ◌≡◌ {A = Result (Statement × Tails) ImportFault} (Ok x) (Ok y) → SpellsName bytes x.0 x.1 → SpellsName bytes y.0 y.1
+named bytes x y same s =
+    let one : x ≡ y = cc in subst (λ (z : Statement × Tails). SpellsName bytes z.0 z.1) one s
+
+-- a name that stands there
+Named : List ℕ → ℕ → List ℕ → Type 0
+Named bytes tail ident = left_of tail (length (trimmed ident)) bytes ≡ trimmed ident
+
+name_is : (here : Position) (bytes ident name : List ℕ) (tail : ℕ) → Named bytes tail ident → name_at here ident ≡ Ok name → left_of tail (length name) bytes ≡ name
+unfolding name_at Named
+name_is here bytes ident name tail h e =
+    subst (λ (x : List ℕ). left_of tail (length x) bytes ≡ x) (unless_is _ _ (trimmed ident) name e) h
+
+module _ (here : Position) (bytes : List ℕ) (y : Statement × Tails) where
+  line_spells : (ident : List ℕ) (tail : ℕ) (shown : Option Shown) → Named bytes tail ident → line_of here ident tail shown ≡ Ok y → SpellsName bytes y.0 y.1
+  unfolding line_of
+  line_spells ident tail shown h e =
+      let b = bound (name_at here ident) _ y e in
+      named bytes (declares b.0 tail shown) y b.2 (declares_named bytes b.0 tail shown (name_is here bytes ident b.0 tail h b.1))
+
+  configured_spells : (ident : List ℕ) (tail : ℕ) (config : List ℕ) → Named bytes tail ident → configured here ident tail config ≡ Ok y → SpellsName bytes y.0 y.1
+  unfolding configured
+  configured_spells ident tail config h e =
+      let b = bound (name_at here ident) _ y e in
+      let p = bound (parted here marks.DescriptionEnd wanted.Description config) _ y b.2 in
+      let s = bound (shown_behind here (length config - length p.0.0) p.0.0 (behind_white p.0.1)) _ y p.2 in
+      named bytes (declares b.0 tail s.0) y s.2 (declares_named bytes b.0 tail s.0 (name_is here bytes ident b.0 tail h b.1))
+
+first_named : (bytes : List ℕ) (n : ℕ) → Named bytes (name_tail bytes (take n bytes)) (take n bytes)
+unfolding Named
+first_named bytes n = name_stands bytes bytes n (whole_end bytes)
+
+whole_named : (bytes : List ℕ) → Named bytes (name_tail bytes bytes) bytes
+whole_named bytes =
+    subst (λ (x : List ℕ). Named bytes (name_tail bytes x) x) (take-length bytes) (first_named bytes (length bytes))
+
+plain_spells : (here : Position) (bytes : List ℕ) (y : Statement × Tails) → plain here bytes ≡ Ok y → SpellsName bytes y.0 y.1
+unfolding plain
+plain_spells here bytes y e = by (holds bytes sought.Alias) e
+  where
+    by : (b : Bool) → cond b (line_of here (take (before sought.Alias bytes) bytes) (name_tail bytes (take (before sought.Alias bytes) bytes)) (Some (shown_text (drop 2 (behind_white (drop (before sought.Alias bytes) bytes)))))) (line_of here bytes (name_tail bytes bytes) None) ≡ Ok y → SpellsName bytes y.0 y.1
+    by true e = line_spells here bytes y _ _ _ (first_named bytes (before sought.Alias bytes)) e
+    by false e = line_spells here bytes y bytes (name_tail bytes bytes) None (whole_named bytes) e
+
+pub declared_spells : (here : Position) (bytes : List ℕ) (s : Statement) (t : Tails) → declared here bytes ≡ Ok (s, t) → SpellsName bytes s t
+unfolding declared
+declared_spells here bytes s t e = by (nat_lt (before (sought.Text marks.Config) bytes) (before sought.Alias bytes)) e
+  where
+    by : (b : Bool) → cond b (configured here (take (before (sought.Text marks.Config) bytes) bytes) (name_tail bytes (take (before (sought.Text marks.Config) bytes) bytes)) (drop 2 (drop (before (sought.Text marks.Config) bytes) bytes))) (plain here bytes) ≡ Ok (s, t) → SpellsName bytes s t
+    by true e = configured_spells here bytes (s, t) _ _ _ (first_named bytes (before (sought.Text marks.Config) bytes)) e
+    by false e = plain_spells here bytes (s, t) e

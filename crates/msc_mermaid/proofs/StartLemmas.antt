@@ -13,7 +13,7 @@ by_cond true at xs ys h k = h
 by_cond false at xs ys h k = k
 
 -- the first line begins where the text does
-head_is : (at : ℕ) (bs : List ℕ) → at ∷ drop 1 (starts_behind at false bs) ≡ starts_behind at false bs
+pub head_is : (at : ℕ) (bs : List ℕ) → at ∷ drop 1 (starts_behind at false bs) ≡ starts_behind at false bs
 unfolding starts_behind Headed
 head_is at [] = refl
 head_is at (b ∷ bs) =

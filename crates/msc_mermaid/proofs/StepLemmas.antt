@@ -1,5 +1,5 @@
 -- What a reading keeps from statement to statement it keeps from line to line.
-use Rattle.std.proofs.Common.{◌≡◌, ℕ, zero, suc, ◌+◌, ◌≤◌, Bool, true, false, cond, ◌&&◌, length, map, take, drop, sym, arith, List, [], ◌∷◌, Option, None, Some, Result, Ok, Err, refl, ap, subst, ◌∙◌}
+use Rattle.std.proofs.Common.{◌≡◌, ℕ, zero, suc, ◌+◌, ◌-◌, ◌≤◌, Bool, true, false, cond, ◌&&◌, length, map, take, drop, sym, arith, List, [], ◌∷◌, ◌++◌, Option, None, Some, Result, Ok, Err, refl, ap, subst, ◌∙◌}
 use Rattle.msc_mermaid.specs.declared.fault.ImportFault.{ImportFault}
 use Rattle.msc_mermaid.specs.declared.fault.ImportFault.TheVariants.{Entity, Expected}
 use Rattle.msc_mermaid.specs.declared.fault.Expectation.TheVariants as expectations
@@ -12,11 +12,15 @@ use Rattle.msc_mermaid.specs.declared.progress.Inside.{Inside}
 use Rattle.msc_mermaid.specs.declared.progress.Inside.TheVariants as inside
 use Rattle.msc_mermaid.specs.declared.progress.Progress.{Progress}
 use Rattle.msc_mermaid.specs.declared.reading.Spot.{Spot}
+use Rattle.msc_mermaid.specs.declared.saying.Said.{Said}
+use Rattle.msc_mermaid.specs.declared.saying.Said.TheVariants as said
 use Rattle.msc_mermaid.specs.declared.seeking.Sought.TheVariants as sought
 use Rattle.msc_mermaid.specs.declared.shape.Shape.{Shape}
 use Rattle.msc_mermaid.specs.declared.shape.Shape.TheVariants as shapes
 use Rattle.msc_mermaid.specs.declared.statement.Cross.{Cross}
 use Rattle.msc_mermaid.specs.declared.statement.Diagram.{Diagram}
+use Rattle.msc_mermaid.specs.declared.statement.Span.{Span}
+use Rattle.msc_mermaid.specs.declared.statement.Statement.{Statement}
 use Rattle.msc_place.specs.declared.position.Position.{Position}
 use Rattle.msc_mermaid.specs.Cutting.{cut, cut_by, cut_from, room, turn_at}
 use Rattle.msc_mermaid.specs.Gives.{◌>>=◌, unless}
@@ -28,7 +32,8 @@ use Rattle.msc_mermaid.specs.Seeking.{before, holds}
 use Rattle.msc_mermaid.specs.White.{behind_white, front, trimmed}
 use Rattle.msc_mermaid.specs.Mermaid.{behind_head, body, body_as, closed, commented, config_end, configured_as, described_as, end_of, ended_in, ended_on, first_line, goes_on, gone_on, head_as, is_commented, is_front, is_last, left_out, now_at, now_in, outside, piece_as, piece_by, piece_said, put_off, put_off_said, read_piece, read_pieces, said_in, said_on, shape_of, spot_behind, stated, statement, step, step_in, steps, text_within, titled, told_of, undirected, unread}
 use Rattle.msc_mermaid.specs.Parts.{Stretch, blanked, entity_place, has_entity, part_start, part_step, said_of, steps_of}
-use Rattle.msc_mermaid.specs.Reading.{Read, read_one, told, untold}
+use Rattle.msc_mermaid.specs.Outlines.{Outline, laid}
+use Rattle.msc_mermaid.specs.Reading.{Read, listed, noted, read_one, told, untold}
 
 -- what follows a value is answered where both are
 bound : {A B : Type 0} (r : Result A ImportFault) (f : A → Result B ImportFault) (y : B) → (r >>= f) ≡ Ok y → (x : A) × (r ≡ Ok x) × (f x ≡ Ok y)
@@ -45,6 +50,19 @@ drop_short zero [] = omega arith
 drop_short zero (x ∷ xs) = omega arith
 drop_short (suc k) [] = omega arith
 drop_short (suc k) (x ∷ xs) = let r = drop_short k xs in omega (arith, r)
+
+-- what holds of what was read holds behind one statement more: it says nothing, or which line ends, or it is listed
+pub noted_by : (P : Read → Type 0) (r : Read) (here : Position) (whole : Span) (q : Read) → P r → ((names : List (List ℕ)) → P (record { dying = names; arrows = r.arrows; outline = r.outline; said = r.said })) → ((s : Statement) (name tail : ℕ) (o : Outline) → laid here whole.first name s r.outline ≡ Ok o → P (listed r here whole tail s o)) → (s : Said) → noted r here whole s ≡ Ok q → P q
+unfolding noted
+noted_by P r here whole q nothing dies stated said.Nothing e = let same : r ≡ q = cc in subst P same nothing
+noted_by P r here whole q nothing dies stated (said.Dies name) e =
+    let same : record { dying = r.dying ++ name ∷ []; arrows = r.arrows; outline = r.outline; said = r.said } ≡ q = cc in
+    subst P same (dies (r.dying ++ name ∷ []))
+noted_by P r here whole q nothing dies stated (said.Statement s t) e =
+    let b = bound (laid here whole.first (whole.past - t.name) s r.outline) (λ (o : Outline). Ok (listed r here whole t.shown s o)) q e in
+    let f : ◌≡◌ {A = Result Read ImportFault} (Ok (listed r here whole t.shown s b.0)) (Ok q) = b.2 in
+    let same : listed r here whole t.shown s b.0 ≡ q = cc in
+    subst P same (stated s (whole.past - t.name) t.shown b.0 b.1)
 
 -- R n r: what was read so far is r, and n statements were read for it at most
 module _ (R : ℕ → Read → Type 0) (wider : (n k : ℕ) (r : Read) → n ≤ k → R n r → R k r) (one : (n : ℕ) (cross : Option Cross) (spot : Spot) (bytes : List ℕ) (r q : Read) → R n r → read_one cross spot bytes r ≡ Ok q → R (n + 1) q) where

@@ -173,11 +173,7 @@ fn value_shown(alloc: Global, behind: usize, bytes: &[u8]) -> Result<Shown, Allo
 
 /// The shown name that stands behind `alias` in a configuration, which so many bytes of the statement
 /// stand behind: a colon and a value.
-fn value_behind(
-    alloc: Global,
-    behind: usize,
-    bytes: &[u8],
-) -> Result<Option<Shown>, AllocError>
+fn value_behind(alloc: Global, behind: usize, bytes: &[u8]) -> Result<Option<Shown>, AllocError>
     ensures { IfOk result (λ o. o ≡ value_behind behind bytes.now) }
 {
     if !Mark::Colon.begins(bytes) {

@@ -2,14 +2,15 @@
 //!
 //! A text says statements, line by line ([`diagram_of`]); statements make a diagram, which may
 //! stand in a part of a text ([`diagram_of_parts`]). Lines and columns of a text and arrows are
-//! numbered from 1.
+//! numbered from 1, its bytes from 0: the [`Span`]s of statements, labels and names are bytes of the
+//! whole text.
 //!
 //! Where to change what: white space is in `white`; a key word or a mark in `key`, an arrow in
 //! `head`; what a statement begins with in `row`, with the patterns of `pattern`; what it says in
-//! `saying`, its names in `name`, its lines in `declaring`; which blocks it may stand in in
-//! `outline`. `cutting` cuts a line into statements; `waiting` joins the lines of one; `shape`,
-//! `progress` and `mermaid` leave out what is none: what stands in front of a diagram, directives,
-//! comments, titles and descriptions.
+//! `saying`, its names in `name`, its lines in `declaring`; which blocks it may stand in, and where
+//! its lines are named first, in `outline`; where its bytes stand in `reading`. `cutting` cuts a line
+//! into statements; `waiting` joins the lines of one; `shape`, `progress` and `mermaid` leave out what
+//! is none: what stands in front of a diagram, directives, comments, titles and descriptions.
 #![tactic(auto)]
 
 mod ahead;
