@@ -12,5 +12,7 @@ pub mod PartLemmas
 pub mod PlaceLemmas
 pub mod LawLemmas
 pub mod StepLemmas
+pub mod SpotLemmas
+pub mod BeginLemmas
 pub mod FrontLemmas
 pub mod SpellLemmas

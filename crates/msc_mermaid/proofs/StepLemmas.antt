@@ -36,12 +36,12 @@ use Rattle.msc_mermaid.specs.Outlines.{Outline, laid}
 use Rattle.msc_mermaid.specs.Reading.{Read, listed, noted, read_one, told, untold}
 
 -- what follows a value is answered where both are
-bound : {A B : Type 0} (r : Result A ImportFault) (f : A → Result B ImportFault) (y : B) → (r >>= f) ≡ Ok y → (x : A) × (r ≡ Ok x) × (f x ≡ Ok y)
+pub bound : {A B : Type 0} (r : Result A ImportFault) (f : A → Result B ImportFault) (y : B) → (r >>= f) ≡ Ok y → (x : A) × (r ≡ Ok x) × (f x ≡ Ok y)
 bound (Ok x) f y e = (x, refl, e)
 bound (Err g) f y e = cc
 
 -- by a test
-by_test : {X : Type 0} (b : Bool) → (b ≡ true → X) → (b ≡ false → X) → X
+pub by_test : {X : Type 0} (b : Bool) → (b ≡ true → X) → (b ≡ false → X) → X
 by_test true f g = f refl
 by_test false f g = g refl
 

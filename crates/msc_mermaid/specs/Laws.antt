@@ -1,14 +1,16 @@
 -- What holds of every text of a diagram.
-use Rattle.std.specs.Prelude.{◌≡◌, ℕ, ◌-◌, List, [], ◌∷◌, length, take, drop, Option, Ok}
+use Rattle.std.specs.Prelude.{◌≡◌, ℕ, ◌-◌, List, [], ◌∷◌, length, get_or, take, drop, Option, Ok}
+use Rattle.std.specs.List.{AllByRecursion}
 use Rattle.msc_mermaid.specs.declared.declaring.Tails.{Tails}
 use Rattle.msc_mermaid.specs.declared.statement.Arrow.{Arrow}
 use Rattle.msc_mermaid.specs.declared.statement.Cross.{Cross}
 use Rattle.msc_mermaid.specs.declared.statement.Diagram.{Diagram}
+use Rattle.msc_mermaid.specs.declared.statement.Placed.{Placed}
 use Rattle.msc_mermaid.specs.declared.statement.Statement.{Statement}
 use Rattle.msc_mermaid.specs.declared.statement.Statement.TheVariants.{Declares}
 use Rattle.msc_place.specs.declared.position.Position.{Position}
 use Rattle.msc_mermaid.specs.Cutting.{without_entities}
-use Rattle.msc_mermaid.specs.Lines.{lines_of, starts_of}
+use Rattle.msc_mermaid.specs.Lines.{column_behind, further, lines_of, start_on, starts_of}
 use Rattle.msc_mermaid.specs.Mermaid.{mermaid}
 use Rattle.msc_mermaid.specs.Names.{declared}
 use Rattle.msc_mermaid.specs.Saying.{arrow_of}
@@ -57,3 +59,18 @@ Stand text starts lines = ⊥
 -- each line of a text stands where it begins
 abbrev pub LinesStandWhereTheyBegin : Type 0
 LinesStandWhereTheyBegin = (text : List ℕ) → Stand text (starts_of text) (lines_of text)
+
+-- the line of a number, from 1
+abbrev pub line_on : List (List ℕ) → ℕ → List ℕ
+line_on lines n = get_or lines (n - 1) []
+
+-- the bytes of a statement begin at its place: behind as many bytes of its line as its column says
+pub record BeginsAtItsPlace (text : List ℕ) (p : Placed) : Type 0 where
+  pub at : ℕ
+  pub column : p.column ≡ column_behind (take at (line_on (lines_of text) p.line))
+  pub first : p.whole.first ≡ further (start_on (starts_of text) p.line) at
+
+-- those of each statement of a text do
+abbrev pub StatementsBeginAtTheirPlaces : Type 0
+StatementsBeginAtTheirPlaces =
+    (cross : Option Cross) (text : List ℕ) (d : Diagram) → HasDiagram cross text d → AllByRecursion (BeginsAtItsPlace text) d.statements

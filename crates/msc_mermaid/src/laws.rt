@@ -3,6 +3,7 @@
 
 ghost use Rattle.msc_mermaid.specs.Laws.{ArrowsSpellTheirTexts, LinesSpellTheirNames};
 ghost use Rattle.msc_mermaid.specs.Laws.{LinesStandWhereTheyBegin, OneDiagram};
+ghost use Rattle.msc_mermaid.specs.Laws.{StatementsBeginAtTheirPlaces};
 
 /// A text has one diagram.
 pub fn one_diagram()
@@ -21,4 +22,10 @@ pub fn statements_spell_their_texts()
 /// lines of one byte or two.
 pub fn lines_stand_where_they_begin()
     ensures { LinesStandWhereTheyBegin }
+{}
+
+/// The bytes of a statement of a text begin at its place: its line stands in the text where it begins,
+/// and as many bytes of it stand before the statement as its column says.
+pub fn statements_begin_at_their_places()
+    ensures { StatementsBeginAtTheirPlaces }
 {}
