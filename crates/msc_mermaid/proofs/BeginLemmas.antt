@@ -1,11 +1,10 @@
 -- The bytes of each statement of a text begin at its place.
-use Rattle.std.proofs.Common.{◌≡◌, ℕ, zero, suc, ◌+◌, ◌-◌, Bool, true, false, cond, nat_lt, length, get_or, take, sym, arith, List, [], ◌∷◌, ◌++◌, Option, None, Some, Result, Ok, Err, refl, ap, subst, ◌∙◌, append_assoc, length-append}
+use Rattle.std.proofs.Common.{◌≡◌, ℕ, ◌+◌, ◌-◌, Bool, true, false, cond, nat_lt, length, get_or, take, sym, arith, List, [], ◌∷◌, ◌++◌, Option, Result, Ok, Err, refl, ap, subst, ◌∙◌, append_assoc, length-append}
 use Rattle.std.specs.List.{AllByRecursion}
 use Rattle.msc_lexer.specs.declared.TheConstants.{TEXT_LIMIT}
 use Rattle.msc_mermaid.specs.declared.fault.ImportFault.{ImportFault}
 use Rattle.msc_mermaid.specs.declared.fault.ImportFault.TheVariants.{Expected, TooLong}
 use Rattle.msc_mermaid.specs.declared.fault.Expectation.TheVariants as expectations
-use Rattle.msc_mermaid.specs.declared.outline.Opened.{Opened}
 use Rattle.msc_mermaid.specs.declared.progress.Inside.{Inside}
 use Rattle.msc_mermaid.specs.declared.progress.Inside.TheVariants as inside
 use Rattle.msc_mermaid.specs.declared.progress.Progress.{Progress}
@@ -14,14 +13,12 @@ use Rattle.msc_mermaid.specs.declared.statement.Cross.{Cross}
 use Rattle.msc_mermaid.specs.declared.statement.Diagram.{Diagram}
 use Rattle.msc_mermaid.specs.declared.statement.Placed.{Placed}
 use Rattle.msc_mermaid.specs.declared.statement.Span.{Span}
-use Rattle.msc_mermaid.specs.declared.statement.Statement.{Statement}
 use Rattle.msc_place.specs.declared.position.Position.{Position}
-use Rattle.msc_mermaid.specs.Gives.{◌>>=◌}
 use Rattle.msc_mermaid.specs.Laws.{BeginsAtItsPlace, line_on}
 use Rattle.msc_mermaid.specs.Lines.{column_behind, further, lines_of, start_on, starts_of}
 use Rattle.msc_mermaid.specs.Mermaid.{end_of, ended_in, mermaid, said_in, steps, told_of, unread}
-use Rattle.msc_mermaid.specs.Outlines.{Outline, closed_by, finished, innermost, span_of}
-use Rattle.msc_mermaid.specs.Reading.{Read, listed, noted, read_one, told}
+use Rattle.msc_mermaid.specs.Outlines.{finished, span_of}
+use Rattle.msc_mermaid.specs.Reading.{Read, noted, read_one, told}
 use Rattle.msc_mermaid.specs.Saying.{said_at}
 use Rattle.msc_mermaid.proofs.SpotLemmas.{Lined, steps_fine}
 use Rattle.msc_mermaid.proofs.StepLemmas.{bound, noted_by}

@@ -1,6 +1,6 @@
 -- What begins with no white space has none in front of its first bytes.
-use Rattle.std.proofs.Common.{◌≡◌, ℕ, zero, suc, ◌+◌, ◌-◌, Bool, true, false, cond, ◌||◌, ◌&&◌, ◌==◌, List, [], ◌∷◌, get_or, take, drop, refl, sym, ap, ◌∙◌, subst, arith}
-use Rattle.msc_mermaid.specs.White.{ahead, body, front, is_one, is_three, is_two, trimmed, white, width}
+use Rattle.std.proofs.Common.{◌≡◌, ℕ, zero, suc, ◌+◌, ◌-◌, Bool, true, false, cond, ◌&&◌, ◌==◌, List, [], ◌∷◌, get_or, take, drop, refl, ap, ◌∙◌, arith}
+use Rattle.msc_mermaid.specs.White.{body, front, is_one, is_three, is_two, trimmed, white, width}
 
 and_none : (b : Bool) → (b && false) ≡ false
 and_none true = refl

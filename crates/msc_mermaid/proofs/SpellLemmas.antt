@@ -1,32 +1,25 @@
 -- What a statement names and shows stands in it where so many of its bytes are left.
 use Rattle.std.proofs.Math.Seq.{take-length}
-use Rattle.std.proofs.Common.{◌≡◌, ◌≤◌, ℕ, zero, suc, ◌+◌, ◌-◌, Bool, true, false, cond, not, ◌&&◌, List, [], ◌∷◌, length, nat_lt, take, drop, Option, None, Some, Result, Ok, Err, refl, sym, ap, ◌∙◌, subst, arith, length-drop}
-use Rattle.std.specs.Prelude.{option_and_then, is_some}
-use Rattle.std.specs.List.{prefix_len}
-use Rattle.std.specs.Char.{is_ascii_digit}
+use Rattle.std.proofs.Common.{◌≡◌, ◌≤◌, ℕ, zero, suc, ◌+◌, ◌-◌, Bool, true, false, cond, not, List, [], ◌∷◌, length, nat_lt, take, drop, Option, None, Some, Result, Ok, Err, refl, sym, ap, ◌∙◌, subst, arith, length-drop}
 use Rattle.msc_lexer.specs.Bytes.{begins}
 use Rattle.msc_mermaid.specs.declared.declaring.Tails.{Tails}
-use Rattle.msc_mermaid.specs.declared.fault.Expectation.{Expectation}
 use Rattle.msc_mermaid.specs.declared.fault.Expectation.TheVariants as wanted
 use Rattle.msc_mermaid.specs.declared.fault.ImportFault.{ImportFault}
-use Rattle.msc_mermaid.specs.declared.fault.ImportFault.TheVariants.{Expected, Unsupported}
+use Rattle.msc_mermaid.specs.declared.fault.ImportFault.TheVariants.{Unsupported}
 use Rattle.msc_mermaid.specs.declared.head.Head.{Head}
-use Rattle.msc_mermaid.specs.declared.key.Mark.{Mark}
 use Rattle.msc_mermaid.specs.declared.key.Mark.TheVariants as marks
 use Rattle.msc_mermaid.specs.declared.seeking.Sought.TheVariants as sought
 use Rattle.msc_mermaid.specs.declared.statement.Arrow.{Arrow}
 use Rattle.msc_mermaid.specs.declared.statement.Cross.{Cross}
 use Rattle.msc_mermaid.specs.declared.statement.Statement.{Statement}
-use Rattle.msc_mermaid.specs.declared.statement.Statement.TheVariants.{Declares}
 use Rattle.msc_mermaid.specs.declared.declaring.Shown.{Shown}
 use Rattle.msc_place.specs.declared.position.Position.{Position}
 use Rattle.msc_mermaid.specs.Cutting.{bare_from, bare_step, without_entities}
 use Rattle.msc_mermaid.specs.Gives.{◌>>=◌, unless}
 use Rattle.msc_mermaid.specs.Keys.{begin_so, head_of, head_text, is_leftward, mark_text}
 use Rattle.msc_mermaid.specs.Laws.{SpellsArrow, SpellsName, left_of}
-use Rattle.msc_mermaid.specs.Names.{behind_colon, central_name, configured, declared, declares, from_shown, is_central, is_name, line_of, name_at, name_tail, parted, plain, sender, sender_of, shown_behind, shown_text, unwrapped}
+use Rattle.msc_mermaid.specs.Names.{behind_colon, central_name, configured, declared, declares, from_shown, is_central, line_of, name_at, name_tail, parted, plain, sender, shown_behind, shown_text, unwrapped}
 use Rattle.msc_mermaid.proofs.FrontLemmas.{trimmed_first}
-use Rattle.msc_mermaid.specs.Rows.{is_dash}
 use Rattle.msc_mermaid.specs.Saying.{arrow_by, arrow_of, arrow_with, behind_sign, is_sign, no_second}
 use Rattle.msc_mermaid.specs.Seeking.{before, holds}
 use Rattle.msc_mermaid.specs.White.{before_white, behind_white, body, front, trimmed}

@@ -1,5 +1,5 @@
 -- Where statements begin: what holds of each place at which one may begin holds of those that are read.
-use Rattle.std.proofs.Common.{◌≡◌, ℕ, zero, suc, ◌+◌, ◌-◌, Bool, true, false, cond, ◌&&◌, length, take, drop, sym, arith, List, [], ◌∷◌, ◌++◌, Option, None, Some, Result, Ok, Err, refl, ap, subst, ◌∙◌}
+use Rattle.std.proofs.Common.{◌≡◌, ℕ, ◌+◌, Bool, true, false, cond, ◌&&◌, length, take, drop, sym, List, [], ◌∷◌, Option, None, Some, Result, Ok, refl, subst}
 use Rattle.msc_mermaid.specs.declared.fault.ImportFault.{ImportFault}
 use Rattle.msc_mermaid.specs.declared.key.Mark.{Mark}
 use Rattle.msc_mermaid.specs.declared.key.Mark.TheVariants as marks
@@ -14,7 +14,7 @@ use Rattle.msc_mermaid.specs.declared.shape.Shape.TheVariants as shapes
 use Rattle.msc_mermaid.specs.declared.statement.Cross.{Cross}
 use Rattle.msc_place.specs.declared.position.Position.{Position}
 use Rattle.msc_mermaid.specs.Cutting.{cut}
-use Rattle.msc_mermaid.specs.Gives.{◌>>=◌, unless}
+use Rattle.msc_mermaid.specs.Gives.{unless}
 use Rattle.msc_mermaid.specs.Keys.{begin_so, mark_text}
 use Rattle.msc_mermaid.specs.Lines.{start_on}
 use Rattle.msc_mermaid.specs.Patterns.{first_fit, is_empty}
@@ -23,7 +23,7 @@ use Rattle.msc_mermaid.specs.Seeking.{before, holds}
 use Rattle.msc_mermaid.specs.White.{behind_white, front, trimmed}
 use Rattle.msc_mermaid.specs.Mermaid.{behind_head, body, body_as, closed, commented, config_end, configured_as, described_as, ended_on, first_line, goes_on, gone_on, head_as, is_commented, is_front, is_last, left_out, now_at, now_in, outside, piece_as, piece_by, piece_said, put_off, put_off_said, read_piece, read_pieces, said_on, shape_of, spot_behind, stated, statement, step, step_in, steps, text_within, titled, undirected}
 use Rattle.msc_mermaid.specs.Reading.{Read, read_one}
-use Rattle.msc_mermaid.proofs.StepLemmas.{bound, by_test}
+use Rattle.msc_mermaid.proofs.StepLemmas.{bound}
 
 module _ (R : Read → Type 0) (S : Spot → Type 0) (one : (cross : Option Cross) (spot : Spot) (bytes : List ℕ) (r q : Read) → S spot → R r → read_one cross spot bytes r ≡ Ok q → R q) where
   -- a statement that waits for further lines has begun at such a place

@@ -1,9 +1,9 @@
 -- Lines stand in their text where they begin.
-use Rattle.std.proofs.Common.{◌≡◌, ℕ, zero, suc, ◌+◌, ◌-◌, min, Bool, true, false, cond, nat_eq, List, [], ◌∷◌, ◌++◌, length, take, drop, refl, sym, ap, ◌∙◌, subst, arith, append_assoc, length-drop, length-append}
+use Rattle.std.proofs.Common.{◌≡◌, ℕ, suc, ◌+◌, ◌-◌, Bool, true, false, cond, nat_eq, List, [], ◌∷◌, ◌++◌, length, take, drop, refl, sym, ap, ◌∙◌, subst, arith, append_assoc, length-drop, length-append}
 use Rattle.std.specs.List.{starts_with}
 use Rattle.std.proofs.lemmas.List.{length-take, take-append-drop}
 use Rattle.msc_mermaid.specs.Laws.{Stand}
-use Rattle.msc_mermaid.specs.Lines.{behind_mark, led_by, lines_behind, lines_of, starts_behind, starts_of}
+use Rattle.msc_mermaid.specs.Lines.{led_by, lines_behind, lines_of, starts_behind, starts_of}
 use Rattle.msc_mermaid.proofs.StartLemmas.{head_is}
 
 -- a line that is empty, and others

@@ -1,4 +1,4 @@
-use Rattle.std.proofs.Common.{◌≡◌, ◌⊎◌, false, ◌++◌, ◌∷◌, [], get_or, ◌∙◌, inl, inr}
+use Rattle.std.proofs.Common.{◌≡◌, ◌⊎◌, false, get_or, ◌∙◌, inl, inr}
 use Rattle.std.proofs.lemmas.Bool.{ne_eqb}
 use Rattle.msc_mermaid.proofs.StartLemmas.{started_none, started_on, started_past, started_end, started_all}
 use Rattle.msc_mermaid.proofs.lines.starts_behind.Goals as goal
