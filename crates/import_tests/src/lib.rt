@@ -5,3 +5,5 @@
 mod imports;
 #[cfg(test)]
 mod markdown;
+#[cfg(test)]
+mod sites;

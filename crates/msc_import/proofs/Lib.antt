@@ -1,5 +1,6 @@
 pub mod PlanLemmas
 pub mod DraftLemmas
+pub mod SiteLemmas
 pub mod NamedLemmas
 pub mod OrderLemmas
 pub mod TogetherLemmas

@@ -23,7 +23,7 @@ use Rattle.msc_mermaid.specs.White.{trimmed}
 use Rattle.msc_mermaid.specs.Mermaid.{end_of, first_line_place, is_head, mermaid}
 use Rattle.msc_place.specs.declared.position.Position.{Position}
 use Rattle.msc_scenarios.specs.Naming.{names_behind}
-use Rattle.msc_import.specs.Places.{places}
+use Rattle.msc_import.specs.Places.{event_sites, places, sites_of}
 
 -- a line of the text begins with the word that a Mermaid diagram begins with
 abbrev pub begins_diagram : List ℕ → Bool
@@ -95,12 +95,13 @@ wanted x = record {
   name = x.name.now;
 }
 
--- the draft of a diagram's scenario with these choices, and the places of its events
+-- the draft of a diagram's scenario with these choices, the places of its events, and what of the text people read
 unfoldable pub drawn_at : Manner → List ℕ → Diagram → List ℕ → Result Imported ImportFault
 drawn_at manner name d given = do
   draft ← drawn manner name d given
   at ← places manner d given
-  Ok (record { draft = draft; places = at })
+  events ← event_sites manner d given
+  Ok (record { draft = draft; places = at; sites = sites_of d events })
 
 -- those of the scenario that is asked for
 unfoldable pub scenario_of : Wanted → Diagram → Result Imported ImportFault

@@ -43,7 +43,7 @@ wanted_all x = record {
 
 -- a scenario: its choices, its draft and the places of its events
 abbrev pub with_choices : List ℕ → Imported → Scenario
-with_choices given x = record { choices = given; draft = x.draft; places = x.places }
+with_choices given x = record { choices = given; draft = x.draft; places = x.places; sites = x.sites }
 
 -- the scenario with these choices
 unfoldable pub scenario_with : Manner → List ℕ → Diagram → List ℕ → Result Scenario ImportFault

@@ -19,6 +19,7 @@ use crate::drawing::drawn_walk;
 use crate::placing::walk_places;
 use crate::plan::Manner;
 use crate::short_name::ShortName;
+use crate::siting::{Sites, sites_of, walk_sites};
 use listed::Listed;
 use msc_lexer::TEXT_LIMIT;
 use msc_markdown::Markdown;
@@ -56,11 +57,13 @@ pub struct Importing<'a> {
     pub name: &'a [u8],
 }
 
-/// What was imported: a draft, and where in the text the arrows of its events begin, in their order.
+/// What was imported: a draft; where in the text the arrows of its events begin, in their order; and
+/// where stands what people read of its lines and events.
 #[derive(Drop)]
 pub struct Imported {
     pub draft: Draft,
     pub places: Listed<Position>,
+    pub sites: Sites,
 }
 
 /// Why nothing was imported: the first fault, and the name of the line of the diagram or the entity
@@ -162,9 +165,9 @@ fn chosen<'a>(
     Ok(&[])
 }
 
-/// The draft of a diagram's scenario with these choices, and the places of its events, by one walk
-/// through the diagram.
-#[tactic(auto, unfolding(crate::specs::Importing::drawn_at, crate::specs::Drafting::drawn, crate::specs::Places::places,))]
+/// The draft of a diagram's scenario with these choices, the places of its events, and what of the text
+/// people read, by one walk through the diagram.
+#[tactic(auto, unfolding(crate::specs::Importing::drawn_at, crate::specs::Drafting::drawn, crate::specs::Places::places, crate::specs::Places::event_sites))]
 pub(crate) fn drawn_at(
     alloc: Global,
     manner: Manner,
@@ -178,9 +181,12 @@ pub(crate) fn drawn_at(
     let walker = Walker::through(alloc, diagram, given)?;
     let draft = drawn_walk(alloc, manner, name, diagram.statements.as_slice(), &walker)?;
     let found = walk_places(alloc, manner, &walker)?;
+    let events = walk_sites(alloc, manner, &walker)?;
+    let sites = sites_of(alloc, diagram, events)?;
     Ok(Imported {
         draft,
         places: Listed::from_vec(found),
+        sites,
     })
 }
 

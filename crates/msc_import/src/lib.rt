@@ -13,6 +13,7 @@ pub mod laws;
 mod placing;
 mod plan;
 mod short_name;
+mod siting;
 mod whole;
 
 pub use drawing::{chart_name, draw};
@@ -20,6 +21,7 @@ pub use importing::{Imported, Importing, Language, Refused, import, import_from}
 pub use placing::places;
 pub use plan::{Manner, Own, Par};
 pub use short_name::ShortName;
+pub use siting::{EventSite, Sites};
 pub use whole::{ImportingAll, Scenario, Scenarios, import_all, import_all_from};
 
 /// The numbers of rounds that loops go, where scenarios are counted: of other numbers there are no

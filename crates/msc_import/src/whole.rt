@@ -11,6 +11,7 @@ ghost use Rattle.msc_import.specs.Whole.{scenario_with, scenarios_on, wanted_all
 use crate::drawing::chart_name;
 use crate::importing::{Language, Refused, diagram_from, drawn_at, unnamed, unread, with_name};
 use crate::plan::Manner;
+use crate::siting::Sites;
 use listed::Listed;
 use msc_markdown::Markdown;
 use msc_mermaid::{Cross, Diagram, ImportFault};
@@ -37,13 +38,15 @@ pub struct ImportingAll<'a> {
     pub name: &'a [u8],
 }
 
-/// A scenario: the choices of its blocks in the order in which they are met, its draft, and where
-/// in the text the arrows of its events begin, in their order.
+/// A scenario: the choices of its blocks in the order in which they are met, its draft, where in the
+/// text the arrows of its events begin, in their order, and where stands what people read of its lines
+/// and events.
 #[derive(Drop)]
 pub struct Scenario {
     pub choices: Listed<usize>,
     pub draft: Draft,
     pub places: Listed<Position>,
+    pub sites: Sites,
 }
 
 /// All scenarios of a diagram, in the order of their choices, and the name of the charts.
@@ -71,6 +74,7 @@ fn scenario_with(
         choices: Listed::from_vec(choices),
         draft: imported.draft,
         places: imported.places,
+        sites: imported.sites,
     })
 }
 

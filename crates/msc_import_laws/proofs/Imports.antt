@@ -23,7 +23,8 @@ use Rattle.msc_mermaid.specs.declared.statement.Cross.{Cross}
 use Rattle.msc_mermaid.specs.Gives.{◌>>=◌}
 use Rattle.msc_markdown.specs.Markdowns.{Found, markdown}
 use Rattle.msc_import.specs.Importing.{Refusal, Wanted, answered, chosen, diagram_from, diagram_in, drawn_at, found_as, imported, imported_from, scenario_of, told_of}
-use Rattle.msc_import.specs.Places.{places}
+use Rattle.msc_import.specs.declared.siting.EventSite.{EventSite}
+use Rattle.msc_import.specs.Places.{event_sites, places, sites_of}
 use Rattle.msc_place.specs.declared.position.Position.{Position}
 use Rattle.msc_scenarios.specs.Laws.{walked}
 use Rattle.msc_scenarios.specs.Naming.{names_behind}
@@ -63,9 +64,11 @@ drawn_with : (manner : Manner) (name : List ℕ) (d : Diagram) (given : List ℕ
 unfolding drawn_at
 drawn_with manner name d given is e =
     let a = bound (drawn manner name d given) _ is e in
-    let made : List Position → Result Imported ImportFault = λ at. Ok (record { draft = a.0; places = at }) in
+    let sited : List Position → List EventSite → Result Imported ImportFault = λ at events. Ok (record { draft = a.0; places = at; sites = sites_of d events }) in
+    let made : List Position → Result Imported ImportFault = λ at. event_sites manner d given >>= sited at in
     let b = bound (places manner d given) made is a.2 in
-    let f : ◌≡◌ {A = Result Imported ImportFault} (Ok (record { draft = a.0; places = b.0 })) (Ok is) = b.2 in
+    let k = bound (event_sites manner d given) (sited b.0) is b.2 in
+    let f : ◌≡◌ {A = Result Imported ImportFault} (Ok (record { draft = a.0; places = b.0; sites = sites_of d k.0 })) (Ok is) = k.2 in
     let same : a.0 ≡ is.draft = cc in
     a.1 ∙ ap Ok same
 

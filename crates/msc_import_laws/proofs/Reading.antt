@@ -15,21 +15,19 @@ use Rattle.msc_mermaid.specs.declared.statement.Arrow.{Arrow}
 use Rattle.msc_mermaid.specs.declared.statement.Cross.{Cross}
 use Rattle.msc_mermaid.specs.declared.statement.Diagram.{Diagram}
 use Rattle.msc_mermaid.specs.declared.statement.Placed.{Placed}
+use Rattle.msc_mermaid.specs.declared.statement.Span.{Span}
 use Rattle.msc_mermaid.specs.declared.statement.Statement.{Statement}
 use Rattle.msc_mermaid.specs.declared.statement.Statement.TheVariants.{Declares, Says, Begins, Closes}
 use Rattle.msc_mermaid.specs.Gives.{◌>>=◌, unless}
-use Rattle.msc_mermaid.specs.Outlines.{Outline, closed_by, finished, innermost, is_known, laid, meets, met, with_lines}
+use Rattle.msc_mermaid.specs.Outlines.{Outline, closed_by, finished, innermost, is_known, laid, meets, met, span_of, with_lines}
 use Rattle.msc_mermaid.specs.Saying.{said_at}
-use Rattle.msc_mermaid.specs.Reading.{Read, untold, is_arrow, listed, noted, read_one, told}
+use Rattle.msc_mermaid.proofs.StepLemmas.{noted_by}
+use Rattle.msc_mermaid.specs.Reading.{Read, untold, is_arrow, listed, noted, read_one, shown_span, told}
 use Rattle.msc_place.specs.declared.position.Position.{Position}
 use Rattle.msc_import_laws.specs.Lines.{StandsOnce}
 use Rattle.msc_import_laws.specs.Outlined.{AreDistinct, Differ, IsOutlined}
 use Rattle.msc_import_laws.proofs.Drafts.{bound, unless_is}
 use Rattle.msc_import_laws.proofs.Stands.{first_joined, joined_at, second_joined}
-
--- where a statement begins
-abbrev start : ℕ → ℕ → Position
-start line column = record { line = line; column = column }
 
 -- lines behind others, with these among them
 record Laid (before : List (List ℕ)) (after : List (List ℕ)) : Type 0 where
@@ -83,11 +81,11 @@ line_met line ident ls after e =
     let none = λ (i : ℕ) (h : StandsAt ls i ident). clash (place-any (λ n. bytes_eq n ident) ls i ident h ((bytes_eq-Decides ident ident).1 refl)) new in
     (subst (Laid ls) r.1 (record { few = λ h. omega (arith, room, l); once = λ h. once_more ls ident h none; keeps = λ x o. first_joined ls (ident ∷ []) x o }), subst (λ l. Occurs l ident) r.1 (second_joined ls (ident ∷ []) ident (0, refl))))
 
-line_meets : (line : Position) (ident : List ℕ) (o after : Outline) → meets line ident o ≡ Ok after → Laid o.lines after.lines × Occurs after.lines ident
+line_meets : (line : Position) (ident : List ℕ) (first : ℕ) (o after : Outline) → meets line ident first o ≡ Ok after → Laid o.lines after.lines × Occurs after.lines ident
 unfolding meets
-line_meets line ident o after e =
-    let b = bound (met line ident o.lines) (λ ls. Ok (with_lines o ls)) after e in
-    let same : with_lines o b.0 ≡ after = let f : Ok (with_lines o b.0) ≡ Ok after = b.2 in cc in
+line_meets line ident first o after e =
+    let b = bound (met line ident o.lines) (λ ls. Ok (with_lines o ident first ls)) after e in
+    let same : with_lines o ident first b.0 ≡ after = let f : Ok (with_lines o ident first b.0) ≡ Ok after = b.2 in cc in
     let lines : b.0 ≡ after.lines = ap (λ (x : Outline). x.lines) same in
     let r = line_met line ident o.lines b.0 b.1 in
     (subst (Laid o.lines) lines r.0, subst (λ l. Occurs l ident) lines r.1)
@@ -96,20 +94,20 @@ line_meets line ident o after e =
 abbrev HasEnds : List (List ℕ) → Statement → Type 0
 HasEnds ls s = (a : Arrow) → s ≡ Says a → Occurs ls a.from × Occurs ls a.to
 
-all_laid : (line : Position) (s : Statement) (o after : Outline) → laid line s o ≡ Ok after → Laid o.lines after.lines × HasEnds after.lines s
+all_laid : (line : Position) (first name : ℕ) (s : Statement) (o after : Outline) → laid line first name s o ≡ Ok after → Laid o.lines after.lines × HasEnds after.lines s
 unfolding laid
-all_laid line (Declares ident shown) o after e = ((line_meets line ident o after e).0, λ a is. cc)
-all_laid line (Says arrow) o after e =
-    let b = bound (meets line arrow.from o) (λ first. meets line arrow.to first) after e in
-    let first = line_meets line arrow.from o b.0 b.1 in
-    let second = line_meets line arrow.to b.0 after b.2 in (
-      both_laid o.lines b.0.lines after.lines first.0 second.0,
-      λ a is. let same : arrow ≡ a = cc in (subst (λ (x : Arrow). Occurs after.lines x.from) same (second.0.keeps arrow.from first.1), subst (λ (x : Arrow). Occurs after.lines x.to) same second.1),
+all_laid line first name (Declares ident shown) o after e = ((line_meets line ident name o after e).0, λ a is. cc)
+all_laid line first name (Says arrow) o after e =
+    let b = bound (meets line arrow.from first o) (λ sent. meets line arrow.to name sent) after e in
+    let sender = line_meets line arrow.from first o b.0 b.1 in
+    let receiver = line_meets line arrow.to name b.0 after b.2 in (
+      both_laid o.lines b.0.lines after.lines sender.0 receiver.0,
+      λ a is. let same : arrow ≡ a = cc in (subst (λ (x : Arrow). Occurs after.lines x.from) same (receiver.0.keeps arrow.from sender.1), subst (λ (x : Arrow). Occurs after.lines x.to) same receiver.1),
     )
-all_laid line (Begins kind) o after e =
+all_laid line first name (Begins kind) o after e =
     let r = unless_is _ (TooDeep line) _ after e in
     (subst (Laid o.lines) (ap (λ (x : Outline). x.lines) r.1) (same_laid o.lines), λ a is. cc)
-all_laid line (Closes closer) o after e =
+all_laid line first name (Closes closer) o after e =
     let r = unless_is _ (Outside line closer) _ after e in
     (subst (Laid o.lines) (ap (λ (x : Outline). x.lines) r.1) (same_laid o.lines), λ a is. cc)
 
@@ -138,9 +136,9 @@ one_distinct (p ∷ ps) q h d = (
     only x (zero, k) = cc
     only x (suc j, k) = cc
 
-module _ (n : ℕ) (r : Read) (read : IsRead n r) (line column : ℕ) (s : Statement) (o : Outline) (e : laid (start line column) s r.outline ≡ Ok o) where
+module _ (n : ℕ) (r : Read) (read : IsRead n r) (here : Position) (whole : Span) (name tail : ℕ) (s : Statement) (o : Outline) (e : laid here whole.first name s r.outline ≡ Ok o) where
   next : Placed
-  next = record { line = line; column = column; number = r.arrows + 1; statement = s }
+  next = record { line = here.line; column = here.column; number = r.arrows + 1; statement = s; whole = whole; shown = shown_span whole tail s }
 
   only : (p : Placed) → Occurs (next ∷ []) p → next ≡ p
   only p (zero, k) = cc
@@ -153,10 +151,10 @@ module _ (n : ℕ) (r : Read) (read : IsRead n r) (line column : ℕ) (s : State
       no_arrow : (a : Arrow) → s ≡ Says a → ⊥
       no_arrow a k = let t : is_arrow s ≡ true = ap is_arrow k in let f : true ≡ false = sym t ∙ is in cc
 
-  listed_read : IsRead (n + 1) (listed r line column s o)
+  listed_read : IsRead (n + 1) (listed r here whole tail s o)
   unfolding next
   listed_read =
-      let l = all_laid (start line column) s r.outline o e in
+      let l = all_laid here whole.first name s r.outline o e in
       let m = more (is_arrow s) refl in
       record {
         few_lines = l.0.few read.few_lines;
@@ -190,32 +188,20 @@ read_same n k r q le a b c read = record {
 }
 
 -- a statement is noted, or nothing is
-module _ (n : ℕ) (r : Read) (read : IsRead n r) (line column : ℕ) (q : Read) where
-  nothing_noted : ◌≡◌ {A = Result Read ImportFault} (Ok r) (Ok q) → IsRead (n + 1) q
-  nothing_noted e = let same : r ≡ q = cc in subst (IsRead (n + 1)) same (read_same n (n + 1) r r (omega arith) refl refl refl read)
-
-  dies_noted : (names : List (List ℕ)) → ◌≡◌ {A = Result Read ImportFault} (Ok (record { dying = names; arrows = r.arrows; outline = r.outline; said = r.said })) (Ok q) → IsRead (n + 1) q
-  dies_noted names e =
-      let now : Read = record { dying = names; arrows = r.arrows; outline = r.outline; said = r.said } in
-      let same : now ≡ q = cc in
-      subst (IsRead (n + 1)) same (read_same n (n + 1) r now (omega arith) refl refl refl read)
-
-  statement_noted : (s : Statement) → (laid (start line column) s r.outline >>= (λ o. Ok (listed r line column s o))) ≡ Ok q → IsRead (n + 1) q
-  statement_noted s e =
-      let b = bound (laid (start line column) s r.outline) (λ o. Ok (listed r line column s o)) q e in
-      let same : listed r line column s b.0 ≡ q = let f : Ok (listed r line column s b.0) ≡ Ok q = b.2 in cc in
-      subst (IsRead (n + 1)) same (listed_read n r read line column s b.0 b.1)
-
-  all_noted : (s : _) → noted r line column s ≡ Ok q → IsRead (n + 1) q
-  unfolding noted
-  all_noted s e = grind (arith, nothing_noted, dies_noted, statement_noted)
+module _ (n : ℕ) (r : Read) (read : IsRead n r) (here : Position) (whole : Span) (q : Read) where
+  all_noted : (s : _) → noted r here whole s ≡ Ok q → IsRead (n + 1) q
+  all_noted s e =
+      noted_by (IsRead (n + 1)) r here whole q (read_same n (n + 1) r r (omega arith) refl refl refl read)
+      (λ names. read_same n (n + 1) r (record { dying = names; arrows = r.arrows; outline = r.outline; said = r.said }) (omega arith) refl refl refl read)
+      (λ t name tail o laid'. listed_read n r read here whole name tail t o laid') s e
 
 -- one statement
-pub one_read : (n : ℕ) (cross : Option Cross) (line column : ℕ) (bytes : List ℕ) (r q : Read) → IsRead n r → read_one cross line column bytes r ≡ Ok q → IsRead (n + 1) q
+pub one_read : (n : ℕ) (cross : Option Cross) (spot : _) (bytes : List ℕ) (r q : Read) → IsRead n r → read_one cross spot bytes r ≡ Ok q → IsRead (n + 1) q
 unfolding read_one
-one_read n cross line column bytes r q read e =
-    let b = bound (said_at cross r.dying (start line column) bytes) (noted r line column) q e in
-    all_noted n r read line column q b.0 b.2
+one_read n cross spot bytes r q read e =
+    let whole = span_of spot.first (length bytes) in
+    let b = bound (said_at cross r.dying spot.here bytes) (noted r spot.here whole) q e in
+    all_noted n r read spot.here whole q b.0 b.2
 
 pub drop_short : {X : Type 0} (k : ℕ) (xs : List X) → length (drop k xs) ≤ length xs
 drop_short zero [] = omega arith
@@ -224,7 +210,7 @@ drop_short (suc k) [] = omega arith
 drop_short (suc k) (x ∷ xs) = let r = drop_short k xs in omega (arith, r)
 
 -- a diagram is what was read, where all blocks have ended
-closed_is : (lines after : List (List ℕ)) (x : Option _) → closed_by lines x ≡ Ok after → lines ≡ after
+closed_is : {A : Type 0} (lines after : A) (x : Option _) → closed_by lines x ≡ Ok after → lines ≡ after
 closed_is lines after None e = cc
 closed_is lines after (Some b) e = cc
 
@@ -232,10 +218,10 @@ pub told_is : (r : Read) (d : Diagram) → told r ≡ Ok d → (r.outline.lines 
 unfolding told finished
 told_is r d e =
     let b = bound (finished r.outline) _ d e in
-    let lines = closed_is r.outline.lines b.0 (innermost r.outline.opened) b.1 in
-    let f : ◌≡◌ {A = Result Diagram ImportFault} (Ok (record { lines = b.0; statements = r.said })) (Ok d) = b.2 in
-    let same : record { lines = b.0; statements = r.said } ≡ d = cc in
-    (lines ∙ ap (λ (x : Diagram). x.lines) same, ap (λ (x : Diagram). x.statements) same)
+    let found = closed_is (r.outline.lines, r.outline.names) b.0 (innermost r.outline.opened) b.1 in
+    let f : ◌≡◌ {A = Result Diagram ImportFault} (Ok (record { lines = b.0.0; names = b.0.1; statements = r.said })) (Ok d) = b.2 in
+    let same : record { lines = b.0.0; names = b.0.1; statements = r.said } ≡ d = cc in
+    (ap (λ (x : List (List ℕ) × List Span). x.0) found ∙ ap (λ (x : Diagram). x.lines) same, ap (λ (x : Diagram). x.statements) same)
 
 -- nothing is read yet
 pub none_read : IsRead 0 untold

@@ -16,7 +16,7 @@ use Rattle.msc_markdown.specs.declared.markdown.Start.{Start}
 use Rattle.msc_markdown.specs.Markdowns.{Found, block_diagram, diagram_of_block, first_diagram, found_in, is_block, is_markup, is_none, markdown, own_parts, said_by}
 use Rattle.msc_markdown.proofs.RoomLemmas.{own_room, parts_room}
 use Rattle.msc_import.specs.Importing.{begins_at, begins_diagram, diagram_by, diagram_from, diagram_in, is_any, only_diagram, told_by_content}
-use Rattle.msc_mermaid.specs.Lines.{behind_mark, led_by, lines_behind, lines_of}
+use Rattle.msc_mermaid.specs.Lines.{behind_mark, led_by, lines_behind, lines_of, starts_of}
 use Rattle.msc_mermaid.specs.Cutting.{room}
 use Rattle.msc_mermaid.specs.Mermaid.{mermaid, said_in}
 use Rattle.msc_mermaid.specs.Parts.{Stretch, blanked, first_place, said_of}
@@ -55,10 +55,10 @@ pub mermaid_outlined : (cross : Option Cross) (text : List ℕ) (d : Diagram) �
 unfolding mermaid
 mermaid_outlined cross text d e =
     by_test (nat_lt TEXT_LIMIT (length text))
-    (λ long. let f : ◌≡◌ {A = Result Diagram ImportFault} (Err TooLong) (Ok d) = sym (ap (λ b. cond b (Err TooLong) (said_in cross (lines_of text))) long) ∙ e in cc)
+    (λ long. let f : ◌≡◌ {A = Result Diagram ImportFault} (Err TooLong) (Ok d) = sym (ap (λ b. cond b (Err TooLong) (said_in cross (starts_of text) (lines_of text))) long) ∙ e in cc)
     (λ short.
-    let f : said_in cross (lines_of text) ≡ Ok d = sym (ap (λ b. cond b (Err TooLong) (said_in cross (lines_of text))) short) ∙ e in
-    let r = read_all IsRead (λ n k r le read. read_same n k r r le refl refl refl read) one_read cross (lines_of text) d f none_read in
+    let f : said_in cross (starts_of text) (lines_of text) ≡ Ok d = sym (ap (λ b. cond b (Err TooLong) (said_in cross (starts_of text) (lines_of text))) short) ∙ e in
+    let r = read_all IsRead (λ n k r le read. read_same n k r r le refl refl refl read) one_read cross (starts_of text) (lines_of text) d f none_read in
     let within : length text ≤ TEXT_LIMIT = elim (cases_lt TEXT_LIMIT (length text)) [ inl lt ↦ clash (lt-ltb TEXT_LIMIT (length text) lt) short | inr ge ↦ ge ] in
     let a = (text_room false (behind_mark text)).1 in
     let c = cond_short (starts_with nat_eq text (239 ∷ 187 ∷ 191 ∷ [])) text in
@@ -89,9 +89,9 @@ by_outlined languages.Any cross text d e = content_outlined cross text d e
 
 -- the diagram of parts of lines that are not too long
 module _ (cross : Option Cross) (d : Diagram) where
-  parts_outlined : (markup : Bool) (last : Position) (parts : List Stretch) → room (map blanked parts) ≤ TEXT_LIMIT + 1 → said_of markup cross last parts ≡ Ok d → IsFound d
-  parts_outlined markup last parts few e =
-      let r = read_parts IsRead (λ n k r le read. read_same n k r r le refl refl refl read) one_read markup cross last parts d e none_read in
+  parts_outlined : (markup : Bool) (starts : List ℕ) (last : Position) (parts : List Stretch) → room (map blanked parts) ≤ TEXT_LIMIT + 1 → said_of markup cross starts last parts ≡ Ok d → IsFound d
+  parts_outlined markup starts last parts few e =
+      let r = read_parts IsRead (λ n k r le read. read_same n k r r le refl refl refl read) one_read markup cross starts last parts d e none_read in
       read_outlined (0 + room (map blanked parts)) r.0 d (omega (arith, few)) r.1 r.2
 
   module _ (any : Bool) (f : Found) (few : room (map blanked f.parts) ≤ TEXT_LIMIT + 1) where
@@ -99,9 +99,9 @@ module _ (cross : Option Cross) (d : Diagram) where
     said_outlined : (markup : Bool) (parts : List Stretch) → room (map blanked parts) ≤ TEXT_LIMIT + 1 → said_by markup any cross f parts ≡ Ok d → IsFound d
     said_outlined markup parts low e = by (is_none any parts) e
       where
-        by : (b : Bool) → ◌≡◌ {A = Result Diagram ImportFault} (cond b (Err (Expected (first_place parts f.end) expectations.AnyDiagram)) (said_of markup cross f.end parts)) (Ok d) → IsFound d
+        by : (b : Bool) → ◌≡◌ {A = Result Diagram ImportFault} (cond b (Err (Expected (first_place parts f.end) expectations.AnyDiagram)) (said_of markup cross f.line_starts f.end parts)) (Ok d) → IsFound d
         by true e = cc
-        by false e = parts_outlined markup f.end parts low e
+        by false e = parts_outlined markup f.line_starts f.end parts low e
 
     block_outlined : (s : Start) (others : List Start) → block_diagram any cross f s others ≡ Ok d → IsFound d
     block_outlined s others e = by (is_block s) e

@@ -72,17 +72,17 @@ record IsOf (at : ℕ) (line : List ℕ) (s : Stretch) : Type 0 where
 nothing_of : (at : ℕ) (line : List ℕ) → IsOf at line (nothing at)
 nothing_of at line = record { number = refl; part = no_part line }
 
-part_is : (at : ℕ) (line : List ℕ) (around : Around) (columns : ℕ) (bytes : List ℕ) → IsPartOf line bytes → IsOf at line (part_of at around columns bytes)
-part_is at line around columns bytes p = by (around.marked && not (is_left_out around bytes))
+part_is : (at : ℕ) (line : List ℕ) (around : Around) (columns skipped : ℕ) (bytes : List ℕ) → IsPartOf line bytes → IsOf at line (part_of at around columns skipped bytes)
+part_is at line around columns skipped bytes p = by (around.marked && not (is_left_out around bytes))
   where
-    by : (b : Bool) → IsOf at line (cond b (record { line = at; before = columns; bytes = bytes }) (nothing at))
+    by : (b : Bool) → IsOf at line (cond b (record { line = at; before = columns; skipped = skipped; bytes = bytes }) (nothing at))
     by true = record { number = refl; part = p }
     by false = nothing_of at line
 
-within_of : (at : ℕ) (line : List ℕ) (around : Around) (start : Option Form) (columns : ℕ) (held : List ℕ) → IsEndOf line held → IsOf at line (within at around start columns held).part
+within_of : (at : ℕ) (line : List ℕ) (around : Around) (start : Option Form) (columns skipped : ℕ) (held : List ℕ) → IsEndOf line held → IsOf at line (within at around start columns skipped held).part
 unfolding within
-within_of at line around start columns held e =
-    part_is at line around columns (before_end around.closing held) (end_part around.closing line held e)
+within_of at line around start columns skipped held e =
+    part_is at line around columns skipped (before_end around.closing held) (end_part around.closing line held e)
 
 whole_end : (line : List ℕ) → IsEndOf line line
 whole_end line = record { from = 0; is = refl }
@@ -114,7 +114,7 @@ text_of_line closings.Colons line = nothing_left line
 begun_of : (at : ℕ) (closing : Closing) (line : List ℕ) → IsOf at line (begun at closing line).part
 begun_of at closing line =
     let text = text_of closing (behind_marks line) in
-    within_of at line (around_of closing line) (start_of (around_of closing line)) (columns_before line text) text (text_of_line closing line)
+    within_of at line (around_of closing line) (start_of (around_of closing line)) (columns_before line text) (length line - length text) text (text_of_line closing line)
 
 passed_of : (at : ℕ) (line : List ℕ) → IsOf at line (passed at line).part
 passed_of at line = by (is_head (drop (quoted_front line) line))
@@ -135,9 +135,9 @@ unfolding left_by
 left_of at ends line None = outside_of at line (closing_of ends (behind_marks line))
 left_of at ends line (Some around) = by (nat_le around.quotes (quotes_before line))
   where
-    by : (b : Bool) → IsOf at line (cond b (within at around None (quoted around.quotes line) (drop (quoted around.quotes line) line)) (outside at ends line)).part
+    by : (b : Bool) → IsOf at line (cond b (within at around None (quoted around.quotes line) (quoted around.quotes line) (drop (quoted around.quotes line) line)) (outside at ends line)).part
     by true =
-        within_of at line around None (quoted around.quotes line) (drop (quoted around.quotes line) line) (fewer line line (quoted around.quotes line) (whole_end line))
+        within_of at line around None (quoted around.quotes line) (quoted around.quotes line) (drop (quoted around.quotes line) line) (fewer line line (quoted around.quotes line) (whole_end line))
     by false = outside_of at line (closing_of ends (behind_marks line))
 
 -- the parts of all lines

@@ -49,11 +49,11 @@ take_short (suc k) (x ∷ xs) = let r = take_short k xs in omega (arith, r)
 nothing_width : (at : ℕ) → width (nothing at) ≡ 0
 nothing_width at = width_is (nothing at)
 
-part_width : (at : ℕ) (around : Around) (before : ℕ) (bytes : List ℕ) → width (part_of at around before bytes) ≤ before + length bytes
-part_width at around before bytes = by (around.marked && not (is_left_out around bytes))
+part_width : (at : ℕ) (around : Around) (before skipped : ℕ) (bytes : List ℕ) → width (part_of at around before skipped bytes) ≤ before + length bytes
+part_width at around before skipped bytes = by (around.marked && not (is_left_out around bytes))
   where
-    by : (b : Bool) → width (cond b (record { line = at; before = before; bytes = bytes }) (nothing at)) ≤ before + length bytes
-    by true = let w = width_is (record { line = at; before = before; bytes = bytes }) in omega (arith, w)
+    by : (b : Bool) → width (cond b (record { line = at; before = before; skipped = skipped; bytes = bytes }) (nothing at)) ≤ before + length bytes
+    by true = let w = width_is (record { line = at; before = before; skipped = skipped; bytes = bytes }) in omega (arith, w)
     by false = let w = nothing_width at in omega (arith, w)
 
 end_short : (closing : Closing) (held : List ℕ) → length (before_end closing held) ≤ length held
@@ -75,10 +75,10 @@ end_short closings.Colons held = either (is_end closings.Colons held)
     either true = omega arith
     either false = omega arith
 
-within_width : (at : ℕ) (around : Around) (start : Option Form) (before : ℕ) (held : List ℕ) → width (within at around start before held).part ≤ before + length held
+within_width : (at : ℕ) (around : Around) (start : Option Form) (before skipped : ℕ) (held : List ℕ) → width (within at around start before skipped held).part ≤ before + length held
 unfolding within
-within_width at around start before held =
-    let p = part_width at around before (before_end around.closing held) in
+within_width at around start before skipped held =
+    let p = part_width at around before skipped (before_end around.closing held) in
     let e = end_short around.closing held in
     omega (arith, p, e)
 
@@ -106,7 +106,7 @@ begun_width at closing line =
     let a = text_short closing (behind_marks line) in
     let b = drop_short (marks 0 line) line in
     let short : length text ≤ length line = omega (arith, a, b) in
-    let w = within_width at (around_of closing line) (start_of (around_of closing line)) (columns_before line text) text in
+    let w = within_width at (around_of closing line) (start_of (around_of closing line)) (columns_before line text) (length line - length text) text in
     let k = columns_short line text short in
     omega (arith, w, k)
 
@@ -115,7 +115,7 @@ passed_width at line = by (is_head (drop (quoted_front line) line))
   where
     by : (b : Bool) → width (cond b (stray at line) (record { part = nothing at; start = None; after = None })).part ≤ length line
     by true =
-        let w = width_is (record { line = at; before = quoted_front line; bytes = drop (quoted_front line) line }) in
+        let w = width_is (record { line = at; before = quoted_front line; skipped = quoted_front line; bytes = drop (quoted_front line) line }) in
         let p = prefix_len-le-length is_quoted line in
         let l = length-drop (quoted_front line) line in
         omega (arith, w, p, l)
@@ -141,9 +141,9 @@ unfolding left_by
 left_width at ends line None = outside_width at line (closing_of ends (behind_marks line))
 left_width at ends line (Some around) = by (nat_le around.quotes (quotes_before line))
   where
-    by : (b : Bool) → width (cond b (within at around None (quoted around.quotes line) (drop (quoted around.quotes line) line)) (outside at ends line)).part ≤ length line
+    by : (b : Bool) → width (cond b (within at around None (quoted around.quotes line) (quoted around.quotes line) (drop (quoted around.quotes line) line)) (outside at ends line)).part ≤ length line
     by true =
-        let w = within_width at around None (quoted around.quotes line) (drop (quoted around.quotes line) line) in
+        let w = within_width at around None (quoted around.quotes line) (quoted around.quotes line) (drop (quoted around.quotes line) line) in
         let q = quoted_short around.quotes line in
         let l = length-drop (quoted around.quotes line) line in
         omega (arith, w, q, l)

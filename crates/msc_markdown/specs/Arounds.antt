@@ -25,7 +25,7 @@ pub record Left : Type 0 where
 
 -- nothing of the line of a number
 abbrev pub nothing : ℕ → Stretch
-nothing at = record { line = at; before = 0; bytes = [] }
+nothing at = record { line = at; before = 0; skipped = 0; bytes = [] }
 
 -- `:`
 abbrev pub is_colon : ℕ → Bool
@@ -49,10 +49,10 @@ abbrev pub is_left_out : Around → List ℕ → Bool
 is_left_out around bytes =
     around.options && (is_empty (trimmed bytes) || is_option (trimmed bytes))
 
--- what belongs to the block of what stands behind so many columns of a line
-abbrev pub part_of : ℕ → Around → ℕ → List ℕ → Stretch
-part_of at around before bytes =
-    cond (around.marked && not (is_left_out around bytes)) (record { line = at; before = before; bytes = bytes }) (nothing at)
+-- what belongs to the block of what stands behind so many columns of a line, which have so many bytes
+abbrev pub part_of : ℕ → Around → ℕ → ℕ → List ℕ → Stretch
+part_of at around before skipped bytes =
+    cond (around.marked && not (is_left_out around bytes)) (record { line = at; before = before; skipped = skipped; bytes = bytes }) (nothing at)
 
 -- the block goes on, perhaps with further options
 abbrev pub on_behind : Around → List ℕ → Around
@@ -63,10 +63,10 @@ on_behind around bytes = record {
   options = is_left_out around bytes;
 }
 
--- a line of a block, of which this stands behind so many columns
-unfoldable pub within : ℕ → Around → Option Form → ℕ → List ℕ → Left
-within at around start before held = record {
-  part = part_of at around before (before_end around.closing held);
+-- a line of a block, of which this stands behind so many columns, which have so many bytes
+unfoldable pub within : ℕ → Around → Option Form → ℕ → ℕ → List ℕ → Left
+within at around start before skipped held = record {
+  part = part_of at around before skipped (before_end around.closing held);
   start = start;
   after = cond (is_end around.closing held) None (Some (on_behind around (before_end around.closing held)));
 }
@@ -101,7 +101,7 @@ start_of around = cond around.marked (Some (form_of around.closing)) None
 -- a line that a block starts with
 abbrev pub begun : ℕ → Closing → List ℕ → Left
 begun at closing line =
-    within at (around_of closing line) (start_of (around_of closing line)) (columns_before line (text_of closing (behind_marks line))) (text_of closing (behind_marks line))
+    within at (around_of closing line) (start_of (around_of closing line)) (columns_before line (text_of closing (behind_marks line))) (length line - length (text_of closing (behind_marks line))) (text_of closing (behind_marks line))
 
 -- how many bytes of block quotes a line has in front
 abbrev pub quoted_front : List ℕ → ℕ
@@ -110,7 +110,7 @@ quoted_front line = prefix_len is_quoted line
 -- a line outside of all blocks which begins a diagram
 abbrev pub stray : ℕ → List ℕ → Left
 stray at line = record {
-  part = record { line = at; before = quoted_front line; bytes = drop (quoted_front line) line };
+  part = record { line = at; before = quoted_front line; skipped = quoted_front line; bytes = drop (quoted_front line) line };
   start = Some forms.Stray;
   after = None;
 }
@@ -132,4 +132,4 @@ outside at ends line = outside_by at line (closing_of ends (behind_marks line))
 unfoldable pub left_by : ℕ → Ends → List ℕ → Option Around → Left
 left_by at ends line None = outside at ends line
 left_by at ends line (Some around) =
-    cond (nat_le around.quotes (quotes_before line)) (within at around None (quoted around.quotes line) (drop (quoted around.quotes line) line)) (outside at ends line)
+    cond (nat_le around.quotes (quotes_before line)) (within at around None (quoted around.quotes line) (quoted around.quotes line) (drop (quoted around.quotes line) line)) (outside at ends line)

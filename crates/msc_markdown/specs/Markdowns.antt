@@ -10,7 +10,7 @@ use Rattle.msc_mermaid.specs.declared.fault.ImportFault.TheVariants.{Expected, N
 use Rattle.msc_mermaid.specs.declared.statement.Cross.{Cross}
 use Rattle.msc_mermaid.specs.declared.statement.Diagram.{Diagram}
 use Rattle.msc_mermaid.specs.Aheads.{ahead_behind}
-use Rattle.msc_mermaid.specs.Lines.{lines_of}
+use Rattle.msc_mermaid.specs.Lines.{lines_of, starts_of}
 use Rattle.msc_mermaid.specs.Mermaid.{end_of, is_head}
 use Rattle.msc_mermaid.specs.Parts.{Stretch, first_place, said_of}
 use Rattle.msc_mermaid.specs.Seeking.{entity_in}
@@ -124,10 +124,11 @@ is_begun a = false
 abbrev pub is_diagram : List (List ℕ) → Bool
 is_diagram lines = is_begun (look ahead.Start lines)
 
--- What a text holds: where it ends; whether it is a sequence diagram as a whole; what of each line belongs to a
--- block; the blocks of diagrams; and the numbers, from 1, of those that are sequence diagrams.
+-- What a text holds: where its lines begin, and where it ends; whether it is a sequence diagram as a whole; what of
+-- each line belongs to a block; the blocks of diagrams; and the numbers, from 1, of those that are sequence diagrams.
 pub record Found : Type 0 where
   pub text : List ℕ
+  pub line_starts : List ℕ
   pub end : Position
   pub whole : Bool
   pub parts : List Stretch
@@ -138,6 +139,7 @@ pub record Found : Type 0 where
 abbrev pub found_of : List ℕ → List (List ℕ) → List Stretch → List Start → Found
 found_of text lines parts blocks = record {
   text = text;
+  line_starts = starts_of text;
   end = end_of lines;
   whole = is_diagram lines;
   parts = parts;
@@ -173,7 +175,7 @@ is_none any parts = any && not (has_head (bytes_in parts))
 -- the diagram of a block of these parts, which a browser reads first or not; of any language, if it may be any
 abbrev pub said_by : Bool → Bool → Option Cross → Found → List Stretch → Result Diagram ImportFault
 said_by markup any cross f parts =
-    cond (is_none any parts) (Err (Expected (first_place parts f.end) expectations.AnyDiagram)) (said_of markup cross f.end parts)
+    cond (is_none any parts) (Err (Expected (first_place parts f.end) expectations.AnyDiagram)) (said_of markup cross f.line_starts f.end parts)
 
 -- the diagram of a block
 abbrev pub block_diagram : Bool → Option Cross → Found → Start → List Start → Result Diagram ImportFault

@@ -116,6 +116,7 @@ fn nothing(at: usize) -> LinePart<'static>
     LinePart {
         line: at,
         before: 0,
+        skipped: 0,
         bytes: &[],
     }
 }
@@ -165,14 +166,16 @@ impl Around {
         self.options && (text.is_empty() || is_option(text))
     }
 
-    /// What belongs to the block of what stands behind so many columns of a line.
-    fn part(self, at: usize, before: usize, bytes: &[u8]) -> LinePart<'_>
-        ensures { stretch result ≡ part_of at self before bytes.now }
+    /// What belongs to the block of what stands behind so many columns of a line, which have so many
+    /// bytes.
+    fn part(self, at: usize, before: usize, skipped: usize, bytes: &[u8]) -> LinePart<'_>
+        ensures { stretch result ≡ part_of at self before skipped bytes.now }
     {
         if self.marked && !self.is_left_out(bytes) {
             LinePart {
                 line: at,
                 before,
+                skipped,
                 bytes,
             }
         } else {
@@ -192,12 +195,20 @@ impl Around {
         }
     }
 
-    /// What a line of the block leaves, of which this stands behind so many columns.
+    /// What a line of the block leaves, of which this stands behind so many columns, which have so many
+    /// bytes.
     #[tactic(auto, unfolding(crate::specs::Arounds::within))]
-    fn within(self, at: usize, start: Option<Form>, before: usize, held: &[u8]) -> Left<'_>
-        ensures part { stretch result.part ≡ (within at self start before held.now).part }
-        ensures start { result.start ≡ (within at self start before held.now).start }
-        ensures after { result.after ≡ (within at self start before held.now).after }
+    fn within(
+        self,
+        at: usize,
+        start: Option<Form>,
+        before: usize,
+        skipped: usize,
+        held: &[u8],
+    ) -> Left<'_>
+        ensures part { stretch result.part ≡ (within at self start before skipped held.now).part }
+        ensures start { result.start ≡ (within at self start before skipped held.now).start }
+        ensures after { result.after ≡ (within at self start before skipped held.now).after }
     {
         let text = self.closing.before_end(held);
         let after = if self.closing.is_end(held) {
@@ -206,7 +217,7 @@ impl Around {
             Some(self.on(text))
         };
         Left {
-            part: self.part(at, before, text),
+            part: self.part(at, before, skipped, text),
             start,
             after,
         }
@@ -221,7 +232,9 @@ fn begun(at: usize, closing: Closing, line: &[u8]) -> Left<'_>
 {
     let around = Around::of(closing, line);
     let text = closing.text_of(behind_marks(line));
-    around.within(at, around.start(), columns_before(line, text), text)
+    let skipped = line.len().saturating_sub(text.len());
+    let before = columns_before(line, text);
+    around.within(at, around.start(), before, skipped, text)
 }
 
 /// What a line leaves that no block starts with.
@@ -237,6 +250,7 @@ fn passed(at: usize, line: &[u8]) -> Left<'_>
             part: LinePart {
                 line: at,
                 before,
+                skipped: before,
                 bytes,
             },
             start: Some(Form::Stray),
@@ -272,7 +286,7 @@ pub(crate) fn left_by(at: usize, ends: Ends, line: &[u8], around: Option<Around>
     match around {
         Some(block) if block.quotes <= quotes_before(line) => {
             let before = quoted(block.quotes, line);
-            block.within(at, None, before, &line[before..])
+            block.within(at, None, before, before, &line[before..])
         }
         _ => outside(at, ends, line),
     }

@@ -22,7 +22,7 @@ use crate::seeking::Sought;
 use msc_lexer::TEXT_LIMIT;
 use msc_mermaid::{
     Ahead, Cross, Diagram, Expectation, ImportFault, LinePart, diagram_of_parts, end_of, entity_in,
-    first_place, is_head, lines_of, trimmed,
+    first_place, is_head, lines_of, starts_of, trimmed,
 };
 use msc_place::Position;
 use std::alloc::{AllocError, Global};
@@ -286,6 +286,7 @@ fn numbers_of(
 #[derive(Drop)]
 pub struct Markdown<'t> {
     text: &'t [u8],
+    line_starts: Vec<usize>,
     end: Position,
     whole: bool,
     parts: Vec<LinePart<'t>>,
@@ -302,6 +303,7 @@ impl<'t> Model for Markdown<'t> {
 
     ghost view = { λ m. record {
       text = m.text.now;
+      line_starts = m.line_starts.items;
       end = m.end;
       whole = m.whole;
       parts = map stretch m.parts.items;
@@ -367,6 +369,7 @@ impl<'t> Markdown<'t> {
         if text.len() > TEXT_LIMIT {
             return Err(ImportFault::TooLong);
         }
+        let line_starts = starts_of(alloc, text)?;
         let lines = lines_of(alloc, text)?;
         let whole = look(lines.as_slice()) == Ahead::Diagram;
         let Passed { parts, starts } = pass(alloc, lines.as_slice())?;
@@ -374,6 +377,7 @@ impl<'t> Markdown<'t> {
         let numbers = numbers_of(alloc, blocks.as_slice(), parts.as_slice())?;
         Ok(Markdown {
             text,
+            line_starts,
             end: end_of(lines.as_slice()),
             whole,
             parts,
@@ -448,7 +452,8 @@ impl<'t> Markdown<'t> {
             let place = first_place(alloc, parts, self.end)?;
             return Err(ImportFault::Expected(place, Expectation::AnyDiagram));
         }
-        diagram_of_parts(alloc, markup, cross, self.end, parts)
+        let starts = self.line_starts.as_slice();
+        diagram_of_parts(alloc, markup, cross, starts, self.end, parts)
     }
 
     /// The diagram of a block before these others.

@@ -1,5 +1,7 @@
 pub mod WhiteLemmas
 pub mod LineLemmas
+pub mod StartLemmas
+pub mod StandLemmas
 pub mod Found
 pub mod RowLemmas
 pub mod CuttingLemmas
@@ -10,3 +12,7 @@ pub mod PartLemmas
 pub mod PlaceLemmas
 pub mod LawLemmas
 pub mod StepLemmas
+pub mod SpotLemmas
+pub mod BeginLemmas
+pub mod FrontLemmas
+pub mod SpellLemmas

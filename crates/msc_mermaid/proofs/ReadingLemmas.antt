@@ -6,15 +6,20 @@ use Rattle.msc_mermaid.specs.declared.progress.Progress.{Progress}
 use Rattle.msc_mermaid.specs.declared.statement.Cross.{Cross}
 use Rattle.msc_mermaid.specs.Cutting.{room}
 use Rattle.msc_mermaid.specs.Gives.{◌>>=◌, Fails}
-use Rattle.msc_mermaid.specs.Lines.{column_behind}
-use Rattle.msc_mermaid.specs.Mermaid.{read_piece, read_pieces}
+use Rattle.msc_mermaid.specs.declared.reading.Spot.{Spot}
+use Rattle.msc_mermaid.specs.Lines.{column_behind, further}
+use Rattle.msc_mermaid.specs.Mermaid.{read_piece, read_pieces, spot_behind}
 use Rattle.msc_mermaid.specs.White.{front}
 
 -- a fault stays
 pub bind_fails : {A B : Type 0} (e : ImportFault) (r : Result A ImportFault) (f : A → Result B ImportFault) → Fails e r → Fails e (r >>= f)
 bind_fails e r f h = ⊎_elim (λ m. inl m) (λ q. inr (ap (λ x. x >>= f) q)) h
 
-pieces_cons : (cross : Option Cross) (line : ℕ) (bytes : List ℕ) (at : ℕ) (x : List ℕ) (xs : List (List ℕ)) (p : Progress) → read_pieces cross line bytes at (x ∷ xs) p ≡ (read_piece cross line bytes (column_behind (take (at + front 0 x) bytes)) (drop at bytes) x p >>= (λ q. read_pieces cross line bytes (at + (length x + 1)) xs q))
+-- where a piece begins
+pub spot_is : (start line : ℕ) (bytes : List ℕ) (at column first : ℕ) → column ≡ column_behind (take at bytes) → first ≡ further start at → ◌≡◌ {A = Spot} (record { here = record { line = line; column = column }; first = first }) (spot_behind start line bytes at)
+spot_is start line bytes at column first c f = rw (c, f) refl
+
+pieces_cons : (cross : Option Cross) (line : ℕ) (bytes : List ℕ) (at : ℕ) (x : List ℕ) (xs : List (List ℕ)) (p : Progress) → read_pieces cross line bytes at (x ∷ xs) p ≡ (read_piece cross bytes (spot_behind p.start line bytes (at + front 0 x)) (drop at bytes) x p >>= (λ q. read_pieces cross line bytes (at + (length x + 1)) xs q))
 unfolding read_pieces
 pieces_cons cross line bytes at x xs p = refl
 
@@ -36,22 +41,22 @@ module _ {X : Type 0} (f : X → List ℕ) (qs : List X) (i : ℕ) (d : X) (insi
   pub next_room : room (map f (drop i qs)) ≡ length (f (get_or qs i d)) + 1 + room (map f (drop (i + 1) qs))
   next_room = ap room next_piece ∙ room_cons (f (get_or qs i d)) (map f (drop (i + 1) qs))
 
-  module _ (cross : Option Cross) (line : ℕ) (bytes : List ℕ) (at : ℕ) (p : Progress) (column : ℕ) (rest : List ℕ) (column_is : column ≡ column_behind (take (at + front 0 (f (get_or qs i d))) bytes)) (rest_is : rest ≡ drop at bytes) where
+  module _ (cross : Option Cross) (line : ℕ) (bytes : List ℕ) (at : ℕ) (p : Progress) (spot : Spot) (rest : List ℕ) (spot_is : spot ≡ spot_behind p.start line bytes (at + front 0 (f (get_or qs i d)))) (rest_is : rest ≡ drop at bytes) where
     -- the other pieces
     abbrev others : Progress → Result Progress ImportFault
     others q = read_pieces cross line bytes (at + (length (f (get_or qs i d)) + 1)) (map f (drop (i + 1) qs)) q
 
     -- the next piece is read, and then the others
-    read_next : read_pieces cross line bytes at (map f (drop i qs)) p ≡ (read_piece cross line bytes column rest (f (get_or qs i d)) p >>= others)
+    read_next : read_pieces cross line bytes at (map f (drop i qs)) p ≡ (read_piece cross bytes spot rest (f (get_or qs i d)) p >>= others)
     read_next =
         ap (λ ps. read_pieces cross line bytes at ps p) next_piece ∙ pieces_cons cross line bytes at (f (get_or qs i d)) (map f (drop (i + 1) qs)) p
-        ∙ ap (λ x. read_piece cross line bytes x (drop at bytes) (f (get_or qs i d)) p >>= others) (sym column_is)
-        ∙ ap (λ x. read_piece cross line bytes column x (f (get_or qs i d)) p >>= others) (sym rest_is)
+        ∙ ap (λ x. read_piece cross bytes x (drop at bytes) (f (get_or qs i d)) p >>= others) (sym spot_is)
+        ∙ ap (λ x. read_piece cross bytes spot x (f (get_or qs i d)) p >>= others) (sym rest_is)
 
-    pub reads_next : (next : Progress) → read_piece cross line bytes column rest (f (get_or qs i d)) p ≡ Ok next → read_pieces cross line bytes at (map f (drop i qs)) p ≡ read_pieces cross line bytes (at + (length (f (get_or qs i d)) + 1)) (map f (drop (i + 1) qs)) next
+    pub reads_next : (next : Progress) → read_piece cross bytes spot rest (f (get_or qs i d)) p ≡ Ok next → read_pieces cross line bytes at (map f (drop i qs)) p ≡ read_pieces cross line bytes (at + (length (f (get_or qs i d)) + 1)) (map f (drop (i + 1) qs)) next
     reads_next next e = read_next ∙ ap (λ x. x >>= others) e
 
-    pub fails_next : (e : ImportFault) → Fails e (read_piece cross line bytes column rest (f (get_or qs i d)) p) → Fails e (read_pieces cross line bytes at (map f (drop i qs)) p)
+    pub fails_next : (e : ImportFault) → Fails e (read_piece cross bytes spot rest (f (get_or qs i d)) p) → Fails e (read_pieces cross line bytes at (map f (drop i qs)) p)
     fails_next e h = subst (Fails e) (sym read_next) (bind_fails e _ _ h)
 
 -- no piece is left

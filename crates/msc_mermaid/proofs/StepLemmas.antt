@@ -1,5 +1,5 @@
 -- What a reading keeps from statement to statement it keeps from line to line.
-use Rattle.std.proofs.Common.{◌≡◌, ℕ, zero, suc, ◌+◌, ◌≤◌, Bool, true, false, cond, ◌&&◌, length, map, take, drop, sym, arith, List, [], ◌∷◌, Option, None, Some, Result, Ok, Err, refl, ap, subst, ◌∙◌}
+use Rattle.std.proofs.Common.{◌≡◌, ℕ, zero, suc, ◌+◌, ◌-◌, ◌≤◌, Bool, true, false, cond, ◌&&◌, length, map, take, drop, sym, arith, List, [], ◌∷◌, ◌++◌, Option, None, Some, Result, Ok, Err, refl, ap, subst, ◌∙◌}
 use Rattle.msc_mermaid.specs.declared.fault.ImportFault.{ImportFault}
 use Rattle.msc_mermaid.specs.declared.fault.ImportFault.TheVariants.{Entity, Expected}
 use Rattle.msc_mermaid.specs.declared.fault.Expectation.TheVariants as expectations
@@ -11,31 +11,37 @@ use Rattle.msc_mermaid.specs.declared.pattern.Pattern.TheVariants as patterns
 use Rattle.msc_mermaid.specs.declared.progress.Inside.{Inside}
 use Rattle.msc_mermaid.specs.declared.progress.Inside.TheVariants as inside
 use Rattle.msc_mermaid.specs.declared.progress.Progress.{Progress}
+use Rattle.msc_mermaid.specs.declared.reading.Spot.{Spot}
+use Rattle.msc_mermaid.specs.declared.saying.Said.{Said}
+use Rattle.msc_mermaid.specs.declared.saying.Said.TheVariants as said
 use Rattle.msc_mermaid.specs.declared.seeking.Sought.TheVariants as sought
 use Rattle.msc_mermaid.specs.declared.shape.Shape.{Shape}
 use Rattle.msc_mermaid.specs.declared.shape.Shape.TheVariants as shapes
 use Rattle.msc_mermaid.specs.declared.statement.Cross.{Cross}
 use Rattle.msc_mermaid.specs.declared.statement.Diagram.{Diagram}
+use Rattle.msc_mermaid.specs.declared.statement.Span.{Span}
+use Rattle.msc_mermaid.specs.declared.statement.Statement.{Statement}
 use Rattle.msc_place.specs.declared.position.Position.{Position}
 use Rattle.msc_mermaid.specs.Cutting.{cut, cut_by, cut_from, room, turn_at}
 use Rattle.msc_mermaid.specs.Gives.{◌>>=◌, unless}
 use Rattle.msc_mermaid.specs.Keys.{begin_so, mark_text}
-use Rattle.msc_mermaid.specs.Lines.{column_behind, led_by}
+use Rattle.msc_mermaid.specs.Lines.{led_by, start_on}
 use Rattle.msc_mermaid.specs.Patterns.{first_fit, is_empty}
 use Rattle.msc_mermaid.specs.Saying.{is_unended}
 use Rattle.msc_mermaid.specs.Seeking.{before, holds}
 use Rattle.msc_mermaid.specs.White.{behind_white, front, trimmed}
-use Rattle.msc_mermaid.specs.Mermaid.{behind_head, body, body_as, closed, commented, config_end, configured_as, described_as, end_of, ended_in, ended_on, first_line, goes_on, gone_on, head_as, is_commented, is_front, is_last, left_out, now_in, outside, piece_as, piece_by, piece_said, put_off, put_off_said, read_piece, read_pieces, said_in, said_on, shape_of, stated, statement, step, step_in, steps, text_within, titled, told_of, undirected, unread}
-use Rattle.msc_mermaid.specs.Parts.{Stretch, blanked, entity_place, has_entity, part_step, said_of, steps_of}
-use Rattle.msc_mermaid.specs.Reading.{Read, read_one, told, untold}
+use Rattle.msc_mermaid.specs.Mermaid.{behind_head, body, body_as, closed, commented, config_end, configured_as, described_as, end_of, ended_in, ended_on, first_line, goes_on, gone_on, head_as, is_commented, is_front, is_last, left_out, now_at, now_in, outside, piece_as, piece_by, piece_said, put_off, put_off_said, read_piece, read_pieces, said_in, said_on, shape_of, spot_behind, stated, statement, step, step_in, steps, text_within, titled, told_of, undirected, unread}
+use Rattle.msc_mermaid.specs.Parts.{Stretch, blanked, entity_place, has_entity, part_start, part_step, said_of, steps_of}
+use Rattle.msc_mermaid.specs.Outlines.{Outline, laid}
+use Rattle.msc_mermaid.specs.Reading.{Read, listed, noted, read_one, told, untold}
 
 -- what follows a value is answered where both are
-bound : {A B : Type 0} (r : Result A ImportFault) (f : A → Result B ImportFault) (y : B) → (r >>= f) ≡ Ok y → (x : A) × (r ≡ Ok x) × (f x ≡ Ok y)
+pub bound : {A B : Type 0} (r : Result A ImportFault) (f : A → Result B ImportFault) (y : B) → (r >>= f) ≡ Ok y → (x : A) × (r ≡ Ok x) × (f x ≡ Ok y)
 bound (Ok x) f y e = (x, refl, e)
 bound (Err g) f y e = cc
 
 -- by a test
-by_test : {X : Type 0} (b : Bool) → (b ≡ true → X) → (b ≡ false → X) → X
+pub by_test : {X : Type 0} (b : Bool) → (b ≡ true → X) → (b ≡ false → X) → X
 by_test true f g = f refl
 by_test false f g = g refl
 
@@ -45,8 +51,21 @@ drop_short zero (x ∷ xs) = omega arith
 drop_short (suc k) [] = omega arith
 drop_short (suc k) (x ∷ xs) = let r = drop_short k xs in omega (arith, r)
 
+-- what holds of what was read holds behind one statement more: it says nothing, or which line ends, or it is listed
+pub noted_by : (P : Read → Type 0) (r : Read) (here : Position) (whole : Span) (q : Read) → P r → ((names : List (List ℕ)) → P (record { dying = names; arrows = r.arrows; outline = r.outline; said = r.said })) → ((s : Statement) (name tail : ℕ) (o : Outline) → laid here whole.first name s r.outline ≡ Ok o → P (listed r here whole tail s o)) → (s : Said) → noted r here whole s ≡ Ok q → P q
+unfolding noted
+noted_by P r here whole q nothing dies stated said.Nothing e = let same : r ≡ q = cc in subst P same nothing
+noted_by P r here whole q nothing dies stated (said.Dies name) e =
+    let same : record { dying = r.dying ++ name ∷ []; arrows = r.arrows; outline = r.outline; said = r.said } ≡ q = cc in
+    subst P same (dies (r.dying ++ name ∷ []))
+noted_by P r here whole q nothing dies stated (said.Statement s t) e =
+    let b = bound (laid here whole.first (whole.past - t.name) s r.outline) (λ (o : Outline). Ok (listed r here whole t.shown s o)) q e in
+    let f : ◌≡◌ {A = Result Read ImportFault} (Ok (listed r here whole t.shown s b.0)) (Ok q) = b.2 in
+    let same : listed r here whole t.shown s b.0 ≡ q = cc in
+    subst P same (stated s (whole.past - t.name) t.shown b.0 b.1)
+
 -- R n r: what was read so far is r, and n statements were read for it at most
-module _ (R : ℕ → Read → Type 0) (wider : (n k : ℕ) (r : Read) → n ≤ k → R n r → R k r) (one : (n : ℕ) (cross : Option Cross) (line column : ℕ) (bytes : List ℕ) (r q : Read) → R n r → read_one cross line column bytes r ≡ Ok q → R (n + 1) q) where
+module _ (R : ℕ → Read → Type 0) (wider : (n k : ℕ) (r : Read) → n ≤ k → R n r → R k r) (one : (n : ℕ) (cross : Option Cross) (spot : Spot) (bytes : List ℕ) (r q : Read) → R n r → read_one cross spot bytes r ≡ Ok q → R (n + 1) q) where
   -- what a line leaves of so many arrows: as many, and one for each of its pieces at most
   kept_on : (n k : ℕ) (r q : Read) → n ≤ k → R n r → r ≡ q → R k q
   kept_on n k r q le read same = subst (R k) same (wider n k r le read)
@@ -65,61 +84,61 @@ module _ (R : ℕ → Read → Type 0) (wider : (n k : ℕ) (r : Read) → n ≤
       let b = bound (closed line whole m bytes) _ q e in
       ok_reader (now_in (cond b.0 inside.Rest part) p) q b.2
 
-  titled_same : (line column : ℕ) (text : List ℕ) (p q : Progress) → titled line column text p ≡ Ok q → p.reader ≡ q.reader
+  titled_same : (here : Position) (text : List ℕ) (p q : Progress) → titled here text p ≡ Ok q → p.reader ≡ q.reader
   unfolding titled
-  titled_same line column text p q e = unless_reader _ _ (now_in inside.Rest p) q e
+  titled_same here text p q e = unless_reader _ _ (now_in inside.Rest p) q e
 
   commented_same : (line : ℕ) (whole bytes : List ℕ) (p q : Progress) → commented line whole bytes p ≡ Ok q → p.reader ≡ q.reader
   commented_same line whole bytes p q e = unless_reader _ _ p q e
 
   -- a statement
-  stated_read : (n : ℕ) (cross : Option Cross) (line column : ℕ) (bytes : List ℕ) (part : Inside) (p q : Progress) → stated cross line column bytes part p ≡ Ok q → R n p.reader → R (n + 1) q.reader
+  stated_read : (n : ℕ) (cross : Option Cross) (spot : Spot) (bytes : List ℕ) (part : Inside) (p q : Progress) → stated cross spot bytes part p ≡ Ok q → R n p.reader → R (n + 1) q.reader
   unfolding stated
-  stated_read n cross line column bytes part p q e read =
-      let b = bound (read_one cross line column bytes p.reader) _ q e in
-      let same : b.0 ≡ q.reader = ok_reader (record { inside = part; begun = p.begun; reader = b.0; waiting = p.waiting }) q b.2 in
-      subst (R (n + 1)) same (one n cross line column bytes p.reader b.0 read b.1)
+  stated_read n cross spot bytes part p q e read =
+      let b = bound (read_one cross spot bytes p.reader) _ q e in
+      let same : b.0 ≡ q.reader = ok_reader (record { start = p.start; inside = part; begun = p.begun; reader = b.0; waiting = p.waiting }) q b.2 in
+      subst (R (n + 1)) same (one n cross spot bytes p.reader b.0 read b.1)
 
-  statement_read : (n : ℕ) (cross : Option Cross) (line column : ℕ) (bytes : List ℕ) (p q : Progress) → statement cross line column bytes p ≡ Ok q → R n p.reader → R (n + 1) q.reader
+  statement_read : (n : ℕ) (cross : Option Cross) (spot : Spot) (bytes : List ℕ) (p q : Progress) → statement cross spot bytes p ≡ Ok q → R n p.reader → R (n + 1) q.reader
   unfolding statement
-  statement_read n cross line column bytes p q e read =
+  statement_read n cross spot bytes p q e read =
       let short = trimmed (take (before (sought.Text marks.Comment) bytes) bytes) in
-      let either = λ (t : Bool). cond t (stated cross line column short inside.Rest p) (stated cross line column bytes p.inside p) in
+      let either = λ (t : Bool). cond t (stated cross spot short inside.Rest p) (stated cross spot bytes p.inside p) in
       by_test (is_commented bytes)
-      (λ comment. stated_read n cross line column short inside.Rest p q (sym (ap either comment) ∙ e) read)
-      (λ plain. stated_read n cross line column bytes p.inside p q (sym (ap either plain) ∙ e) read)
+      (λ comment. stated_read n cross spot short inside.Rest p q (sym (ap either comment) ∙ e) read)
+      (λ plain. stated_read n cross spot bytes p.inside p q (sym (ap either plain) ∙ e) read)
 
   -- a statement, or the first line of one
-  piece_said_read : (n : ℕ) (cross : Option Cross) (line column : ℕ) (rest piece : List ℕ) (p q : Progress) → piece_said cross line column rest piece p ≡ Ok q → R n p.reader → R (n + 1) q.reader
+  piece_said_read : (n : ℕ) (cross : Option Cross) (spot : Spot) (rest piece : List ℕ) (p q : Progress) → piece_said cross spot rest piece p ≡ Ok q → R n p.reader → R (n + 1) q.reader
   unfolding piece_said
-  piece_said_read n cross line column rest piece p q e read =
+  piece_said_read n cross spot rest piece p q e read =
       let own = trimmed piece in
-      let either = λ (t : Bool). cond t (Ok (put_off line column own p)) (statement cross line column own p) in
+      let either = λ (t : Bool). cond t (Ok (put_off spot own p)) (statement cross spot own p) in
       by_test (is_last rest piece && is_unended own)
-      (λ off. kept_on n (n + 1) p.reader q.reader (omega arith) read (ok_reader (put_off line column own p) q (sym (ap either off) ∙ e)))
-      (λ whole. statement_read n cross line column own p q (sym (ap either whole) ∙ e) read)
+      (λ off. kept_on n (n + 1) p.reader q.reader (omega arith) read (ok_reader (put_off spot own p) q (sym (ap either off) ∙ e)))
+      (λ whole. statement_read n cross spot own p q (sym (ap either whole) ∙ e) read)
 
   -- a piece of a line
-  module _ (n : ℕ) (cross : Option Cross) (line : ℕ) (whole : List ℕ) (column : ℕ) (rest piece : List ℕ) (p q : Progress) (read : R n p.reader) where
-    as_read : (o : Option (List ℕ)) → piece_as cross line whole column rest piece p o ≡ Ok q → R (n + 1) q.reader
-    as_read (Some text) e = kept_on n (n + 1) p.reader q.reader (omega arith) read (left_same line whole inside.Description marks.DescriptionEnd text p q e)
+  module _ (n : ℕ) (cross : Option Cross) (whole : List ℕ) (spot : Spot) (rest piece : List ℕ) (p q : Progress) (read : R n p.reader) where
+    as_read : (o : Option (List ℕ)) → piece_as cross whole spot rest piece p o ≡ Ok q → R (n + 1) q.reader
+    as_read (Some text) e = kept_on n (n + 1) p.reader q.reader (omega arith) read (left_same spot.here.line whole inside.Description marks.DescriptionEnd text p q e)
     as_read None e =
-        let either = λ (t : Bool). cond t (Ok (now_in inside.Rest p)) (piece_said cross line column rest piece p) in
+        let either = λ (t : Bool). cond t (Ok (now_in inside.Rest p)) (piece_said cross spot rest piece p) in
         by_test (begin_so rest (mark_text marks.Comment))
         (λ comment. kept_on n (n + 1) p.reader q.reader (omega arith) read (ok_reader (now_in inside.Rest p) q (sym (ap either comment) ∙ e)))
-        (λ other. piece_said_read n cross line column rest piece p q (sym (ap either other) ∙ e) read)
+        (λ other. piece_said_read n cross spot rest piece p q (sym (ap either other) ∙ e) read)
 
-    by_read : (o : Option (List ℕ)) → piece_by cross line whole column rest piece p o ≡ Ok q → R (n + 1) q.reader
-    by_read (Some text) e = kept_on n (n + 1) p.reader q.reader (omega arith) read (titled_same line column text p q e)
+    by_read : (o : Option (List ℕ)) → piece_by cross whole spot rest piece p o ≡ Ok q → R (n + 1) q.reader
+    by_read (Some text) e = kept_on n (n + 1) p.reader q.reader (omega arith) read (titled_same spot.here text p q e)
     by_read None e = as_read (first_fit (patterns.AccBlock ∷ []) rest) e
 
-  piece_read : (n : ℕ) (cross : Option Cross) (line : ℕ) (whole : List ℕ) (column : ℕ) (rest piece : List ℕ) (p q : Progress) → read_piece cross line whole column rest piece p ≡ Ok q → R n p.reader → R (n + 1) q.reader
+  piece_read : (n : ℕ) (cross : Option Cross) (whole : List ℕ) (spot : Spot) (rest piece : List ℕ) (p q : Progress) → read_piece cross whole spot rest piece p ≡ Ok q → R n p.reader → R (n + 1) q.reader
   unfolding read_piece
-  piece_read n cross line whole column rest piece p q e read =
+  piece_read n cross whole spot rest piece p q e read =
       let found = first_fit (patterns.AccTitle ∷ patterns.AccDescr ∷ []) (behind_white rest) in
-      let either = λ (t : Bool). cond t (piece_by cross line whole column (behind_white rest) piece p found) (Ok p) in
+      let either = λ (t : Bool). cond t (piece_by cross whole spot (behind_white rest) piece p found) (Ok p) in
       by_test (goes_on p.inside)
-      (λ on. by_read n cross line whole column (behind_white rest) piece p q read found (sym (ap either on) ∙ e))
+      (λ on. by_read n cross whole spot (behind_white rest) piece p q read found (sym (ap either on) ∙ e))
       (λ over. kept_on n (n + 1) p.reader q.reader (omega arith) read (ok_reader p q (sym (ap either over) ∙ e)))
 
   -- those of a line
@@ -127,9 +146,9 @@ module _ (R : ℕ → Read → Type 0) (wider : (n k : ℕ) (r : Read) → n ≤
   unfolding read_pieces
   pieces_read n cross line bytes at [] p q e read = kept_on n (n + 0) p.reader q.reader (omega arith) read (ok_reader p q e)
   pieces_read n cross line bytes at (x ∷ xs) p q e read =
-      let column : ℕ = column_behind (take (at + front 0 x) bytes) in
-      let b = bound (read_piece cross line bytes column (drop at bytes) x p) (λ q. read_pieces cross line bytes (at + (length x + 1)) xs q) q e in
-      let first = piece_read n cross line bytes column (drop at bytes) x p b.0 b.1 read in
+      let spot : Spot = spot_behind p.start line bytes (at + front 0 x) in
+      let b = bound (read_piece cross bytes spot (drop at bytes) x p) (λ q. read_pieces cross line bytes (at + (length x + 1)) xs q) q e in
+      let first = piece_read n cross bytes spot (drop at bytes) x p b.0 b.1 read in
       let rest = pieces_read (n + 1) cross line bytes (at + (length x + 1)) xs b.0 q b.2 first in
       wider ((n + 1) + length xs) (n + suc (length xs)) q.reader (omega arith) rest
 
@@ -192,7 +211,7 @@ module _ (R : ℕ → Read → Type 0) (wider : (n k : ℕ) (r : Read) → n ≤
   head_as_next n cross line l p q shapes.Directive e read = left_next n l line l inside.Directive marks.DirectiveEnd l p q e read
   head_as_next n cross line l p q shapes.Comment e read = commented_next n l line l l p q e read
   head_as_next n cross line l p q shapes.Head e read =
-      body_next n cross line l (behind_head l) (record { inside = p.inside; begun = true; reader = p.reader; waiting = p.waiting }) q e read
+      body_next n cross line l (behind_head l) (record { start = p.start; inside = p.inside; begun = true; reader = p.reader; waiting = p.waiting }) q e read
   head_as_next n cross line l p q shapes.Other e read = cc
 
   outside_next : (n : ℕ) (cross : Option Cross) (line : ℕ) (l : List ℕ) (p q : Progress) → outside cross line l p ≡ Ok q → R n p.reader → Next n l q.reader
@@ -234,7 +253,7 @@ module _ (R : ℕ → Read → Type 0) (wider : (n k : ℕ) (r : Read) → n ≤
   ended_read n cross line bytes at (x ∷ xs) p q e read =
       let whole : Progress = gone_on (take (at + length x) bytes) p in
       let b = bound (put_off_said cross whole) (λ q. read_pieces cross line bytes (at + (length x + 1)) xs q) q e in
-      let first = stated_read n cross whole.waiting.here.line whole.waiting.here.column (trimmed whole.waiting.bytes) inside.Nothing whole b.0 b.1 read in
+      let first = stated_read n cross whole.waiting.spot (trimmed whole.waiting.bytes) inside.Nothing whole b.0 b.1 read in
       let rest = pieces_read (n + 1) cross line bytes (at + (length x + 1)) xs b.0 q b.2 first in
       wider ((n + 1) + length xs) (n + suc (length xs)) q.reader (omega arith) rest
 
@@ -270,15 +289,15 @@ module _ (R : ℕ → Read → Type 0) (wider : (n k : ℕ) (r : Read) → n ≤
   step_in_next n cross line l p q inside.Description e read = described_next n line l p q (shape_of (trimmed l)) e read
   step_in_next n cross line l p q inside.Configuration e read = configured_next n cross line l p q (shape_of (trimmed l)) e read
 
-  pub steps_read : (cross : Option Cross) (ls : List (List ℕ)) (n line : ℕ) (p q : Progress) → steps cross line ls p ≡ Ok q → R n p.reader → R (n + room ls) q.reader
+  pub steps_read : (cross : Option Cross) (starts : List ℕ) (ls : List (List ℕ)) (n line : ℕ) (p q : Progress) → steps cross starts line ls p ≡ Ok q → R n p.reader → R (n + room ls) q.reader
   unfolding steps step room Next
-  steps_read cross [] n line p q e read =
+  steps_read cross starts [] n line p q e read =
       let same : p.reader ≡ q.reader = ok_reader p q e in
       subst (R (n + 0)) same (wider n (n + 0) p.reader (omega arith) read)
-  steps_read cross (l ∷ ls) n line p q e read =
-      let b = bound (step_in cross line l p p.inside) (λ q. steps cross (line + 1) ls q) q e in
-      let first = step_in_next n cross line l p b.0 p.inside b.1 read in
-      let rest = steps_read cross ls (n + (length l + 1)) (line + 1) b.0 q b.2 first in
+  steps_read cross starts (l ∷ ls) n line p q e read =
+      let b = bound (step_in cross line l (now_at (start_on starts line) p) p.inside) (λ q. steps cross starts (line + 1) ls q) q e in
+      let first = step_in_next n cross line l (now_at (start_on starts line) p) b.0 p.inside b.1 read in
+      let rest = steps_read cross starts ls (n + (length l + 1)) (line + 1) b.0 q b.2 first in
       wider ((n + (length l + 1)) + room ls) (n + (length l + 1 + room ls)) q.reader (omega arith) rest
 
   -- what was told of a text is what was read of it
@@ -300,35 +319,35 @@ module _ (R : ℕ → Read → Type 0) (wider : (n k : ℕ) (r : Read) → n ≤
   ended_is here p inside.Rest d e = told_now here p d e
 
   -- what was read of all lines
-  pub read_all : (cross : Option Cross) (ls : List (List ℕ)) (d : Diagram) → said_in cross ls ≡ Ok d → R 0 untold → (r : Read) × R (0 + room ls) r × (told r ≡ Ok d)
+  pub read_all : (cross : Option Cross) (starts : List ℕ) (ls : List (List ℕ)) (d : Diagram) → said_in cross starts ls ≡ Ok d → R 0 untold → (r : Read) × R (0 + room ls) r × (told r ≡ Ok d)
   unfolding said_in
-  read_all cross ls d e none =
-      let b = bound (steps cross 1 ls unread) (λ p. ended_in (end_of ls) p p.inside) d e in
-      (b.0.reader, steps_read cross ls 0 1 unread b.0 b.1 none, ended_is (end_of ls) b.0 b.0.inside d b.2)
+  read_all cross starts ls d e none =
+      let b = bound (steps cross starts 1 ls unread) (λ p. ended_in (end_of ls) p p.inside) d e in
+      (b.0.reader, steps_read cross starts ls 0 1 unread b.0 b.1 none, ended_is (end_of ls) b.0 b.0.inside d b.2)
 
   -- what was read of parts of lines
-  part_next : (n : ℕ) (markup : Bool) (cross : Option Cross) (s : Stretch) (p q : Progress) → part_step markup cross s p ≡ Ok q → R n p.reader → Next n (blanked s) q.reader
+  part_next : (n : ℕ) (markup : Bool) (cross : Option Cross) (starts : List ℕ) (s : Stretch) (p q : Progress) → part_step markup cross starts s p ≡ Ok q → R n p.reader → Next n (blanked s) q.reader
   unfolding part_step step
-  part_next n markup cross s p q e read = by (markup && has_entity (blanked s) p) e
+  part_next n markup cross starts s p q e read = by (markup && has_entity (blanked s) p) e
     where
-      by : (b : Bool) → ◌≡◌ {A = Result Progress ImportFault} (cond b (Err (Entity (entity_place s))) (step_in cross s.line (blanked s) p p.inside)) (Ok q) → Next n (blanked s) q.reader
+      by : (b : Bool) → ◌≡◌ {A = Result Progress ImportFault} (cond b (Err (Entity (entity_place s))) (step_in cross s.line (blanked s) (now_at (part_start starts s) p) p.inside)) (Ok q) → Next n (blanked s) q.reader
       by true e = cc
-      by false e = step_in_next n cross s.line (blanked s) p q p.inside e read
+      by false e = step_in_next n cross s.line (blanked s) (now_at (part_start starts s) p) q p.inside e read
 
-  steps_of_read : (markup : Bool) (cross : Option Cross) (ss : List Stretch) (n : ℕ) (p q : Progress) → steps_of markup cross ss p ≡ Ok q → R n p.reader → R (n + room (map blanked ss)) q.reader
+  steps_of_read : (markup : Bool) (cross : Option Cross) (starts : List ℕ) (ss : List Stretch) (n : ℕ) (p q : Progress) → steps_of markup cross starts ss p ≡ Ok q → R n p.reader → R (n + room (map blanked ss)) q.reader
   unfolding steps_of room Next
-  steps_of_read markup cross [] n p q e read =
+  steps_of_read markup cross starts [] n p q e read =
       let same : p.reader ≡ q.reader = ok_reader p q e in
       subst (R (n + 0)) same (wider n (n + 0) p.reader (omega arith) read)
-  steps_of_read markup cross (s ∷ ss) n p q e read =
+  steps_of_read markup cross starts (s ∷ ss) n p q e read =
       let l = blanked s in
-      let b = bound (part_step markup cross s p) (λ q. steps_of markup cross ss q) q e in
-      let first = part_next n markup cross s p b.0 b.1 read in
-      let rest = steps_of_read markup cross ss (n + (length l + 1)) b.0 q b.2 first in
+      let b = bound (part_step markup cross starts s p) (λ q. steps_of markup cross starts ss q) q e in
+      let first = part_next n markup cross starts s p b.0 b.1 read in
+      let rest = steps_of_read markup cross starts ss (n + (length l + 1)) b.0 q b.2 first in
       wider ((n + (length l + 1)) + room (map blanked ss)) (n + (length l + 1 + room (map blanked ss))) q.reader (omega arith) rest
 
-  pub read_parts : (markup : Bool) (cross : Option Cross) (last : Position) (ss : List Stretch) (d : Diagram) → said_of markup cross last ss ≡ Ok d → R 0 untold → (r : Read) × R (0 + room (map blanked ss)) r × (told r ≡ Ok d)
+  pub read_parts : (markup : Bool) (cross : Option Cross) (starts : List ℕ) (last : Position) (ss : List Stretch) (d : Diagram) → said_of markup cross starts last ss ≡ Ok d → R 0 untold → (r : Read) × R (0 + room (map blanked ss)) r × (told r ≡ Ok d)
   unfolding said_of
-  read_parts markup cross last ss d e none =
-      let b = bound (steps_of markup cross ss unread) (λ p. ended_in last p p.inside) d e in
-      (b.0.reader, steps_of_read markup cross ss 0 unread b.0 b.1 none, ended_is last b.0 b.0.inside d b.2)
+  read_parts markup cross starts last ss d e none =
+      let b = bound (steps_of markup cross starts ss unread) (λ p. ended_in last p p.inside) d e in
+      (b.0.reader, steps_of_read markup cross starts ss 0 unread b.0 b.1 none, ended_is last b.0 b.0.inside d b.2)

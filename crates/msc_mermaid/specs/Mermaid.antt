@@ -17,6 +17,7 @@ use Rattle.msc_mermaid.specs.declared.progress.Inside.TheVariants as inside
 use Rattle.msc_mermaid.specs.declared.shape.Shape.{Shape}
 use Rattle.msc_mermaid.specs.declared.shape.Shape.TheVariants as shapes
 use Rattle.msc_mermaid.specs.declared.progress.Progress.{Progress}
+use Rattle.msc_mermaid.specs.declared.reading.Spot.{Spot}
 use Rattle.msc_mermaid.specs.declared.seeking.Sought.TheVariants as sought
 use Rattle.msc_mermaid.specs.declared.statement.Cross.{Cross}
 use Rattle.msc_mermaid.specs.declared.statement.Diagram.{Diagram}
@@ -24,7 +25,7 @@ use Rattle.msc_mermaid.specs.Cutting.{cut, leaves_open}
 use Rattle.msc_place.specs.declared.position.Position.{Position}
 use Rattle.msc_mermaid.specs.Gives.{◌>>=◌, unless}
 use Rattle.msc_mermaid.specs.Keys.{begin_so, key_of, mark_text}
-use Rattle.msc_mermaid.specs.Lines.{column_behind, lines_of, position_of}
+use Rattle.msc_mermaid.specs.Lines.{column_behind, further, lines_of, position_of, start_on, starts_of}
 use Rattle.msc_mermaid.specs.Patterns.{first_fit, is_empty}
 use Rattle.msc_mermaid.specs.Reading.{lengthened, none_waiting, read_one, told, untold}
 use Rattle.msc_mermaid.specs.Rows.{first_word}
@@ -48,7 +49,7 @@ shape_of bytes =
 
 -- what was read so far, with this for what the next line stands in
 abbrev pub now_in : Inside → Progress → Progress
-now_in part p = record { inside = part; begun = p.begun; reader = p.reader; waiting = p.waiting }
+now_in part p = record { start = p.start; inside = part; begun = p.begun; reader = p.reader; waiting = p.waiting }
 
 -- what stands behind the first such mark
 abbrev pub behind_end : Mark → List ℕ → List ℕ
@@ -74,10 +75,10 @@ abbrev pub undirected : ℕ → List ℕ → List ℕ → Result (List ℕ) Impo
 undirected line whole bytes =
     unless (not (holds bytes (sought.Text marks.Directive))) (Expected (position_of line whole (drop (before (sought.Text marks.Directive) bytes) bytes)) wanted.Statement) bytes
 
--- a title or a description in one line, which begins in this column: it may not be empty, and takes the rest of the line
-unfoldable pub titled : ℕ → ℕ → List ℕ → Progress → Result Progress ImportFault
-titled line column text p =
-    unless (not (is_empty (trimmed text))) (Expected (record { line = line; column = column }) wanted.Statement) (now_in inside.Rest p)
+-- a title or a description in one line, which begins here: it may not be empty, and takes the rest of the line
+unfoldable pub titled : Position → List ℕ → Progress → Result Progress ImportFault
+titled here text p =
+    unless (not (is_empty (trimmed text))) (Expected here wanted.Statement) (now_in inside.Rest p)
 
 -- a comment may follow these words in their statement
 abbrev pub allows_comment : Option Key → Bool
@@ -90,63 +91,71 @@ abbrev pub is_commented : List ℕ → Bool
 is_commented bytes =
     allows_comment (key_of (first_word bytes)) && holds bytes (sought.Text marks.Comment)
 
--- a statement, which begins in this column, and behind which the next one stands in this part
-unfoldable pub stated : Option Cross → ℕ → ℕ → List ℕ → Inside → Progress → Result Progress ImportFault
-stated cross line column bytes part p = do
-  r ← read_one cross line column bytes p.reader
-  Ok (record { inside = part; begun = p.begun; reader = r; waiting = p.waiting })
+-- a statement, which begins here, and behind which the next one stands in this part
+unfoldable pub stated : Option Cross → Spot → List ℕ → Inside → Progress → Result Progress ImportFault
+stated cross spot bytes part p = do
+  r ← read_one cross spot bytes p.reader
+  Ok (record { start = p.start; inside = part; begun = p.begun; reader = r; waiting = p.waiting })
 
 -- a statement, with a comment or without
-unfoldable pub statement : Option Cross → ℕ → ℕ → List ℕ → Progress → Result Progress ImportFault
-statement cross line column bytes p =
-    cond (is_commented bytes) (stated cross line column (trimmed (take (before (sought.Text marks.Comment) bytes) bytes)) inside.Rest p) (stated cross line column bytes p.inside p)
+unfoldable pub statement : Option Cross → Spot → List ℕ → Progress → Result Progress ImportFault
+statement cross spot bytes p =
+    cond (is_commented bytes) (stated cross spot (trimmed (take (before (sought.Text marks.Comment) bytes) bytes)) inside.Rest p) (stated cross spot bytes p.inside p)
 
 -- nothing stands behind a piece on its line, where the line from it on is rest, without white space in front
 abbrev pub is_last : List ℕ → List ℕ → Bool
 is_last rest piece = nat_eq (length rest) (length (behind_white piece))
 
--- a statement begins in this column that goes on behind its line
-abbrev pub put_off : ℕ → ℕ → List ℕ → Progress → Progress
-put_off line column bytes p = record {
+-- a statement begins here that goes on behind its line
+abbrev pub put_off : Spot → List ℕ → Progress → Progress
+put_off spot bytes p = record {
+  start = p.start;
   inside = inside.Configuration;
   begun = p.begun;
   reader = p.reader;
-  waiting = record { here = record { line = line; column = column }; bytes = bytes };
+  waiting = record { spot = spot; bytes = bytes };
 }
 
 -- a piece of a line that is a statement, or the first line of one whose configuration goes on
-unfoldable pub piece_said : Option Cross → ℕ → ℕ → List ℕ → List ℕ → Progress → Result Progress ImportFault
-piece_said cross line column rest piece p =
-    cond (is_last rest piece && is_unended (trimmed piece)) (Ok (put_off line column (trimmed piece) p)) (statement cross line column (trimmed piece) p)
+unfoldable pub piece_said : Option Cross → Spot → List ℕ → List ℕ → Progress → Result Progress ImportFault
+piece_said cross spot rest piece p =
+    cond (is_last rest piece && is_unended (trimmed piece)) (Ok (put_off spot (trimmed piece) p)) (statement cross spot (trimmed piece) p)
 
 -- a piece of a line of these bytes that is no title: a description, a comment, or a statement
-abbrev pub piece_as : Option Cross → ℕ → List ℕ → ℕ → List ℕ → List ℕ → Progress → Option (List ℕ) → Result Progress ImportFault
-piece_as cross line whole column rest piece p None =
-    cond (begin_so rest (mark_text marks.Comment)) (Ok (now_in inside.Rest p)) (piece_said cross line column rest piece p)
-piece_as cross line whole column rest piece p (Some text) =
-    left_out line whole inside.Description marks.DescriptionEnd text p
+abbrev pub piece_as : Option Cross → List ℕ → Spot → List ℕ → List ℕ → Progress → Option (List ℕ) → Result Progress ImportFault
+piece_as cross whole spot rest piece p None =
+    cond (begin_so rest (mark_text marks.Comment)) (Ok (now_in inside.Rest p)) (piece_said cross spot rest piece p)
+piece_as cross whole spot rest piece p (Some text) =
+    left_out spot.here.line whole inside.Description marks.DescriptionEnd text p
 
 -- a piece of a line, where the line from it on is rest, without white space in front
-abbrev pub piece_by : Option Cross → ℕ → List ℕ → ℕ → List ℕ → List ℕ → Progress → Option (List ℕ) → Result Progress ImportFault
-piece_by cross line whole column rest piece p None =
-    piece_as cross line whole column rest piece p (first_fit (patterns.AccBlock ∷ []) rest)
-piece_by cross line whole column rest piece p (Some text) = titled line column text p
+abbrev pub piece_by : Option Cross → List ℕ → Spot → List ℕ → List ℕ → Progress → Option (List ℕ) → Result Progress ImportFault
+piece_by cross whole spot rest piece p None =
+    piece_as cross whole spot rest piece p (first_fit (patterns.AccBlock ∷ []) rest)
+piece_by cross whole spot rest piece p (Some text) = titled spot.here text p
 
 -- whether the line goes on
 abbrev pub goes_on : Inside → Bool
 goes_on inside.Nothing = true
 goes_on part = false
 
--- the next piece of a line of these bytes
-unfoldable pub read_piece : Option Cross → ℕ → List ℕ → ℕ → List ℕ → List ℕ → Progress → Result Progress ImportFault
-read_piece cross line whole column rest piece p =
-    cond (goes_on p.inside) (piece_by cross line whole column (behind_white rest) piece p (first_fit (patterns.AccTitle ∷ patterns.AccDescr ∷ []) (behind_white rest))) (Ok p)
+-- the next piece of a line of these bytes, which begins here
+unfoldable pub read_piece : Option Cross → List ℕ → Spot → List ℕ → List ℕ → Progress → Result Progress ImportFault
+read_piece cross whole spot rest piece p =
+    cond (goes_on p.inside) (piece_by cross whole spot (behind_white rest) piece p (first_fit (patterns.AccTitle ∷ patterns.AccDescr ∷ []) (behind_white rest))) (Ok p)
+
+-- behind so many bytes of a line, which begins at such a place of the text
+abbrev pub spot_behind : ℕ → ℕ → List ℕ → ℕ → Spot
+spot_behind start line bytes at = record {
+  here = record { line = line; column = column_behind (take at bytes) };
+  first = further start at;
+}
 
 -- the pieces of a line of these bytes, of which the first one begins behind so many of them
 unfoldable pub read_pieces : Option Cross → ℕ → List ℕ → ℕ → List (List ℕ) → Progress → Result Progress ImportFault
 read_pieces cross line bytes at [] p = Ok p
 read_pieces cross line bytes at (x ∷ xs) p =
-    read_piece cross line bytes (column_behind (take (at + front 0 x) bytes)) (drop at bytes) x p >>= (λ q. read_pieces cross line bytes (at + (length x + 1)) xs q)
+    read_piece cross bytes (spot_behind p.start line bytes (at + front 0 x)) (drop at bytes) x p >>= (λ q. read_pieces cross line bytes (at + (length x + 1)) xs q)
 
 -- the statements of a line, behind so many of its bytes
 unfoldable pub said_on : Option Cross → ℕ → List ℕ → ℕ → Progress → Result Progress ImportFault
@@ -178,7 +187,7 @@ head_as cross line bytes p shapes.Directive =
     left_out line bytes inside.Directive marks.DirectiveEnd bytes p
 head_as cross line bytes p shapes.Comment = commented line bytes bytes p
 head_as cross line bytes p shapes.Head =
-    body cross line bytes (behind_head bytes) (record { inside = p.inside; begun = true; reader = p.reader; waiting = p.waiting })
+    body cross line bytes (behind_head bytes) (record { start = p.start; inside = p.inside; begun = true; reader = p.reader; waiting = p.waiting })
 head_as cross line bytes p shapes.Other = Err (Expected (position_of line bytes (behind_white bytes)) wanted.Diagram)
 
 -- a line that is not left out
@@ -208,16 +217,17 @@ described_as line bytes p shapes.Other = do
 -- the statement that is open, with these bytes of a further line
 abbrev pub gone_on : List ℕ → Progress → Progress
 gone_on more p = record {
+  start = p.start;
   inside = p.inside;
   begun = p.begun;
   reader = p.reader;
-  waiting = lengthened more p.waiting;
+  waiting = lengthened p.start more p.waiting;
 }
 
 -- the statement whose configuration was open
 abbrev pub put_off_said : Option Cross → Progress → Result Progress ImportFault
 put_off_said cross p =
-    stated cross p.waiting.here.line p.waiting.here.column (trimmed p.waiting.bytes) inside.Nothing p
+    stated cross p.waiting.spot (trimmed p.waiting.bytes) inside.Nothing p
 
 -- a line in which a configuration ends, behind so many of its bytes, where its pieces from there on are these: the
 -- first is the end of the statement
@@ -259,14 +269,19 @@ step_in cross line bytes p inside.Description =
 step_in cross line bytes p inside.Configuration =
     configured_as cross line bytes p (shape_of (trimmed bytes))
 
--- one line more
-unfoldable pub step : Option Cross → ℕ → List ℕ → Progress → Result Progress ImportFault
-step cross line bytes p = step_in cross line bytes p p.inside
+-- what was read so far, before a line that begins at this place of the text
+abbrev pub now_at : ℕ → Progress → Progress
+now_at start p = record { start = start; inside = p.inside; begun = p.begun; reader = p.reader; waiting = p.waiting }
 
--- these lines, of which the first has this number
-unfoldable pub steps : Option Cross → ℕ → List (List ℕ) → Progress → Result Progress ImportFault
-steps cross line [] p = Ok p
-steps cross line (l ∷ ls) p = step cross line l p >>= (λ q. steps cross (line + 1) ls q)
+-- one line more, which begins at this place of the text
+unfoldable pub step : Option Cross → ℕ → ℕ → List ℕ → Progress → Result Progress ImportFault
+step cross start line bytes p = step_in cross line bytes (now_at start p) p.inside
+
+-- these lines, of which the first has this number, of a text whose lines begin so
+unfoldable pub steps : Option Cross → List ℕ → ℕ → List (List ℕ) → Progress → Result Progress ImportFault
+steps cross starts line [] p = Ok p
+steps cross starts line (l ∷ ls) p =
+    step cross (start_on starts line) line l p >>= (λ q. steps cross starts (line + 1) ls q)
 
 -- what was read of a text that has ended here, where a diagram has begun
 abbrev pub told_of : Position → Progress → Result Diagram ImportFault
@@ -288,19 +303,20 @@ unfoldable pub ended_in : Position → Progress → Inside → Result Diagram Im
 ended_in here p inside.Front = Err (Expected here wanted.Front)
 ended_in here p inside.Directive = Err (Expected here wanted.Directive)
 ended_in here p inside.Description = Err (Expected here wanted.Description)
-ended_in here p inside.Configuration = Err (Expected p.waiting.here wanted.Description)
+ended_in here p inside.Configuration = Err (Expected p.waiting.spot.here wanted.Description)
 ended_in here p inside.Start = told_of here p
 ended_in here p inside.Nothing = told_of here p
 ended_in here p inside.Rest = told_of here p
 
 -- nothing was read
 abbrev pub unread : Progress
-unread = record { inside = inside.Start; begun = false; reader = untold; waiting = none_waiting }
+unread = record { start = 0; inside = inside.Start; begun = false; reader = untold; waiting = none_waiting }
 
--- the diagram of these lines
-unfoldable pub said_in : Option Cross → List (List ℕ) → Result Diagram ImportFault
-said_in cross lines = steps cross 1 lines unread >>= (λ p. ended_in (end_of lines) p p.inside)
+-- the diagram of these lines of a text, which begin so
+unfoldable pub said_in : Option Cross → List ℕ → List (List ℕ) → Result Diagram ImportFault
+said_in cross starts lines =
+    steps cross starts 1 lines unread >>= (λ p. ended_in (end_of lines) p p.inside)
 
 -- the diagram of a text, or its first fault
 unfoldable pub mermaid : Option Cross → List ℕ → Result Diagram ImportFault
-mermaid cross text = cond (nat_lt TEXT_LIMIT (length text)) (Err TooLong) (said_in cross (lines_of text))
+mermaid cross text = cond (nat_lt TEXT_LIMIT (length text)) (Err TooLong) (said_in cross (starts_of text) (lines_of text))

@@ -8,17 +8,20 @@ use Rattle.msc_mermaid.specs.declared.fault.ImportFault.{ImportFault}
 use Rattle.msc_mermaid.specs.declared.fault.ImportFault.TheVariants.{Expected}
 use Rattle.msc_mermaid.specs.declared.key.Mark.{Mark}
 use Rattle.msc_mermaid.specs.declared.key.Mark.TheVariants as marks
+use Rattle.msc_mermaid.specs.declared.declaring.Shown.{Shown}
+use Rattle.msc_mermaid.specs.declared.declaring.Tails.{Tails}
 use Rattle.msc_mermaid.specs.declared.seeking.Sought.TheVariants as sought
 use Rattle.msc_mermaid.specs.declared.statement.Statement.{Statement}
 use Rattle.msc_mermaid.specs.declared.statement.Statement.TheVariants.{Declares}
 use Rattle.msc_place.specs.declared.position.Position.{Position}
 use Rattle.msc_mermaid.specs.Gives.{◌>>=◌, unless}
 use Rattle.msc_mermaid.specs.Keys.{begin_so, mark_text}
+use Rattle.msc_mermaid.specs.Lines.{further}
 use Rattle.msc_mermaid.specs.Cutting.{without_entities}
 use Rattle.msc_mermaid.specs.Patterns.{is_empty}
 use Rattle.msc_mermaid.specs.Rows.{is_dash}
 use Rattle.msc_mermaid.specs.Seeking.{before, holds, is_alias}
-use Rattle.msc_mermaid.specs.White.{behind_white, trimmed}
+use Rattle.msc_mermaid.specs.White.{before_white, behind_white, front, trimmed}
 
 -- a byte that no name has: one of `+<=>:,`. The semicolons of a statement are those of its entities.
 abbrev pub is_barred : ℕ → Bool
@@ -74,9 +77,20 @@ unwrapped here bytes =
 abbrev pub behind_colon : List ℕ → List ℕ
 behind_colon bytes = cond (begin_so bytes (mark_text marks.Colon)) (drop 1 bytes) bytes
 
--- a label or a shown name: without the word on its wrapping, and with blanks for its entities
-abbrev pub shown_text : List ℕ → List ℕ
-shown_text bytes = without_entities (trimmed (unwrapped (behind_colon (behind_white bytes)) bytes))
+-- what stands from a label or a shown name on, without the word on its wrapping
+abbrev pub from_shown : List ℕ → List ℕ
+from_shown bytes = behind_white (unwrapped (behind_colon (behind_white bytes)) bytes)
+
+-- a label or a shown name at the end of a statement: with blanks for its entities
+abbrev pub shown_text : List ℕ → Shown
+shown_text bytes = record {
+  text = without_entities (before_white (from_shown bytes));
+  tail = length (from_shown bytes);
+}
+
+-- how many bytes are left from a name on, which these bytes begin with, behind white space
+abbrev pub name_tail : List ℕ → List ℕ → ℕ
+name_tail bytes name = length bytes - front 0 name
 
 -- a quotation mark
 abbrev pub is_quote : ℕ → Bool
@@ -95,44 +109,61 @@ abbrev pub value_of : List ℕ → List ℕ
 value_of bytes =
     cond (is_quote (get_or bytes 0 0)) (up_to (get_or bytes 0 0) (drop 1 bytes)) (trimmed (up_to 44 bytes))
 
--- the shown name that stands behind `alias` in a configuration: a colon and a value
-abbrev pub value_behind : List ℕ → Option (List ℕ)
-value_behind bytes =
-    cond (begin_so bytes (mark_text marks.Colon)) (Some (without_entities (value_of (behind_white (drop 1 bytes))))) None
+-- how many of these bytes are left from a value on
+abbrev pub value_tail : List ℕ → ℕ
+value_tail bytes =
+    cond (is_quote (get_or bytes 0 0)) (length (drop 1 bytes)) (name_tail bytes (up_to 44 bytes))
 
--- the shown name in a configuration, if there is one
-abbrev pub shown_in : List ℕ → Option (List ℕ)
-shown_in config =
-    cond (holds config (sought.Text marks.Shown)) (value_behind (behind_white (behind_quote (drop 5 (drop (before (sought.Text marks.Shown) config) config))))) None
+-- the shown name of this value, which so many bytes of the statement stand behind
+abbrev pub value_shown : ℕ → List ℕ → Shown
+value_shown behind bytes = record {
+  text = without_entities (value_of bytes);
+  tail = further behind (value_tail bytes);
+}
 
--- a line of this name and shown name
-unfoldable pub line_of : Position → List ℕ → Option (List ℕ) → Result Statement ImportFault
-line_of here ident shown = do
+-- the shown name that stands behind `alias` in a configuration, which so many bytes stand behind: a colon and a value
+abbrev pub value_behind : ℕ → List ℕ → Option Shown
+value_behind behind bytes =
+    cond (begin_so bytes (mark_text marks.Colon)) (Some (value_shown behind (behind_white (drop 1 bytes)))) None
+
+-- the shown name in a configuration, which so many bytes stand behind, if there is one
+abbrev pub shown_in : ℕ → List ℕ → Option Shown
+shown_in behind config =
+    cond (holds config (sought.Text marks.Shown)) (value_behind behind (behind_white (behind_quote (drop 5 (drop (before (sought.Text marks.Shown) config) config))))) None
+
+-- a line of this name and shown name, with the bytes that are left from them on
+abbrev pub declares : List ℕ → ℕ → Option Shown → Statement × Tails
+declares name tail None = (Declares name None, record { name = tail; shown = 0 })
+declares name tail (Some s) = (Declares name (Some s.text), record { name = tail; shown = s.tail })
+
+-- a line of this name, from which so many bytes are left, and shown name
+unfoldable pub line_of : Position → List ℕ → ℕ → Option Shown → Result (Statement × Tails) ImportFault
+line_of here ident tail shown = do
   name ← name_at here ident
-  Ok (Declares name shown)
+  Ok (declares name tail shown)
 
 -- what stands before a mark, and what stands behind it
 unfoldable pub parted : Position → Mark → Expectation → List ℕ → Result (List ℕ × List ℕ) ImportFault
 parted here m expected bytes =
     unless (holds bytes (sought.Text m)) (Expected here expected) (take (before (sought.Text m) bytes) bytes, drop (length (mark_text m)) (drop (before (sought.Text m) bytes) bytes))
 
--- the shown name of a line with this configuration, which this stands behind: behind `as`, or else in it
-unfoldable pub shown_behind : Position → List ℕ → List ℕ → Result (Option (List ℕ)) ImportFault
-shown_behind here config bytes =
-    cond (is_empty bytes) (Ok (shown_in config)) (unless (is_alias bytes) (Expected here wanted.StatementEnd) (Some (shown_text (drop 2 bytes))))
+-- the shown name of a line with this configuration, with its end, which this stands behind: behind `as`, or else in it
+unfoldable pub shown_behind : Position → ℕ → List ℕ → List ℕ → Result (Option Shown) ImportFault
+shown_behind here behind config bytes =
+    cond (is_empty bytes) (Ok (shown_in behind config)) (unless (is_alias bytes) (Expected here wanted.StatementEnd) (Some (shown_text (drop 2 bytes))))
 
--- a line of this name, with the configuration that begins here
-unfoldable pub configured : Position → List ℕ → List ℕ → Result Statement ImportFault
-configured here ident bytes = do
+-- a line of this name, from which so many bytes are left, with the configuration that begins here
+unfoldable pub configured : Position → List ℕ → ℕ → List ℕ → Result (Statement × Tails) ImportFault
+configured here ident tail bytes = do
   name ← name_at here ident
   parts ← parted here marks.DescriptionEnd wanted.Description bytes
-  shown ← shown_behind here parts.0 (behind_white parts.1)
-  Ok (Declares name shown)
+  shown ← shown_behind here (length bytes - length parts.0) parts.0 (behind_white parts.1)
+  Ok (declares name tail shown)
 
 -- a line without a configuration
-unfoldable pub plain : Position → List ℕ → Result Statement ImportFault
+unfoldable pub plain : Position → List ℕ → Result (Statement × Tails) ImportFault
 plain here bytes =
-    cond (holds bytes sought.Alias) (line_of here (take (before sought.Alias bytes) bytes) (Some (shown_text (drop 2 (behind_white (drop (before sought.Alias bytes) bytes)))))) (line_of here bytes None)
+    cond (holds bytes sought.Alias) (line_of here (take (before sought.Alias bytes) bytes) (name_tail bytes (take (before sought.Alias bytes) bytes)) (Some (shown_text (drop 2 (behind_white (drop (before sought.Alias bytes) bytes)))))) (line_of here bytes (name_tail bytes bytes) None)
 
 -- the line that is declared here has a name, and a configuration without an end
 abbrev pub leaves_config : List ℕ → Bool
@@ -140,6 +171,6 @@ leaves_config bytes =
     nat_lt (before (sought.Text marks.Config) bytes) (before sought.Alias bytes) && is_name (trimmed (take (before (sought.Text marks.Config) bytes) bytes)) && not (holds (drop 2 (drop (before (sought.Text marks.Config) bytes) bytes)) (sought.Text marks.DescriptionEnd))
 
 -- the line that is declared
-unfoldable pub declared : Position → List ℕ → Result Statement ImportFault
+unfoldable pub declared : Position → List ℕ → Result (Statement × Tails) ImportFault
 declared here bytes =
-    cond (nat_lt (before (sought.Text marks.Config) bytes) (before sought.Alias bytes)) (configured here (take (before (sought.Text marks.Config) bytes) bytes) (drop 2 (drop (before (sought.Text marks.Config) bytes) bytes))) (plain here bytes)
+    cond (nat_lt (before (sought.Text marks.Config) bytes) (before sought.Alias bytes)) (configured here (take (before (sought.Text marks.Config) bytes) bytes) (name_tail bytes (take (before (sought.Text marks.Config) bytes) bytes)) (drop 2 (drop (before (sought.Text marks.Config) bytes) bytes))) (plain here bytes)

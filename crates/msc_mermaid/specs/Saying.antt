@@ -10,6 +10,7 @@ use Rattle.msc_mermaid.specs.declared.head.Head.{Head}
 use Rattle.msc_mermaid.specs.declared.key.Mark.TheVariants as marks
 use Rattle.msc_mermaid.specs.declared.row.Meaning.{Meaning}
 use Rattle.msc_mermaid.specs.declared.row.Meaning.TheVariants as says
+use Rattle.msc_mermaid.specs.declared.declaring.Tails.{Tails}
 use Rattle.msc_mermaid.specs.declared.saying.Said.{Said}
 use Rattle.msc_mermaid.specs.declared.saying.Said.TheVariants as said
 use Rattle.msc_mermaid.specs.declared.seeking.Sought.TheVariants as sought
@@ -22,7 +23,7 @@ use Rattle.msc_mermaid.specs.declared.statement.Statement.TheVariants.{Says, Beg
 use Rattle.msc_place.specs.declared.position.Position.{Position}
 use Rattle.msc_mermaid.specs.Gives.{◌>>=◌, unless}
 use Rattle.msc_mermaid.specs.Keys.{begin_so, head_of, head_text, is_crossed, is_double, is_leftward, mark_text}
-use Rattle.msc_mermaid.specs.Names.{declared, leaves_config, name_at, parted, sender, shown_text}
+use Rattle.msc_mermaid.specs.Names.{declared, leaves_config, name_at, name_tail, parted, sender, shown_text}
 use Rattle.msc_mermaid.specs.Rows.{is_dash, meaning_of}
 use Rattle.msc_mermaid.specs.Seeking.{before}
 use Rattle.msc_mermaid.specs.White.{behind_white}
@@ -56,26 +57,31 @@ unfoldable pub fate_of : Option Cross → List (List ℕ) → Head → List ℕ 
 fate_of cross dying head from to =
     cond (is_crossed head && not (dies dying from to)) (cross_fate cross from to) fates.Arrives
 
--- the arrow of these parts: what stands before its head, and what stands behind
-unfoldable pub arrow_by : Option Cross → List (List ℕ) → Position → Head → List ℕ → List ℕ → Result Arrow ImportFault
+-- the arrow of these parts, what stands before its head and what stands behind, with the bytes that are left from its
+-- receiver and from its label on
+unfoldable pub arrow_by : Option Cross → List (List ℕ) → Position → Head → List ℕ → List ℕ → Result (Arrow × Tails) ImportFault
 arrow_by cross dying here head front rest = do
   right ← unless (not (is_leftward head)) (Unsupported here head) rest
   from ← sender here front
   behind ← no_second here (behind_white right)
   parts ← parted here marks.Colon wanted.Label (behind_sign behind)
   to ← name_at here parts.0
-  Ok (record { from = from; to = to; label = shown_text parts.1; fate = fate_of cross dying head from to; both = is_double head })
+  Ok (record { from = from; to = to; label = (shown_text parts.1).text; fate = fate_of cross dying head from to; both = is_double head }, record { name = name_tail (behind_sign behind) parts.0; shown = (shown_text parts.1).tail })
 
 -- the arrow of a statement in which this head is the first, behind so many bytes
-abbrev pub arrow_with : Option Cross → List (List ℕ) → Position → List ℕ → ℕ → Option Head → Result Arrow ImportFault
+abbrev pub arrow_with : Option Cross → List (List ℕ) → Position → List ℕ → ℕ → Option Head → Result (Arrow × Tails) ImportFault
 arrow_with cross dying here bytes at None = Err (Expected here wanted.Statement)
 arrow_with cross dying here bytes at (Some head) =
     arrow_by cross dying here head (take at bytes) (drop (at + length (head_text head)) bytes)
 
 -- the arrow of a statement
-unfoldable pub arrow_of : Option Cross → List (List ℕ) → Position → List ℕ → Result Arrow ImportFault
+unfoldable pub arrow_of : Option Cross → List (List ℕ) → Position → List ℕ → Result (Arrow × Tails) ImportFault
 arrow_of cross dying here bytes =
     arrow_with cross dying here bytes (before sought.Arrow bytes) (head_of (drop (before sought.Arrow bytes) bytes))
+
+-- a statement that names no line and that people read nothing of
+abbrev pub no_tails : Tails
+no_tails = record { name = 0; shown = 0 }
 
 -- what a statement says that has this meaning, with what stands behind its pattern
 unfoldable pub said_as : Option Cross → List (List ℕ) → Position → List ℕ → Meaning → List ℕ → Result Said ImportFault
@@ -83,12 +89,12 @@ said_as cross dying here bytes says.Nothing rest = Ok said.Nothing
 said_as cross dying here bytes says.Refused rest = Err (Expected here wanted.Statement)
 said_as cross dying here bytes says.Declaration rest = do
   s ← declared here rest
-  Ok (said.Statement s)
+  Ok (said.Statement s.0 s.1)
 said_as cross dying here bytes says.Destruction rest = do
   name ← name_at here rest
   Ok (said.Dies name)
-said_as cross dying here bytes (says.Begin kind) rest = Ok (said.Statement (Begins kind))
-said_as cross dying here bytes (says.Close closer) rest = Ok (said.Statement (Closes closer))
+said_as cross dying here bytes (says.Begin kind) rest = Ok (said.Statement (Begins kind) no_tails)
+said_as cross dying here bytes (says.Close closer) rest = Ok (said.Statement (Closes closer) no_tails)
 said_as cross dying here bytes says.Activation rest = do
   name ← name_at here rest
   Ok said.Nothing
@@ -98,7 +104,7 @@ said_as cross dying here bytes says.Links rest = do
   Ok said.Nothing
 said_as cross dying here bytes says.Arrow rest = do
   arrow ← arrow_of cross dying here bytes
-  Ok (said.Statement (Says arrow))
+  Ok (said.Statement (Says arrow.0) arrow.1)
 
 -- what a statement says, behind some that say which lines end
 unfoldable pub said_at : Option Cross → List (List ℕ) → Position → List ℕ → Result Said ImportFault

@@ -4,19 +4,43 @@ ghost use Rattle.std.specs.Prelude.{◌≡◌, ◌≤◌, ◌==◌, drop, get_or
 ghost use Rattle.std.specs.List.{prefix_len};
 ghost use Rattle.msc_mermaid.specs.Gives.{Gives};
 ghost use Rattle.msc_mermaid.specs.Names.{behind_colon, behind_quote, configured, declared};
-ghost use Rattle.msc_mermaid.specs.Names.{is_quote, line_of, plain, shown_behind, shown_in};
-ghost use Rattle.msc_mermaid.specs.Names.{shown_text, unwrapped, up_to, value_behind, value_of};
+ghost use Rattle.msc_mermaid.specs.Names.{declares, from_shown, is_quote, line_of, name_tail, plain};
+ghost use Rattle.msc_mermaid.specs.Names.{shown_behind, shown_in, shown_text, unwrapped, up_to};
+ghost use Rattle.msc_mermaid.specs.Names.{value_behind, value_of, value_shown, value_tail};
 
 use crate::cutting::without_entities;
 use crate::fault::{Expectation, ImportFault};
 use crate::key::Mark;
+use crate::lines::further;
 use crate::name::{name_at, owned, parted};
 use crate::seeking::{Sought, holds, is_alias};
 use crate::statement::Statement;
-use crate::white::{behind_white, trimmed};
+use crate::white::{before_white, behind_white, trimmed, white_in_front};
 use listed::Listed;
 use msc_place::Position;
 use std::alloc::{AllocError, Global};
+
+/// How many bytes of a statement are left from what it names or declares on, and from the label of its
+/// arrow or the shown name of its line on.
+#[derive(Clone, Copy)]
+pub(crate) struct Tails {
+    pub name: usize,
+    pub shown: usize,
+}
+
+/// A label or a shown name, and how many bytes of its statement are left from it on.
+#[derive(Drop)]
+pub(crate) struct Shown {
+    pub text: Listed<u8>,
+    pub tail: usize,
+}
+
+/// How many bytes are left from a name on, which these bytes begin with, behind white space.
+pub(crate) fn name_tail(bytes: &[u8], name: &[u8]) -> usize
+    ensures { result ≡ name_tail bytes.now name.now }
+{
+    bytes.len().saturating_sub(white_in_front(name))
+}
 
 /// The bytes behind a colon, if one stands here.
 fn behind_colon(bytes: &[u8]) -> &[u8]
@@ -42,14 +66,23 @@ fn unwrapped<'t>(here: &'t [u8], bytes: &'t [u8]) -> &'t [u8]
     bytes
 }
 
-/// A label or a shown name: without the word on its wrapping, and with blanks for its entities.
-pub(crate) fn shown_text(alloc: Global, bytes: &[u8]) -> Result<Listed<u8>, AllocError>
-    ensures { IfOk result (λ l. l ≡ shown_text bytes.now) }
+/// What stands from a label or a shown name on, without the word on its wrapping.
+fn from_shown(bytes: &[u8]) -> &[u8]
+    ensures { result.now ≡ from_shown bytes.now }
 {
-    without_entities(
-        alloc,
-        trimmed(unwrapped(behind_colon(behind_white(bytes)), bytes)),
-    )
+    behind_white(unwrapped(behind_colon(behind_white(bytes)), bytes))
+}
+
+/// A label or a shown name at the end of a statement: without the word on its wrapping, and with
+/// blanks for its entities.
+pub(crate) fn shown_text(alloc: Global, bytes: &[u8]) -> Result<Shown, AllocError>
+    ensures { IfOk result (λ s. s ≡ shown_text bytes.now) }
+{
+    let rest = from_shown(bytes);
+    Ok(Shown {
+        text: without_entities(alloc, before_white(rest))?,
+        tail: rest.len(),
+    })
 }
 
 /// The byte that stands here, and 0 behind the end.
@@ -117,56 +150,103 @@ fn value_of(bytes: &[u8]) -> &[u8]
     }
 }
 
-/// The shown name that stands behind `alias` in a configuration: a colon and a value.
-fn value_behind(alloc: Global, bytes: &[u8]) -> Result<Option<Listed<u8>>, AllocError>
-    ensures { IfOk result (λ o. o ≡ value_behind bytes.now) }
+/// How many of these bytes are left from a value on.
+fn value_tail(bytes: &[u8]) -> usize
+    ensures { result ≡ value_tail bytes.now }
+{
+    if is_quote(first(bytes)) {
+        behind_first(bytes).len()
+    } else {
+        name_tail(bytes, up_to(b',', bytes))
+    }
+}
+
+/// The shown name of this value, which so many bytes of the statement stand behind.
+fn value_shown(alloc: Global, behind: usize, bytes: &[u8]) -> Result<Shown, AllocError>
+    ensures { IfOk result (λ s. s ≡ value_shown behind bytes.now) }
+{
+    Ok(Shown {
+        text: without_entities(alloc, value_of(bytes))?,
+        tail: further(behind, value_tail(bytes)),
+    })
+}
+
+/// The shown name that stands behind `alias` in a configuration, which so many bytes of the statement
+/// stand behind: a colon and a value.
+fn value_behind(alloc: Global, behind: usize, bytes: &[u8]) -> Result<Option<Shown>, AllocError>
+    ensures { IfOk result (λ o. o ≡ value_behind behind bytes.now) }
 {
     if !Mark::Colon.begins(bytes) {
         return Ok(None);
     }
-    let value = without_entities(alloc, value_of(behind_white(&bytes[1..])))?;
+    let value = value_shown(alloc, behind, behind_white(&bytes[1..]))?;
     Ok(Some(value))
 }
 
-/// The shown name in a configuration, if there is one.
-fn shown_in(alloc: Global, config: &[u8]) -> Result<Option<Listed<u8>>, AllocError>
-    ensures { IfOk result (λ o. o ≡ shown_in config.now) }
+/// The shown name in a configuration, which so many bytes of the statement stand behind, if there is
+/// one.
+fn shown_in(alloc: Global, behind: usize, config: &[u8]) -> Result<Option<Shown>, AllocError>
+    ensures { IfOk result (λ o. o ≡ shown_in behind config.now) }
 {
     let at = Sought::Text(Mark::Shown).before(config);
     if at == config.len() {
         return Ok(None);
     }
     let rest = Mark::Shown.behind(&config[at..]);
-    value_behind(alloc, behind_white(behind_quote(rest)))
+    value_behind(alloc, behind, behind_white(behind_quote(rest)))
 }
 
-/// A line of this name and shown name.
+/// A line of this name and shown name, with the bytes of its statement that are left from them on.
+fn declares(name: Listed<u8>, tail: usize, shown: Option<Shown>) -> (Statement, Tails)
+    ensures { result ≡ declares name tail shown }
+{
+    match shown {
+        None => (
+            Statement::Declares(name, None),
+            Tails {
+                name: tail,
+                shown: 0,
+            },
+        ),
+        Some(shown) => (
+            Statement::Declares(name, Some(shown.text)),
+            Tails {
+                name: tail,
+                shown: shown.tail,
+            },
+        ),
+    }
+}
+
+/// A line of this name, from which so many bytes are left, and shown name.
 #[tactic(auto, unfolding(crate::specs::Names::line_of))]
 fn line_of(
     alloc: Global,
     here: Position,
     ident: &[u8],
-    shown: Option<Listed<u8>>,
-) -> Result<Statement, ImportFault>
-    ensures { Gives (λ x. x) result (line_of here ident.now shown) }
+    tail: usize,
+    shown: Option<Shown>,
+) -> Result<(Statement, Tails), ImportFault>
+    ensures { Gives (λ x. x) result (line_of here ident.now tail shown) }
 {
     let name = name_at(here, ident)?;
-    Ok(Statement::Declares(owned(alloc, name)?, shown))
+    Ok(declares(owned(alloc, name)?, tail, shown))
 }
 
-/// The shown name of a line with this configuration, which this stands behind: behind `as`, or else
-/// in it.
+/// The shown name of a line with this configuration, with whose end so many bytes of the statement
+/// begin, and which this stands behind: behind `as`, or else in it.
 #[tactic(auto, unfolding(crate::specs::Names::shown_behind))]
 fn shown_behind(
     alloc: Global,
     here: Position,
+    behind: usize,
     config: &[u8],
     bytes: &[u8],
-) -> Result<Option<Listed<u8>>, ImportFault>
-    ensures { Gives (λ x. x) result (shown_behind here config.now bytes.now) }
+) -> Result<Option<Shown>, ImportFault>
+    ensures { Gives (λ x. x) result (shown_behind here behind config.now bytes.now) }
 {
     if bytes.is_empty() {
-        return Ok(shown_in(alloc, config)?);
+        return Ok(shown_in(alloc, behind, config)?);
     }
     if !is_alias(bytes) {
         return Err(ImportFault::Expected(here, Expectation::StatementEnd));
@@ -175,33 +255,36 @@ fn shown_behind(
     Ok(Some(shown))
 }
 
-/// A line of this name, with the configuration that begins here.
+/// A line of this name, from which so many bytes are left, with the configuration that begins here.
 #[tactic(auto, unfolding(crate::specs::Names::configured))]
 fn configured(
     alloc: Global,
     here: Position,
     ident: &[u8],
+    tail: usize,
     bytes: &[u8],
-) -> Result<Statement, ImportFault>
-    ensures { Gives (λ x. x) result (configured here ident.now bytes.now) }
+) -> Result<(Statement, Tails), ImportFault>
+    ensures { Gives (λ x. x) result (configured here ident.now tail bytes.now) }
 {
     let name = name_at(here, ident)?;
     let parts = parted(here, Mark::DescriptionEnd, Expectation::Description, bytes)?;
-    let shown = shown_behind(alloc, here, parts.0, behind_white(parts.1))?;
-    Ok(Statement::Declares(owned(alloc, name)?, shown))
+    let behind = bytes.len().saturating_sub(parts.0.len());
+    let shown = shown_behind(alloc, here, behind, parts.0, behind_white(parts.1))?;
+    Ok(declares(owned(alloc, name)?, tail, shown))
 }
 
 /// A line without a configuration.
 #[tactic(auto, unfolding(crate::specs::Names::plain))]
-fn plain(alloc: Global, here: Position, bytes: &[u8]) -> Result<Statement, ImportFault>
+fn plain(alloc: Global, here: Position, bytes: &[u8]) -> Result<(Statement, Tails), ImportFault>
     ensures { Gives (λ x. x) result (plain here bytes.now) }
 {
     let at = Sought::Alias.before(bytes);
     if at == bytes.len() {
-        return line_of(alloc, here, bytes, None);
+        return line_of(alloc, here, bytes, name_tail(bytes, bytes), None);
     }
+    let ident = &bytes[..at];
     let shown = shown_text(alloc, Mark::As.behind(behind_white(&bytes[at..])))?;
-    line_of(alloc, here, &bytes[..at], Some(shown))
+    line_of(alloc, here, ident, name_tail(bytes, ident), Some(shown))
 }
 
 /// The line that is declared.
@@ -210,12 +293,14 @@ pub(crate) fn declared(
     alloc: Global,
     here: Position,
     bytes: &[u8],
-) -> Result<Statement, ImportFault>
+) -> Result<(Statement, Tails), ImportFault>
     ensures { Gives (λ x. x) result (declared here bytes.now) }
 {
     let at = Sought::Text(Mark::Config).before(bytes);
     if at < Sought::Alias.before(bytes) {
-        configured(alloc, here, &bytes[..at], Mark::Config.behind(&bytes[at..]))
+        let ident = &bytes[..at];
+        let config = Mark::Config.behind(&bytes[at..]);
+        configured(alloc, here, ident, name_tail(bytes, ident), config)
     } else {
         plain(alloc, here, bytes)
     }

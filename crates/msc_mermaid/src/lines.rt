@@ -1,8 +1,8 @@
 //! The lines of a text and its columns.
 
 ghost use Rattle.std.specs.Prelude.{◌≡◌, ◌≤◌, false, count_by, map, length, IfOk};
-ghost use Rattle.msc_mermaid.specs.Lines.{behind_mark, is_counted, lines_behind, lines_of};
-ghost use Rattle.msc_mermaid.specs.Lines.{position_of};
+ghost use Rattle.msc_mermaid.specs.Lines.{behind_mark, further, is_counted, lines_behind, lines_of};
+ghost use Rattle.msc_mermaid.specs.Lines.{position_of, start_on, starts_behind, starts_of};
 
 use msc_place::Position;
 use std::alloc::{AllocError, Global};
@@ -43,6 +43,54 @@ pub fn lines_of(alloc: Global, text: &[u8]) -> Result<Vec<&[u8]>, AllocError>
     ensures { IfOk result (λ v. map (λ x. x.now) v.items ≡ lines_of text.now) }
 {
     lines_behind(alloc, behind_mark(text))
+}
+
+/// Where the lines of a text begin that stands behind so many bytes of another one.
+fn starts_behind(alloc: Global, before: usize, text: &[u8]) -> Result<Vec<usize>, AllocError>
+    requires { before ≤ 3 }
+    ensures { IfOk result (λ v. v.items ≡ starts_behind before false text.now) }
+{
+    let mut starts = Vec::new(alloc);
+    let mut start = before;
+    let mut cr = false;
+    for i in 0..text.len() {
+        let byte = text[i];
+        let next = before + i + 1;
+        if byte == b'\n' && cr {
+            start = next;
+        } else if byte == b'\n' || byte == b'\r' {
+            starts.push(start)?;
+            start = next;
+        }
+        cr = byte == b'\r';
+    }
+    starts.push(start)?;
+    Ok(starts)
+}
+
+/// Where the lines of a text begin: how many bytes of it stand before each. The only error is want of
+/// memory.
+pub fn starts_of(alloc: Global, text: &[u8]) -> Result<Vec<usize>, AllocError>
+    ensures { IfOk result (λ v. v.items ≡ starts_of text.now) }
+{
+    let rest = behind_mark(text);
+    starts_behind(alloc, text.len().saturating_sub(rest.len()), rest)
+}
+
+/// Where the line of a number begins, from 1.
+pub(crate) fn start_on(starts: &[usize], line: usize) -> usize
+    ensures { result ≡ start_on starts.now line }
+{
+    let at = line.saturating_sub(1);
+    if at < starts.len() { starts[at] } else { 0 }
+}
+
+/// A place in a text, so many bytes further on.
+#[tactic(auto, unfolding(crate::specs::Lines::further))]
+pub(crate) fn further(place: usize, count: usize) -> usize
+    ensures { result ≡ further place count }
+{
+    place.saturating_add(count)
 }
 
 /// How many of the bytes are counted in columns: those that aren't continuation bytes of UTF-8.

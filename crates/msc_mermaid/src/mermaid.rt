@@ -11,7 +11,7 @@ ghost use Rattle.msc_mermaid.specs.White.{trimmed};
 
 use crate::fault::{Expectation, ImportFault};
 use crate::key::Mark;
-use crate::lines::{Row, lines_of};
+use crate::lines::{Row, lines_of, start_on, starts_of};
 use crate::progress::{Inside, Progress};
 use crate::reading::Reader;
 use crate::shape::{Shape, closed, is_front, shape_of, undirected};
@@ -147,17 +147,19 @@ impl Progress {
         }
     }
 
-    /// Reads one line more.
+    /// Reads one line more, which begins at this place of the text.
     #[tactic(auto, unfolding(crate::specs::Mermaid::step, crate::specs::Mermaid::step_in))]
     pub(crate) fn step(
         &mut self,
         alloc: Global,
         cross: Option<Cross>,
+        start: usize,
         line: usize,
         bytes: &[u8],
     ) -> Result<(), ImportFault>
-        ensures { Leaves result self.new (step cross line bytes.now self.old) }
+        ensures { Leaves result self.new (step cross start line bytes.now self.old) }
     {
+        self.start = start;
         match self.inside {
             Inside::Start => self.first_line(alloc, cross, line, bytes),
             Inside::Nothing => self.outside(alloc, cross, line, bytes),
@@ -180,17 +182,20 @@ impl Progress {
         }
     }
 
-    /// Reads these lines, from the first one on.
+    /// Reads these lines, from the first one on, of a text whose lines begin so.
     fn steps(
         &mut self,
         alloc: Global,
         cross: Option<Cross>,
+        starts: &[usize],
         lines: &[&[u8]],
     ) -> Result<(), ImportFault>
-        ensures { Leaves result self.new (steps cross 1 (map (λ x. x.now) lines.now) self.old) }
+        ensures { Leaves result self.new
+            (steps cross starts.now 1 (map (λ x. x.now) lines.now) self.old) }
     {
         for i in 0..lines.len() {
-            self.step(alloc, cross, i + 1, lines[i])?;
+            let start = start_on(starts, i + 1);
+            self.step(alloc, cross, start, i + 1, lines[i])?;
         }
         Ok(())
     }
@@ -201,6 +206,7 @@ impl Progress {
         ensures { Gives (λ x. x) result (ended_in here self self.inside) }
     {
         let Progress {
+            start: _,
             inside,
             begun,
             reader,
@@ -211,7 +217,7 @@ impl Progress {
             Inside::Directive => Err(ImportFault::Expected(here, Expectation::Directive)),
             Inside::Description => Err(ImportFault::Expected(here, Expectation::Description)),
             Inside::Configuration => {
-                Err(ImportFault::Expected(waiting.here, Expectation::Description))
+                Err(ImportFault::Expected(waiting.spot.here, Expectation::Description))
             }
             _ if begun => reader.finish(),
             _ => Err(ImportFault::Expected(here, Expectation::Diagram)),
@@ -248,18 +254,24 @@ pub fn beginning_of(lines: &[&[u8]]) -> Position
     end_of(lines)
 }
 
-/// The diagram of these lines.
+/// The diagram of these lines of a text, which begin so.
 #[tactic(auto, unfolding(crate::specs::Mermaid::said_in))]
-fn said_in(alloc: Global, cross: Option<Cross>, lines: &[&[u8]]) -> Result<Diagram, ImportFault>
-    ensures { Gives (λ x. x) result (said_in cross (map (λ x. x.now) lines.now)) }
+fn said_in(
+    alloc: Global,
+    cross: Option<Cross>,
+    starts: &[usize],
+    lines: &[&[u8]],
+) -> Result<Diagram, ImportFault>
+    ensures { Gives (λ x. x) result (said_in cross starts.now (map (λ x. x.now) lines.now)) }
 {
     let mut progress = Progress {
+        start: 0,
         inside: Inside::Start,
         begun: false,
         reader: Reader::new(alloc),
         waiting: Waiting::new(alloc),
     };
-    progress.steps(alloc, cross, lines)?;
+    progress.steps(alloc, cross, starts, lines)?;
     progress.ended(end_of(lines))
 }
 
@@ -272,6 +284,7 @@ pub fn diagram_of(alloc: Global, cross: Option<Cross>, text: &[u8]) -> Result<Di
     if text.len() > TEXT_LIMIT {
         return Err(ImportFault::TooLong);
     }
+    let starts = starts_of(alloc, text)?;
     let lines = lines_of(alloc, text)?;
-    said_in(alloc, cross, lines.as_slice())
+    said_in(alloc, cross, starts.as_slice(), lines.as_slice())
 }

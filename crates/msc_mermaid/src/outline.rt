@@ -3,12 +3,13 @@
 ghost use Rattle.std.specs.Prelude.{◌≡◌};
 ghost use Rattle.msc_mermaid.specs.Gives.{Gives};
 ghost use Rattle.msc_mermaid.specs.Outlines.{blank, finished, innermost, is_known, laid, meets, suits};
-ghost use Rattle.msc_mermaid.specs.Outlines.{suits_last};
+ghost use Rattle.msc_mermaid.specs.Outlines.{span_of, suits_last};
 ghost use Rattle.msc_mermaid.specs.Reading.{Leaves};
 
 use crate::fault::ImportFault;
+use crate::lines::further;
 use crate::row::{Closer, Kind};
-use crate::statement::Statement;
+use crate::statement::{Span, Statement};
 use crate::{DEPTH_LIMIT, LINE_LIMIT};
 use listed::Listed;
 use msc_place::Position;
@@ -22,11 +23,12 @@ pub(crate) struct Opened {
     pub start: Position,
 }
 
-/// The lines in the order in which they are declared or used first, and the blocks that are open,
-/// the innermost one last.
+/// The lines in the order in which they are declared or used first, where in the text each of them is
+/// named first, and the blocks that are open, the innermost one last.
 #[derive(Drop)]
 pub(crate) struct Outline {
     lines: Vec<Listed<u8>>,
+    names: Vec<Span>,
     opened: Vec<Opened>,
 }
 
@@ -35,7 +37,18 @@ impl Model for Outline {
 
     ghost Value = { Laid };
 
-    ghost view = { λ o. record { lines = o.lines.items; opened = o.opened.items } };
+    ghost view = { λ o.
+        record { lines = o.lines.items; names = o.names.items; opened = o.opened.items } };
+}
+
+/// So many bytes of a text, from one on.
+pub(crate) fn span_of(first: usize, count: usize) -> Span
+    ensures { result ≡ span_of first count }
+{
+    Span {
+        first,
+        past: further(first, count),
+    }
 }
 
 /// Whether the line is there.
@@ -77,14 +90,21 @@ impl Outline {
     {
         Outline {
             lines: Vec::new(alloc),
+            names: Vec::new(alloc),
             opened: Vec::new(alloc),
         }
     }
 
-    /// Meets a line, which a statement here names.
+    /// Meets a line, which a statement here names from this byte of the text on.
     #[tactic(auto, unfolding(crate::specs::Outlines::meets, crate::specs::Outlines::met))]
-    fn meet(&mut self, alloc: Global, here: Position, ident: &[u8]) -> Result<(), ImportFault>
-        ensures { Leaves result self.new (meets here ident.now self.old) }
+    fn meet(
+        &mut self,
+        alloc: Global,
+        here: Position,
+        ident: &[u8],
+        first: usize,
+    ) -> Result<(), ImportFault>
+        ensures { Leaves result self.new (meets here ident.now first self.old) }
     {
         if is_known(self.lines.as_slice(), ident) {
             return Ok(());
@@ -92,15 +112,17 @@ impl Outline {
         if self.lines.len() >= LINE_LIMIT {
             return Err(ImportFault::TooManyLines(here));
         }
+        let name = span_of(first, ident.len());
         let ident = Listed::from_vec(Vec::from_slice(alloc, ident)?);
         self.lines.push(ident)?;
+        self.names.push(name)?;
         Ok(())
     }
 
     /// Begins a block.
     #[tactic(auto, unfolding(crate::specs::Outlines::laid))]
     fn begin(&mut self, here: Position, kind: Kind) -> Result<(), ImportFault>
-        ensures { Leaves result self.new (laid here (Statement.Begins kind) self.old) }
+        ensures { Leaves result self.new (laid here 0 0 (Statement.Begins kind) self.old) }
     {
         if self.opened.len() >= DEPTH_LIMIT {
             return Err(ImportFault::TooDeep(here));
@@ -112,7 +134,7 @@ impl Outline {
     /// Goes on with a block, or ends it.
     #[tactic(auto, unfolding(crate::specs::Outlines::laid))]
     fn close(&mut self, here: Position, closer: Closer) -> Result<(), ImportFault>
-        ensures { Leaves result self.new (laid here (Statement.Closes closer) self.old) }
+        ensures { Leaves result self.new (laid here 0 0 (Statement.Closes closer) self.old) }
     {
         if !suits_last(closer, self.opened.as_slice()) {
             return Err(ImportFault::Outside(here, closer));
@@ -123,36 +145,43 @@ impl Outline {
         Ok(())
     }
 
-    /// Lays a statement, which begins here.
+    /// Lays a statement, which begins here, with this byte of the text. It declares the line, or its
+    /// arrow goes to the line, that it names from the other byte on.
     #[tactic(auto, unfolding(crate::specs::Outlines::laid))]
     pub(crate) fn lay(
         &mut self,
         alloc: Global,
         here: Position,
+        first: usize,
+        name: usize,
         statement: &Statement,
     ) -> Result<(), ImportFault>
-        ensures { Leaves result self.new (laid here statement.now self.old) }
+        ensures { Leaves result self.new (laid here first name statement.now self.old) }
     {
         match statement {
-            Statement::Declares(ident, _) => self.meet(alloc, here, ident.as_slice()),
+            Statement::Declares(ident, _) => self.meet(alloc, here, ident.as_slice(), name),
             Statement::Says(arrow) => {
-                self.meet(alloc, here, arrow.from.as_slice())?;
-                self.meet(alloc, here, arrow.to.as_slice())
+                self.meet(alloc, here, arrow.from.as_slice(), first)?;
+                self.meet(alloc, here, arrow.to.as_slice(), name)
             }
             Statement::Begins(kind) => self.begin(here, *kind),
             Statement::Closes(closer) => self.close(here, *closer),
         }
     }
 
-    /// The lines, where no block is open.
+    /// The lines and where each is named first, where no block is open.
     #[tactic(auto, unfolding(crate::specs::Outlines::finished))]
-    pub(crate) fn finish(self) -> Result<Listed<Listed<u8>>, ImportFault>
+    pub(crate) fn finish(self) -> Result<(Listed<Listed<u8>>, Listed<Span>), ImportFault>
         ensures { Gives (λ x. x) result (finished self) }
     {
-        let Outline { lines, opened } = self;
+        let Outline {
+            lines,
+            names,
+            opened,
+        } = self;
         if let Some(block) = opened.last() {
             return Err(ImportFault::Unended(block.start));
         }
-        Ok(Listed::from_vec(lines))
+        Ok((Listed::from_vec(lines), Listed::from_vec(names)))
     }
 }

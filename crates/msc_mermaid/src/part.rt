@@ -3,12 +3,13 @@
 ghost use Rattle.std.specs.Prelude.{◌≡◌, IfOk, map};
 ghost use Rattle.msc_mermaid.specs.Gives.{Gives};
 ghost use Rattle.msc_mermaid.specs.Parts.{blanked, entity_place, first_place, has_entity, is_said};
-ghost use Rattle.msc_mermaid.specs.Parts.{may_say, part_step, place_in, said_of, steps_of, stretch};
+ghost use Rattle.msc_mermaid.specs.Parts.{may_say, part_start, part_step, place_in, said_of, steps_of};
+ghost use Rattle.msc_mermaid.specs.Parts.{stretch};
 ghost use Rattle.msc_mermaid.specs.Reading.{Leaves};
 
 use crate::fault::ImportFault;
 use crate::key::Mark;
-use crate::lines::Row;
+use crate::lines::{Row, further, start_on};
 use crate::progress::{Inside, Progress};
 use crate::reading::Reader;
 use crate::seeking::{Sought, from_entity, holds};
@@ -19,12 +20,13 @@ use crate::white::{behind_white, is_white, trimmed};
 use msc_place::Position;
 use std::alloc::{AllocError, Global};
 
-/// What of the line of a number, from 1, belongs to a diagram, and how many columns of the line
-/// stand before it.
+/// What of the line of a number, from 1, belongs to a diagram, and how many columns and how many bytes
+/// of the line stand before it.
 #[derive(Clone, Copy, Debug)]
 pub struct LinePart<'t> {
     pub line: usize,
     pub before: usize,
+    pub skipped: usize,
     pub bytes: &'t [u8],
 }
 
@@ -35,6 +37,14 @@ fn line_of(alloc: Global, part: LinePart<'_>) -> Result<Vec<u8>, AllocError>
     let mut line = vec![in alloc; b' '; part.before]?;
     line.extend_from_slice(part.bytes)?;
     Ok(line)
+}
+
+/// Where the line of a part would begin with these blanks, in a text whose lines begin so.
+fn part_start(starts: &[usize], part: LinePart<'_>) -> usize
+    ensures { result ≡ part_start starts.now (stretch part.entry) }
+{
+    let more = part.skipped.saturating_sub(part.before);
+    further(start_on(starts, part.line), more)
 }
 
 /// Where the first byte of a part stands that is no white space.
@@ -107,9 +117,11 @@ impl Progress {
         alloc: Global,
         markup: bool,
         cross: Option<Cross>,
+        starts: &[usize],
         part: LinePart<'_>,
     ) -> Result<(), ImportFault>
-        ensures { Leaves result self.new (part_step markup cross (stretch part.entry) self.old) }
+        ensures { Leaves result self.new
+            (part_step markup cross starts.now (stretch part.entry) self.old) }
     {
         let bytes = line_of(alloc, part)?;
         let line = bytes.as_slice();
@@ -120,7 +132,7 @@ impl Progress {
             };
             return Err(ImportFault::Entity(row.position_of(from_entity(line))));
         }
-        self.step(alloc, cross, part.line, line)
+        self.step(alloc, cross, part_start(starts, part), part.line, line)
     }
 
     /// Reads these parts, from the first one on.
@@ -129,35 +141,40 @@ impl Progress {
         alloc: Global,
         markup: bool,
         cross: Option<Cross>,
+        starts: &[usize],
         parts: &[LinePart<'_>],
     ) -> Result<(), ImportFault>
-        ensures { Leaves result self.new (steps_of markup cross (map stretch parts.now) self.old) }
+        ensures { Leaves result self.new
+            (steps_of markup cross starts.now (map stretch parts.now) self.old) }
     {
         for i in 0..parts.len() {
-            self.part(alloc, markup, cross, parts[i])?;
+            self.part(alloc, markup, cross, starts, parts[i])?;
         }
         Ok(())
     }
 }
 
-/// The diagram of parts of some lines of a text that ends here, or its first fault. Where a browser
-/// reads the text first, an entity of HTML in a line of statements is one.
+/// The diagram of parts of some lines of a text whose lines begin so ([`starts_of`](crate::starts_of))
+/// and that ends here, or its first fault. Where a browser reads the text first, an entity of HTML in a
+/// line of statements is one.
 #[tactic(auto, unfolding(crate::specs::Parts::said_of))]
 pub fn diagram_of_parts(
     alloc: Global,
     markup: bool,
     cross: Option<Cross>,
+    starts: &[usize],
     end: Position,
     parts: &[LinePart<'_>],
 ) -> Result<Diagram, ImportFault>
-    ensures { Gives (λ x. x) result (said_of markup cross end (map stretch parts.now)) }
+    ensures { Gives (λ x. x) result (said_of markup cross starts.now end (map stretch parts.now)) }
 {
     let mut progress = Progress {
+        start: 0,
         inside: Inside::Start,
         begun: false,
         reader: Reader::new(alloc),
         waiting: Waiting::new(alloc),
     };
-    progress.parts(alloc, markup, cross, parts)?;
+    progress.parts(alloc, markup, cross, starts, parts)?;
     progress.ended(end)
 }

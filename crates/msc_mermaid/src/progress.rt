@@ -10,9 +10,9 @@ ghost use Rattle.msc_mermaid.specs.Reading.{Leaves};
 use crate::cutting::{cut, leaves_open};
 use crate::fault::{Expectation, ImportFault};
 use crate::key::Mark;
-use crate::lines::{Row, counted};
+use crate::lines::{Row, counted, further};
 use crate::pattern::{Pattern, first_fit};
-use crate::reading::Reader;
+use crate::reading::{Reader, Spot};
 use crate::seeking::Sought;
 use crate::shape::{closed, is_commented, undirected};
 use crate::statement::Cross;
@@ -49,9 +49,11 @@ impl Inside {
     }
 }
 
-/// How far a text was read.
+/// How far a text was read, and where the line that is read begins in it: how many bytes stand before
+/// it.
 #[derive(Drop)]
 pub(crate) struct Progress {
+    pub start: usize,
     pub inside: Inside,
     pub begun: bool,
     pub reader: Reader,
@@ -120,35 +122,32 @@ impl Progress {
         Ok(())
     }
 
-    /// Passes a title or a description in one line, which begins in this column: it may not be empty,
-    /// and takes the rest of the line.
+    /// Passes a title or a description in one line, which begins here: it may not be empty, and takes
+    /// the rest of the line.
     #[tactic(auto, unfolding(crate::specs::Mermaid::titled))]
-    fn titled(&mut self, line: usize, column: usize, text: &[u8]) -> Result<(), ImportFault>
-        ensures { Leaves result self.new (titled line column text.now self.old) }
+    fn titled(&mut self, here: Position, text: &[u8]) -> Result<(), ImportFault>
+        ensures { Leaves result self.new (titled here text.now self.old) }
     {
         if trimmed(text).is_empty() {
-            let here = Position { line, column };
             return Err(ImportFault::Expected(here, Expectation::Statement));
         }
         self.inside = Inside::Rest;
         Ok(())
     }
 
-    /// Reads a statement, which begins in this column, and behind which the next one stands in this
-    /// part.
+    /// Reads a statement, which begins here, and behind which the next one stands in this part.
     #[tactic(auto, unfolding(crate::specs::Mermaid::stated))]
     pub(crate) fn stated(
         &mut self,
         alloc: Global,
         cross: Option<Cross>,
-        line: usize,
-        column: usize,
+        spot: Spot,
         bytes: &[u8],
         part: Inside,
     ) -> Result<(), ImportFault>
-        ensures { Leaves result self.new (stated cross line column bytes.now part self.old) }
+        ensures { Leaves result self.new (stated cross spot bytes.now part self.old) }
     {
-        self.reader.read_one(alloc, cross, line, column, bytes)?;
+        self.reader.read_one(alloc, cross, spot, bytes)?;
         self.inside = part;
         Ok(())
     }
@@ -159,31 +158,24 @@ impl Progress {
         &mut self,
         alloc: Global,
         cross: Option<Cross>,
-        line: usize,
-        column: usize,
+        spot: Spot,
         bytes: &[u8],
     ) -> Result<(), ImportFault>
-        ensures { Leaves result self.new (statement cross line column bytes.now self.old) }
+        ensures { Leaves result self.new (statement cross spot bytes.now self.old) }
     {
         if is_commented(bytes) {
             let own = trimmed(&bytes[..Sought::Text(Mark::Comment).before(bytes)]);
-            return self.stated(alloc, cross, line, column, own, Inside::Rest);
+            return self.stated(alloc, cross, spot, own, Inside::Rest);
         }
         let part = self.inside;
-        self.stated(alloc, cross, line, column, bytes, part)
+        self.stated(alloc, cross, spot, bytes, part)
     }
 
-    /// Passes on to the further lines of a statement, which begins in this column.
-    fn put_off(
-        &mut self,
-        alloc: Global,
-        line: usize,
-        column: usize,
-        bytes: &[u8],
-    ) -> Result<(), AllocError>
-        ensures { IfOk result (λ _. self.new ≡ put_off line column bytes.now self.old) }
+    /// Passes on to the further lines of a statement, which begins here.
+    fn put_off(&mut self, alloc: Global, spot: Spot, bytes: &[u8]) -> Result<(), AllocError>
+        ensures { IfOk result (λ _. self.new ≡ put_off spot bytes.now self.old) }
     {
-        self.waiting = Waiting::of(alloc, Position { line, column }, bytes)?;
+        self.waiting = Waiting::of(alloc, spot, bytes)?;
         self.inside = Inside::Configuration;
         Ok(())
     }
@@ -195,51 +187,53 @@ impl Progress {
         &mut self,
         alloc: Global,
         cross: Option<Cross>,
-        line: usize,
-        column: usize,
+        spot: Spot,
         rest: &[u8],
         piece: &[u8],
     ) -> Result<(), ImportFault>
-        ensures { Leaves result self.new
-            (piece_said cross line column rest.now piece.now self.old) }
+        ensures { Leaves result self.new (piece_said cross spot rest.now piece.now self.old) }
     {
         let own = trimmed(piece);
         if is_last(rest, piece) && is_unended(own) {
-            self.put_off(alloc, line, column, own)?;
+            self.put_off(alloc, spot, own)?;
             return Ok(());
         }
-        self.statement(alloc, cross, line, column, own)
+        self.statement(alloc, cross, spot, own)
     }
 
-    /// Reads the next piece of a line; the line from it on is rest.
+    /// Reads the next piece of a line of these bytes, which begins here; the line from it on is rest.
     #[tactic(auto, unfolding(crate::specs::Mermaid::read_piece))]
     fn read_piece(
         &mut self,
         alloc: Global,
         cross: Option<Cross>,
-        row: Row,
-        column: usize,
+        whole: &[u8],
+        spot: Spot,
         rest: &[u8],
         piece: &[u8],
     ) -> Result<(), ImportFault>
-        ensures { Leaves result self.new (read_piece cross
-            row.entry.line row.entry.bytes.now column rest.now piece.now self.old) }
+        ensures { Leaves result self.new
+            (read_piece cross whole.now spot rest.now piece.now self.old) }
     {
         if !self.inside.goes_on() {
             return Ok(());
         }
         let here = behind_white(rest);
         if let Some(text) = first_fit(&[Pattern::AccTitle, Pattern::AccDescr], here) {
-            return self.titled(row.line, column, text);
+            return self.titled(spot.here, text);
         }
         if let Some(text) = first_fit(&[Pattern::AccBlock], here) {
+            let row = Row {
+                line: spot.here.line,
+                bytes: whole,
+            };
             return self.left_out(row, Inside::Description, Mark::DescriptionEnd, text);
         }
         if Mark::Comment.begins(here) {
             self.inside = Inside::Rest;
             return Ok(());
         }
-        self.said(alloc, cross, row.line, column, here, piece)
+        self.said(alloc, cross, spot, here, piece)
     }
 
     /// Reads the pieces of a line, of which the first one begins behind so many of its bytes.
@@ -260,9 +254,14 @@ impl Progress {
         let mut column = counted(first(bytes, start)) + 1;
         for piece in pieces {
             let rest = behind(bytes, at);
-            let white = first(rest, white_in_front(piece));
-            let own = column + counted(white);
-            self.read_piece(alloc, cross, Row { line, bytes }, own, rest, piece)?;
+            let white = white_in_front(piece);
+            let own = column + counted(first(rest, white));
+            let begin = at + white;
+            let spot = Spot {
+                here: Position { line, column: own },
+                first: further(self.start, begin),
+            };
+            self.read_piece(alloc, cross, bytes, spot, rest, piece)?;
             let passed = first(rest, piece.len() + 1);
             column += counted(passed);
             at += piece.len() + 1;

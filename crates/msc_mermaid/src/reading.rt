@@ -1,17 +1,44 @@
 //! What was read of a diagram: its statements, one by one.
 
-ghost use Rattle.std.specs.Prelude.{◌≡◌};
+ghost use Rattle.std.specs.Prelude.{◌≡◌, IfOk};
 ghost use Rattle.msc_mermaid.specs.Gives.{Gives};
-ghost use Rattle.msc_mermaid.specs.Reading.{Leaves, is_arrow, noted, read_one, told, untold};
+ghost use Rattle.msc_mermaid.specs.Outlines.{span_of};
+ghost use Rattle.msc_mermaid.specs.Reading.{Leaves, is_arrow, listed, noted, read_one, shown_length};
+ghost use Rattle.msc_mermaid.specs.Reading.{shown_span, told, untold};
 
 use crate::fault::ImportFault;
-use crate::outline::Outline;
+use crate::outline::{Outline, span_of};
 use crate::saying::{Mode, Said, said_at};
-use crate::statement::{Cross, Diagram, Placed, Statement};
+use crate::statement::{Cross, Diagram, Placed, Span, Statement};
 use listed::Listed;
 use msc_place::Position;
-use std::alloc::Global;
+use std::alloc::{AllocError, Global};
 use std::marker::Model;
+
+/// Where a statement begins: its position, and how many bytes of the text stand before it.
+#[derive(Clone, Copy)]
+pub(crate) struct Spot {
+    pub here: Position,
+    pub first: usize,
+}
+
+/// How many bytes the label of an arrow has, or the shown name of a line.
+fn shown_length(statement: &Statement) -> usize
+    ensures { result ≡ shown_length statement.now }
+{
+    match statement {
+        Statement::Declares(_, Some(shown)) => shown.as_slice().len(),
+        Statement::Says(arrow) => arrow.label.as_slice().len(),
+        _ => 0,
+    }
+}
+
+/// Where these stand, if the statement stands here, and so many bytes of it are left from them on.
+fn shown_span(whole: Span, tail: usize, statement: &Statement) -> Span
+    ensures { result ≡ shown_span whole tail statement.now }
+{
+    span_of(whole.past.saturating_sub(tail), shown_length(statement))
+}
 
 /// Whether it is an arrow.
 fn is_arrow(statement: &Statement) -> bool
@@ -68,23 +95,52 @@ impl Reader {
             said,
         } = self;
         drop(dying);
-        let lines = outline.finish()?;
+        let (lines, names) = outline.finish()?;
         Ok(Diagram {
             lines,
+            names,
             statements: Listed::from_vec(said),
         })
     }
 
-    /// Notes what a statement says.
+    /// Lists one statement more, which begins here and has these bytes, and is laid already.
+    fn list(
+        &mut self,
+        here: Position,
+        whole: Span,
+        tail: usize,
+        statement: Statement,
+    ) -> Result<(), AllocError>
+        ensures { IfOk result
+            (λ _. self.new ≡ listed self.old here whole tail statement self.old.outline) }
+    {
+        let arrow = is_arrow(&statement);
+        let shown = shown_span(whole, tail, &statement);
+        self.said.push(Placed {
+            line: here.line,
+            column: here.column,
+            number: self.arrows + 1,
+            statement,
+            whole,
+            shown,
+        })?;
+        if arrow {
+            self.dying.clear();
+            self.arrows += 1;
+        }
+        Ok(())
+    }
+
+    /// Notes what a statement says, which begins here and has these bytes.
     #[tactic(auto, unfolding(crate::specs::Reading::noted))]
     fn note(
         &mut self,
         alloc: Global,
-        line: usize,
-        column: usize,
+        here: Position,
+        whole: Span,
         said: Said,
     ) -> Result<(), ImportFault>
-        ensures { Leaves result self.new (noted self.old line column said) }
+        ensures { Leaves result self.new (noted self.old here whole said) }
     {
         match said {
             Said::Nothing => Ok(()),
@@ -92,42 +148,32 @@ impl Reader {
                 self.dying.push(name)?;
                 Ok(())
             }
-            Said::Statement(statement) => {
+            Said::Statement(statement, tails) => {
+                let name = whole.past.saturating_sub(tails.name);
                 self.outline
-                    .lay(alloc, Position { line, column }, &statement)?;
-                let arrow = is_arrow(&statement);
-                self.said.push(Placed {
-                    line,
-                    column,
-                    number: self.arrows + 1,
-                    statement,
-                })?;
-                if arrow {
-                    self.dying.clear();
-                    self.arrows += 1;
-                }
+                    .lay(alloc, here, whole.first, name, &statement)?;
+                self.list(here, whole, tails.shown, statement)?;
                 Ok(())
             }
         }
     }
 
-    /// Reads one statement, which begins in this column.
+    /// Reads one statement, which begins here.
     #[tactic(auto, unfolding(crate::specs::Reading::read_one))]
     pub(crate) fn read_one(
         &mut self,
         alloc: Global,
         cross: Option<Cross>,
-        line: usize,
-        column: usize,
+        spot: Spot,
         bytes: &[u8],
     ) -> Result<(), ImportFault>
-        ensures { Leaves result self.new (read_one cross line column bytes.now self.old) }
+        ensures { Leaves result self.new (read_one cross spot bytes.now self.old) }
     {
         let mode = Mode {
             cross,
             dying: self.dying.as_slice(),
         };
-        let said = said_at(alloc, mode, Position { line, column }, bytes)?;
-        self.note(alloc, line, column, said)
+        let said = said_at(alloc, mode, spot.here, bytes)?;
+        self.note(alloc, spot.here, span_of(spot.first, bytes.len()), said)
     }
 }

@@ -4,9 +4,9 @@ ghost use Rattle.std.specs.Prelude.{◌≡◌};
 ghost use Rattle.msc_lexer.specs.Bytes.{begins};
 ghost use Rattle.msc_mermaid.specs.Gives.{Gives};
 ghost use Rattle.msc_mermaid.specs.Saying.{arrow_by, arrow_of, behind_sign, dies, is_sign};
-ghost use Rattle.msc_mermaid.specs.Saying.{fate_of, no_second, said_as, said_at};
+ghost use Rattle.msc_mermaid.specs.Saying.{fate_of, no_second, no_tails, said_as, said_at};
 
-use crate::declaring::{declared, shown_text};
+use crate::declaring::{Tails, declared, name_tail, shown_text};
 use crate::fault::{Expectation, ImportFault};
 use crate::head::Head;
 use crate::key::Mark;
@@ -26,8 +26,8 @@ pub(crate) enum Said {
     Nothing,
     /// The line of this name ends with the next arrow.
     Dies(Listed<u8>),
-    /// A statement.
-    Statement(Statement),
+    /// A statement, and how many of its bytes are left from what it names and shows on.
+    Statement(Statement, Tails),
 }
 
 /// What the statements before one leave for it: what crosses are, and which lines end with the next
@@ -97,7 +97,8 @@ fn fate_of(cross: Option<Cross>, dying: &[Listed<u8>], head: Head, from: &[u8], 
     }
 }
 
-/// The arrow of these parts: what stands before its head, and what stands behind.
+/// The arrow of these parts, what stands before its head and what stands behind, with the bytes that
+/// are left from its receiver and from its label on.
 #[tactic(auto, unfolding(crate::specs::Saying::arrow_by))]
 fn arrow_by(
     alloc: Global,
@@ -106,7 +107,7 @@ fn arrow_by(
     head: Head,
     front: &[u8],
     rest: &[u8],
-) -> Result<Arrow, ImportFault>
+) -> Result<(Arrow, Tails), ImportFault>
     ensures { Gives (λ x. x) result
         (arrow_by mode.entry.cross mode.entry.dying.now here head front.now rest.now) }
 {
@@ -115,21 +116,40 @@ fn arrow_by(
     }
     let from = sender(here, front)?;
     let behind = no_second(here, behind_white(rest))?;
-    let parts = parted(here, Mark::Colon, Expectation::Label, behind_sign(behind))?;
+    let named = behind_sign(behind);
+    let parts = parted(here, Mark::Colon, Expectation::Label, named)?;
     let to = name_at(here, parts.0)?;
     let fate = fate_of(mode.cross, mode.dying, head, from, to);
-    Ok(Arrow {
+    let label = shown_text(alloc, parts.1)?;
+    let tails = Tails {
+        name: name_tail(named, parts.0),
+        shown: label.tail,
+    };
+    let arrow = Arrow {
         from: owned(alloc, from)?,
         to: owned(alloc, to)?,
-        label: shown_text(alloc, parts.1)?,
+        label: label.text,
         fate,
         both: head.is_double(),
-    })
+    };
+    Ok((arrow, tails))
+}
+
+/// A statement that names no line, and that people read nothing of.
+fn no_tails() -> Tails
+    ensures { result ≡ no_tails }
+{
+    Tails { name: 0, shown: 0 }
 }
 
 /// The arrow of a statement.
 #[tactic(auto, unfolding(crate::specs::Saying::arrow_of))]
-fn arrow_of(alloc: Global, mode: Mode, here: Position, bytes: &[u8]) -> Result<Arrow, ImportFault>
+fn arrow_of(
+    alloc: Global,
+    mode: Mode,
+    here: Position,
+    bytes: &[u8],
+) -> Result<(Arrow, Tails), ImportFault>
     ensures { Gives (λ x. x) result (arrow_of mode.entry.cross mode.entry.dying.now here bytes.now) }
 {
     let at = Sought::Arrow.before(bytes);
@@ -162,10 +182,13 @@ fn said_as(
     match meaning {
         Meaning::Nothing => Ok(Said::Nothing),
         Meaning::Refused => Err(ImportFault::Expected(here, Expectation::Statement)),
-        Meaning::Declaration => Ok(Said::Statement(declared(alloc, here, rest)?)),
+        Meaning::Declaration => {
+            let (statement, tails) = declared(alloc, here, rest)?;
+            Ok(Said::Statement(statement, tails))
+        }
         Meaning::Destruction => Ok(Said::Dies(owned(alloc, name_at(here, rest)?)?)),
-        Meaning::Begin(kind) => Ok(Said::Statement(Statement::Begins(kind))),
-        Meaning::Close(closer) => Ok(Said::Statement(Statement::Closes(closer))),
+        Meaning::Begin(kind) => Ok(Said::Statement(Statement::Begins(kind), no_tails())),
+        Meaning::Close(closer) => Ok(Said::Statement(Statement::Closes(closer), no_tails())),
         Meaning::Activation => {
             name_at(here, rest)?;
             Ok(Said::Nothing)
@@ -175,7 +198,10 @@ fn said_as(
             name_at(here, parts.0)?;
             Ok(Said::Nothing)
         }
-        Meaning::Arrow => Ok(Said::Statement(Statement::Says(arrow_of(alloc, mode, here, bytes)?))),
+        Meaning::Arrow => {
+            let (arrow, tails) = arrow_of(alloc, mode, here, bytes)?;
+            Ok(Said::Statement(Statement::Says(arrow), tails))
+        }
     }
 }
 

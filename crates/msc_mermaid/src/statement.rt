@@ -39,21 +39,35 @@ pub enum Statement {
     Closes(Closer),
 }
 
+/// Some bytes of a text that stand together: how many bytes of it stand before the first one, and how
+/// many before the one behind the last.
+#[derive(Clone, Copy, Debug, PartialEq, Eq)]
+pub struct Span {
+    pub first: usize,
+    pub past: usize,
+}
+
 /// A statement and where it begins: its line and its column, both from 1. The number is that of the
-/// arrow that it is, or of the next one behind it, from 1.
+/// arrow that it is, or of the next one behind it, from 1. Of the text that it is read from, `whole`
+/// are its bytes, and `shown` those of its label, or of the shown name of its line; none, if it has
+/// neither.
 #[derive(Drop)]
 pub struct Placed {
     pub line: usize,
     pub column: usize,
     pub number: usize,
     pub statement: Statement,
+    pub whole: Span,
+    pub shown: Span,
 }
 
 /// A diagram: its lines, each by its identifier, in the order in which they are declared or used
-/// first, and its statements. Each block of them has its end.
+/// first; where in the text each of them is named first; and its statements. Each block of them has
+/// its end.
 #[derive(Drop)]
 pub struct Diagram {
     pub lines: Listed<Listed<u8>>,
+    pub names: Listed<Span>,
     pub statements: Listed<Placed>,
 }
 

@@ -5,16 +5,17 @@ ghost use Rattle.msc_mermaid.specs.Cutting.{room};
 ghost use Rattle.msc_mermaid.specs.Mermaid.{configured_as, ended_on, gone_on, put_off_said};
 ghost use Rattle.msc_mermaid.specs.Mermaid.{shape_of, text_within};
 ghost use Rattle.msc_mermaid.specs.Names.{leaves_config};
-ghost use Rattle.msc_mermaid.specs.Reading.{Leaves, lengthened, none_waiting};
+ghost use Rattle.msc_mermaid.specs.Reading.{Leaves, gap, lengthened, none_waiting};
 ghost use Rattle.msc_mermaid.specs.Saying.{is_declaration, is_unended};
 ghost use Rattle.msc_mermaid.specs.White.{trimmed};
 
 use crate::cutting::cut;
 use crate::fault::ImportFault;
 use crate::key::Mark;
-use crate::lines::Row;
+use crate::lines::{Row, further};
 use crate::name::is_name;
 use crate::progress::{Inside, Progress, first};
+use crate::reading::Spot;
 use crate::row::{Meaning, meaning_of};
 use crate::seeking::{Sought, holds};
 use crate::shape::{Shape, shape_of, undirected};
@@ -27,7 +28,7 @@ use std::marker::Model;
 /// A statement with a configuration that has no end yet: where it begins, and its bytes so far.
 #[derive(Drop)]
 pub(crate) struct Waiting {
-    pub here: Position,
+    pub spot: Spot,
     bytes: Vec<u8>,
 }
 
@@ -36,7 +37,7 @@ impl Model for Waiting {
 
     ghost Value = { Waiting };
 
-    ghost view = { λ o. record { here = o.here; bytes = o.bytes.items } };
+    ghost view = { λ o. record { spot = o.spot; bytes = o.bytes.items } };
 }
 
 impl Waiting {
@@ -45,25 +46,39 @@ impl Waiting {
         ensures { result ≡ none_waiting }
     {
         Waiting {
-            here: Position { line: 1, column: 1 },
+            spot: Spot {
+                here: Position { line: 1, column: 1 },
+                first: 0,
+            },
             bytes: Vec::new(alloc),
         }
     }
 
     /// The one that begins here with these bytes.
-    pub(crate) fn of(alloc: Global, here: Position, bytes: &[u8]) -> Result<Self, AllocError>
-        ensures { IfOk result (λ o. o ≡ record { here = here; bytes = bytes.now }) }
+    pub(crate) fn of(alloc: Global, spot: Spot, bytes: &[u8]) -> Result<Self, AllocError>
+        ensures { IfOk result (λ o. o ≡ record { spot = spot; bytes = bytes.now }) }
     {
         let bytes = Vec::from_slice(alloc, bytes)?;
-        Ok(Waiting { here, bytes })
+        Ok(Waiting { spot, bytes })
     }
 
-    /// Adds these bytes of a further line, behind a comma: what a line says of a configuration ends
-    /// with it.
-    fn lengthen(&mut self, more: &[u8]) -> Result<(), AllocError>
-        ensures { IfOk result (λ _. self.new ≡ lengthened more.now self.old) }
+    /// How many bytes of the text stand between those so far and a line that begins here: one at
+    /// least.
+    fn gap(&self, start: usize) -> usize
+        ensures { result ≡ gap start self.now }
     {
-        self.bytes.push(b',')?;
+        let between = start.saturating_sub(further(self.spot.first, self.bytes.len()));
+        if between == 0 { 1 } else { between }
+    }
+
+    /// Adds these bytes of a further line, which begins here, behind a comma for each byte of the text
+    /// between: what a line says of a configuration ends with it, and what follows stands as far from
+    /// the beginning as in the text.
+    fn lengthen(&mut self, alloc: Global, start: usize, more: &[u8]) -> Result<(), AllocError>
+        ensures { IfOk result (λ _. self.new ≡ lengthened start more.now self.old) }
+    {
+        let commas = vec![in alloc; b','; self.gap(start)]?;
+        self.bytes.extend_from_slice(commas.as_slice())?;
         self.bytes.extend_from_slice(more)
     }
 
@@ -105,10 +120,10 @@ pub(crate) fn is_unended(bytes: &[u8]) -> bool
 
 impl Progress {
     /// Adds these bytes of a further line to the statement that is open.
-    fn go_on(&mut self, more: &[u8]) -> Result<(), AllocError>
+    fn go_on(&mut self, alloc: Global, more: &[u8]) -> Result<(), AllocError>
         ensures { IfOk result (λ _. self.new ≡ gone_on more.now self.old) }
     {
-        self.waiting.lengthen(more)
+        self.waiting.lengthen(alloc, self.start, more)
     }
 
     /// Reads the statement whose configuration was open.
@@ -116,9 +131,9 @@ impl Progress {
     fn put_off_said(&mut self, alloc: Global, cross: Option<Cross>) -> Result<(), ImportFault>
         ensures { Leaves result self.new (put_off_said cross self.old) }
     {
-        let Position { line, column } = self.waiting.here;
+        let spot = self.waiting.spot;
         let text = self.waiting.text();
-        self.reader.read_one(alloc, cross, line, column, text)?;
+        self.reader.read_one(alloc, cross, spot, text)?;
         self.inside = Inside::Nothing;
         Ok(())
     }
@@ -142,7 +157,7 @@ impl Progress {
         match pieces {
             [] => Ok(()),
             [piece, others @ ..] => {
-                self.go_on(first(bytes, at + piece.len()))?;
+                self.go_on(alloc, first(bytes, at + piece.len()))?;
                 self.put_off_said(alloc, cross)?;
                 self.read_pieces(alloc, cross, line, bytes, at + (piece.len() + 1), others)
             }
@@ -166,7 +181,7 @@ impl Progress {
             let pieces = cut(alloc, &bytes[at..])?;
             return self.ended_on(alloc, cross, line, bytes, at, pieces.as_slice());
         }
-        self.go_on(bytes)?;
+        self.go_on(alloc, bytes)?;
         Ok(())
     }
 

@@ -145,7 +145,7 @@ pub(crate) fn behind_white(bytes: &[u8]) -> &[u8]
 }
 
 /// The bytes before the white space at the end.
-fn before_white(bytes: &[u8]) -> &[u8]
+pub(crate) fn before_white(bytes: &[u8]) -> &[u8]
     ensures { result.now ≡ before_white bytes.now }
 {
     &bytes[..body(bytes)]

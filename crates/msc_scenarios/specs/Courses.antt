@@ -207,6 +207,8 @@ message_of lines p a lost rounds = record {
   both = is_exchange a;
   line = p.line;
   column = p.column;
+  statement = p.whole;
+  label = p.shown;
 }
 
 -- an arrow is met, where it is lost or arrives

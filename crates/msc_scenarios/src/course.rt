@@ -7,14 +7,15 @@ ghost use Rattle.msc_scenarios.specs.Courses.{is_drawn, is_end, is_joint, is_the
 ghost use Rattle.msc_scenarios.specs.Courses.{heads, is_choice, is_exchange, is_loss, is_open, most_of};
 
 use crate::ROUND_LIMIT;
-use msc_mermaid::{Arrow, Closer, Fate, ImportFault, Kind, Placed, Statement};
+use msc_mermaid::{Arrow, Closer, Fate, ImportFault, Kind, Placed, Span, Statement};
 use msc_parser::Name;
 use msc_place::Position;
 use std::alloc::{AllocError, Global};
 
 /// A message of a course: its sender and its receiver, as numbers of lines from 0, its name and its
 /// number, whether it is lost, whether the receiver sends one back with the same name and number,
-/// and where its arrow begins, as line and column.
+/// where its arrow begins, as line and column, and where the arrow's statement and its label stand in
+/// the text.
 #[derive(Drop)]
 pub struct Message {
     pub from: usize,
@@ -25,6 +26,8 @@ pub struct Message {
     pub both: bool,
     pub line: usize,
     pub column: usize,
+    pub statement: Span,
+    pub label: Span,
 }
 
 /// A step of a course.

@@ -91,6 +91,8 @@ fn message_of(
         both: is_exchange(arrow),
         line: placed.line,
         column: placed.column,
+        statement: placed.whole,
+        label: placed.shown,
     })
 }
 

@@ -33,7 +33,7 @@ pub choose-loop-i-preserved-then-owned-gt0 : goal.choose-loop-i-preserved-then-o
 choose-loop-i-preserved-then-owned-gt0 t c =
     let l = c.loop-i in let rounds = c.args.rounds.now in
     let some : l.owned ≡ suc (l.owned - 1) = omega (arith, c.if-owned-gt0.true) in
-    sym (choose_skip (choose (c.args.depth - 1) rounds) rounds c.args.statements.now l.i l.owned l.ways.items (record { line = 0; column = 0; number = 0; statement = Closes closers.End }) c.loop-i-test.true (l.owned - 1) some) ∙ l.invariant
+    sym (choose_skip (choose (c.args.depth - 1) rounds) rounds c.args.statements.now l.i l.owned l.ways.items (record { line = 0; column = 0; number = 0; statement = Closes closers.End; whole = record { first = 0; past = 0 }; shown = record { first = 0; past = 0 } }) c.loop-i-test.true (l.owned - 1) some) ∙ l.invariant
 
 pub choose-loop-i-preserved : goal.choose-loop-i-preserved
 choose-loop-i-preserved t c =

@@ -43,7 +43,7 @@ pub count-loop-i-preserved-then-owned-gt0 : goal.count-loop-i-preserved-then-own
 count-loop-i-preserved-then-owned-gt0 t c =
     let l = c.loop-i in let rounds = c.args.rounds.now in
     let some : l.owned ≡ suc (l.owned - 1) = omega (arith, c.if-owned-gt0.true) in
-    sym (count_skip (count (c.args.depth - 1) rounds) rounds c.args.statements.now l.i l.owned l.ways (record { line = 0; column = 0; number = 0; statement = Closes closers.End }) c.loop-i-test.true (l.owned - 1) some) ∙ l.invariant
+    sym (count_skip (count (c.args.depth - 1) rounds) rounds c.args.statements.now l.i l.owned l.ways (record { line = 0; column = 0; number = 0; statement = Closes closers.End; whole = record { first = 0; past = 0 }; shown = record { first = 0; past = 0 } }) c.loop-i-test.true (l.owned - 1) some) ∙ l.invariant
 
 pub count-loop-i-preserved : goal.count-loop-i-preserved
 count-loop-i-preserved t c =

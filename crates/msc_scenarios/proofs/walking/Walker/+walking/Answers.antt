@@ -52,7 +52,7 @@ pub walk-loop-i-preserved-then-owned-gt0 : goal.walk-loop-i-preserved-then-owned
 walk-loop-i-preserved-then-owned-gt0 t c =
     let l = c.loop-i in
     let some : l.owned ≡ suc (l.owned - 1) = omega (arith, c.if-owned-gt0.true) in
-    sym (walk_skip (walk (c.args.depth - 1)) c.args.statements.now l.i c.args.rounds.now l.self l.owned (l.owned - 1) (record { line = 0; column = 0; number = 0; statement = Closes closers.End }) c.loop-i-test.true some) ∙ l.invariant
+    sym (walk_skip (walk (c.args.depth - 1)) c.args.statements.now l.i c.args.rounds.now l.self l.owned (l.owned - 1) (record { line = 0; column = 0; number = 0; statement = Closes closers.End; whole = record { first = 0; past = 0 }; shown = record { first = 0; past = 0 } }) c.loop-i-test.true some) ∙ l.invariant
 
 pub walk-returns-then-not-goes : goal.walk-returns-then-not-goes
 walk-returns-then-not-goes t c =
