@@ -18,7 +18,7 @@ use Rattle.msc_mermaid.specs.declared.statement.Placed.{Placed}
 use Rattle.msc_mermaid.specs.declared.statement.Span.{Span}
 use Rattle.msc_mermaid.specs.declared.statement.Statement.{Statement}
 use Rattle.msc_mermaid.specs.declared.statement.Statement.TheVariants.{Declares, Says, Begins, Closes}
-use Rattle.msc_mermaid.specs.Gives.{◌>>=◌, unless}
+use Rattle.msc_mermaid.specs.Gives.{unless}
 use Rattle.msc_mermaid.specs.Outlines.{Outline, closed_by, finished, innermost, is_known, laid, meets, met, span_of, with_lines}
 use Rattle.msc_mermaid.specs.Saying.{said_at}
 use Rattle.msc_mermaid.proofs.StepLemmas.{noted_by}
