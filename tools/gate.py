@@ -10,8 +10,9 @@ same rest as the number of commits. A shallow clone does not know that number, s
 these. `--all` tries all edits, and those of tools/more_edits too.
 
 The programs and the tests that were built are left in crates/*/out, as `rt ci` leaves them. Prints
-what `rt ci` prints; before its last line, `N passed, M failed`, stands which edits were not tried.
-The exit status is that of `rt ci`.
+what `rt ci` prints; before its last line, `N passed, M failed`, it names the edits that were not
+tried. The exit status is that of `rt ci`. `rt ci` passes over an edit that it cannot apply or
+compile; here each of them is a failure.
 """
 import argparse
 import os
@@ -54,7 +55,8 @@ def changed():
     if names is None:
         return set(crates())
     parts = [name.split("/") for name in names.splitlines()]
-    return {it[1] for it in parts if len(it) > 3 and it[2] in ("src", "specs", "proofs", "must-fail")}
+    read = ("src", "specs", "proofs", "must-fail")
+    return {it[1] for it in parts if len(it) > 3 and it[2] in read}
 
 
 def turn():
@@ -114,16 +116,21 @@ def keep_built(room):
 
 
 def run(room):
-    """Runs `rt ci` in a room, and prints what it prints but for the last line; returns that line
-    and the exit status."""
-    last = ""
+    """Runs `rt ci` in a room, and prints what it prints but for the last line; returns that line,
+    the exit status, and how many edits it could not apply or compile."""
+    last, bad = "", 0
     with subprocess.Popen(
         ["rt", "ci"], cwd=room, text=True, stdout=subprocess.PIPE, errors="replace"
     ) as gate:
         for line in gate.stdout:
             print(last.replace(f"{room}/", ""), end="", flush=True)
-            last = line
-    return last, gate.returncode
+            last, bad = line, bad + (": BAD EDIT" in line)
+    return last, gate.returncode, bad
+
+
+def with_bad(last, bad):
+    """The last line, `N passed, M failed`, with so many more failures."""
+    return re.sub(r"(\d+) failed", lambda found: f"{int(found[1]) + bad} failed", last)
 
 
 def main():
@@ -137,14 +144,14 @@ def main():
         room = pathlib.Path(folder) / "repository"
         copy(room)
         not_tried = place(room, with_all)
-        last, status = run(room)
+        last, status, bad = run(room)
         keep_built(room)
     for name, count in not_tried:
         print(f"gate: not tried in this run: the {count} edits of {name}")
     if not with_all:
         print("gate: `./test --all` tries all edits, and those of tools/more_edits")
-    print(last, end="", flush=True)
-    return status
+    print(with_bad(last, bad), end="", flush=True)
+    return status or int(bad > 0)
 
 
 if __name__ == "__main__":
