@@ -99,6 +99,13 @@ builds_in_order() {
       }
     }' "$room/steps" && [ "$(grep -c '^check ' "$room/steps")" = "$1" ]
 }
+# How many crates are proved for the program where crate $1 changed: it, and those that stand on it.
+proved_for() {
+  local crate
+  for crate in $(program_crates | grep -vx msc); do
+    if program_crates "$crate" | grep -qx "$1"; then echo "$crate"; fi
+  done | wc -l
+}
 is_not_proved() {
   launch rt --version
   [ $? = 4 ] && grep -q 'open goal' "$room/error" && grep -q 'msc_order is not proved' "$room/error"
@@ -144,14 +151,14 @@ check 'built' builds
 check 'what was built is not built again' test "$(launch '')" = built
 copy rt
 changed_byte "$room/copy/crates/msc/src/main.rt"
-check 'a build from nothing' builds_in_order 36
+check 'a build from nothing' builds_in_order "$(program_crates | grep -cvx msc)"
 changed_byte "$room/copy/crates/msc_order/src/lib.rt"
-check 'a build above a crate that changed' builds_in_order 13
+check 'a build above a crate that changed' builds_in_order "$(proved_for msc_order)"
 changed_byte "$room/copy/crates/msc_order/src/lib.rt"
 touch "$room/bad"
 check 'a crate that is not proved' is_not_proved
 rm "$room/bad"
-check 'and then is' builds_in_order 13
+check 'and then is' builds_in_order "$(proved_for msc_order)"
 check 'nothing is left of it' test ! -e "$room/copy/out/proving"
 copy
 echo >>"$room/copy/crates.txt"

@@ -6,7 +6,7 @@
 In a page's blocks between lines of three backquotes a line `$ COMMAND` is run by a shell at the top
 of the repository, with PROGRAM in place of `./msc`. The lines below it, up to the next such line or
 the end of the block, are what it writes to both streams. What `msc run` prints is up to the
-schedule: both what the page says and what is printed have to be an execution's, by naive/traces.py.
+schedule: both what the page says and what is printed have to be an execution's, by the model of executions in naive.
 Where more stands behind it in its line, what is printed has to be what the page says.
 Prints how many commands were compared. The exit status is 1 where one differs, or a page has none.
 """
@@ -19,8 +19,8 @@ import sys
 sys.dont_write_bytecode = True
 ROOT = pathlib.Path(__file__).resolve().parent.parent
 sys.path.insert(0, str(ROOT / "tools" / "naive"))
-from traces import PATIENCE, Wrong, is_execution
-from verdict import Chart
+from models.chart import Chart
+from models.executions import PATIENCE, Wrong, is_execution
 
 
 def commands(page):

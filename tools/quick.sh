@@ -76,10 +76,7 @@ find_program() {
 }
 
 # Compares the stored outputs that name a chart, or all.
-compare() {
-  check tools/examples.sh "$program" "$@"
-  check tools/transcripts.py ${1+--of "$1"} "$program" charts/commands/*.txt
-}
+compare() { check tools/transcripts.py ${1+--of "$1"} "$program"; }
 
 charts=()
 for name in "$@"; do

@@ -10,9 +10,9 @@
 program=$top/crates/msc/out/msc
 built=$top/crates/msc/out/built
 
-# The crates that the program stands on, and its own.
+# The crates that the program stands on, and its own; or those that crate $1 stands on, and it.
 program_crates() {
-  awk -F: '
+  awk -F: -v root="${1-msc}" '
     !/^#/ { split($1, words, " "); below[words[1]] = $2 }
     function visit(name, count, at, names) {
       if (seen[name]++) return
@@ -20,7 +20,7 @@ program_crates() {
       for (at = 1; at <= count; at++) if (names[at] in below) visit(names[at])
       print name
     }
-    END { visit("msc") }' "$top/crates.txt"
+    END { visit(root) }' "$top/crates.txt"
 }
 
 # The folders of their sources, and the list of crates.

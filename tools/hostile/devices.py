@@ -16,20 +16,19 @@ import subprocess
 import sys
 import tempfile
 
-from program import MOST, QUEUES, TOP, Answer, Count, add_commands, arguments, check_words, run
-from answer import again_answer, check_answer, read_answer
-from diagram_checks import wanted_of as checked_of
-from imports import wanted_of
+from program import MOST_SECONDS, QUEUES, TOP, Answer, Count, add_commands, arguments, run
+from models.answers import again_answer, check_answer, diagram_check_answer, import_answer
+from models.answers import read_answer
 from limits import of_events
 from refuse import Shim
 
 CHART = (TOP / "charts/two_senders.msc").read_bytes()
-# what is drawn of it, with the file of charts/ that has it: the words before and behind FILE
+# what is drawn of it, with its file in charts/two_senders: the words before and behind FILE
 DRAWN = {
-    "draw": (["--queues", "mailbox"], [], "two_senders.mailbox.drawn.txt"),
-    "reverse": (["--queues", "pair", "--svg"], ["1", "2"], "two_senders.reverse.1.2.pair.svg"),
-    "report": (["--queues", "mailbox"], [], "two_senders.mailbox.report.html"),
-    "ready": (["--queues", "pair"], [], "two_senders.ready.pair.txt"),
+    "draw": (["--queues", "mailbox"], [], "mailbox.drawn.txt"),
+    "reverse": (["--queues", "pair", "--svg"], ["1", "2"], "reverse.1.2.pair.svg"),
+    "report": (["--queues", "mailbox"], [], "mailbox.report.html"),
+    "ready": (["--queues", "pair"], [], "ready.pair.txt"),
 }
 REFUSED = b"msc t;"
 FAULT = Answer(b"", b"device fault\n", 4)
@@ -77,7 +76,7 @@ class Commands:
         for command, (before, behind, drawn) in DRAWN.items():
             if command in self.wanted:
                 words = [program, command, *before, file, *behind]
-                yield words, Answer((TOP / "charts" / drawn).read_bytes(), b"", 0)
+                yield words, Answer((TOP / "charts/two_senders" / drawn).read_bytes(), b"", 0)
         for command in ("check", "ready"):
             if command in self.wanted:
                 words = [program, command, "--queues", "mailbox", "--again", file]
@@ -89,16 +88,16 @@ class Imports(Commands):
     text = DIAGRAM
 
     def answer(self, text):
-        return Answer(*wanted_of(text, ["--choose", "main"], False))
+        return import_answer(text, ["--choose", "main"])
 
     def on(self, file="-", program=None):
         if "import" in self.wanted:
             words = ["import", "--name", "t", "--choose", "main"]
-            wanted = wanted_of(self.text, words[1:], False)
+            wanted = import_answer(self.text, words[1:])
             yield [program or self.program, *words, file], Answer(*wanted)
         if "check" in self.wanted:
             words = ["check", "--from", "any", "--queues", "pair", "--name", "t", "--show", "2"]
-            wanted = checked_of(self.text, words[1:], str(file))
+            wanted = diagram_check_answer(self.text, words[1:], str(file))
             yield [program or self.program, *words, file], Answer(*wanted)
 
 
@@ -169,7 +168,7 @@ def without_reader(count, words, text):
         reader, writer = os.pipe()
         os.close(reader)
         process = begun(redirected(words, "", before), stdin=subprocess.PIPE, stdout=writer)
-        error = process.communicate(text, timeout=MOST)[1]
+        error = process.communicate(text, timeout=MOST_SECONDS)[1]
         os.close(writer)
         answer = Answer(b"", error, process.returncode)
         count.compare(answer, FAULT, *words[1:], "no reader", before)
@@ -223,7 +222,7 @@ def begun(words, stdout=subprocess.PIPE, **options):
 
 
 def ended(process):
-    output, error = process.communicate(timeout=MOST)
+    output, error = process.communicate(timeout=MOST_SECONDS)
     return Answer(output, error, process.returncode)
 
 

@@ -1,5 +1,5 @@
 #!/usr/bin/env python3
-"""Gives a program random texts, and compares what it answers with what tools/naive/answer.py does.
+"""Gives a program random texts, and compares what it answers with what the models of tools/naive do.
 
     fuzz.py [--texts N] [--seconds S] [--seed S] [--only T] [--jobs J] [--commands C,..] PROGRAM
 
@@ -15,7 +15,7 @@ nothing else may be printed but places, and behind the line of a fault what is s
 of bytes that move no cursor. As lines for editors, with marks, all that is printed is such lines, of
 such bytes, and a refusal is the first of them. Each third text is checked and asked for sticks with
 `--again` too. Each fourth number has a diagram of Mermaid too, of which `msc check --from` has to
-print what tools/naive/scenarios.py does. Prints what differs, how many texts got which answer, and
+print what the model does. Prints what differs, how many texts got which answer, and
 last `N passed, M failed`.
 """
 import collections
@@ -28,10 +28,11 @@ import time
 import xml.etree.ElementTree
 
 from program import QUEUES, Count, add_commands, arguments, check_words, run
-from answer import ALL, again_answer, check_answer, draw_answer, read_answer, ready_answer
-import diagram_checks
-from compare import chart
-from reading import PLACES, SUPPORTED, UNSUPPORTED, Draft, Event, tokens
+from generators import diagram_checks
+from generators.charts import chart
+from models.answers import ALL, again_answer, check_answer, diagram_check_answer, draw_answer
+from models.answers import read_answer, ready_answer
+from models.reading import PLACES, SUPPORTED, UNSUPPORTED, Draft, Event, tokens
 from whole_runs import Drawn
 
 MARKS = [";", ",", ":", "(", ")"]
@@ -112,7 +113,7 @@ def renamed(pick, event, numbered):
 
 
 def drawn(pick):
-    """The tokens of a chart; more may stand in it than tools/naive/compare.py draws."""
+    """The tokens of a chart; more may stand in it than generators/charts.py draws."""
     draft = Draft(chart(pick, pick.choice([2, 5, 9]), True).encode("latin-1"))
     numbered = pick.random() < 0.3
     for number, section in enumerate(draft.sections):
@@ -248,7 +249,7 @@ def wrong_page(wanted, got):
 def tried_diagram(program, seed, number):
     """What differs for the diagram of this number, if anything does."""
     text, words = diagram_checks.one(random.Random(f"{seed} {number} diagram"))
-    wanted, words = diagram_checks.wanted_of(text, words, "-", True), ["check", *words, "-"]
+    wanted, words = diagram_check_answer(text, words, "-", True), ["check", *words, "-"]
     got = run([program, *words], text)
     return [] if got == wanted else [(words, text, got, wanted)]
 

@@ -20,25 +20,23 @@ from limits import of_events
 from load import INSTANCES, MESSAGES, drawn
 from program import QUEUES, TOP, Answer, Count, arguments, run
 from whole_runs import Drawn
-import again
-import chains
-import compare
-import diagram_checks
-import imports
-import notes
-import ready
-from answer import lines_answer, read_answer
-from marks import marks_for
-from picture import chart_picture, run_picture
+from comparisons.explanations import check_placed, check_short
+from generators import charts
+from generators.check_options import words_of
+from models import notes, ready, rounds
+from models.answers import diagram_check_answer, import_answer, lines_answer, read_answer
+from models.chart import Chart, is_enforced
+from models.explanations import Wrong, check
+from models.marks import marks_for
+from models.picture import chart_picture, run_picture
+from models.races import listing, places_of, study
 from refuse import Shim
-from studies import listing, places_of, study, words_of
-from verdict import Chart, is_enforced
 
 sys.path.append(str(TOP / "tools/picture"))
 import readers
 
 SIZES = (201, 257, 300)
-# what is asked of the races of a chart: each differs from again.PLAIN in this
+# what is asked of the races of a chart: each differs from rounds.PLAIN in this
 STUDIES = (
     {"show": 2}, {"show": 2, "words": True, "short": True, "why": True, "closest": True},
     {"show": 1, "most": 5, "places": True, "why": True}, {"show": 0, "accept": True},
@@ -57,7 +55,7 @@ def random_chart(pick, events):
     """A chart of so many events, one in ten of them actions, each on a line of its own of the text;
     some have a mark."""
     messages = events * 9 // 20
-    lines = compare.events(pick, 16, messages, 0)
+    lines = charts.events(pick, 16, messages, 0)
     for _ in range(events - 2 * messages):
         line = pick.choice(lines)
         line.insert(pick.randint(0, len(line)), "action 'x';")
@@ -109,11 +107,11 @@ def answers_on_charts(pick, text, queues, more):
     e, f = pick.choice(races)
     yield ["reverse", *asked, "-", str(e), str(f)], lines_answer(run_picture(chart, e, f), 0)
     for given in STUDIES:
-        options, marks = {**again.PLAIN, **given}, marks_for(text, queues)
+        options, marks = {**rounds.PLAIN, **given}, marks_for(text, queues)
         told = lines_answer(*study(chart, places, options, marks))
         yield ["check", *asked, *words_of(options), "-"], told
-    told = lines_answer(*again.check_answer(text, queues, {**again.PLAIN, **more}))
-    yield ["check", *asked, "--again", *words_of({**again.PLAIN, **more}), "-"], told
+    told = lines_answer(*rounds.check_answer(text, queues, {**rounds.PLAIN, **more}))
+    yield ["check", *asked, "--again", *words_of({**rounds.PLAIN, **more}), "-"], told
     yield ["check", *asked, "--again", "-q", "-"], (b"", b"", told[2])
 
 
@@ -124,16 +122,16 @@ def answers_of_ready(text, queues):
     words = [*asked, "--words", "--places", "--show", "1", "--only", "i1", "-"]
     yield words, ready.answer(text, queues, ["i1"], 1, True, "-")
     words = [*asked, "--again", "--show", "1", "-"]
-    yield words, again.ready_answer(text, queues, [], 1)
+    yield words, rounds.ready_answer(text, queues, [], 1)
 
 
 def answers_on_diagrams(text, queues):
     """Words, and what is printed of a diagram."""
     for more in OF_DIAGRAMS:
         words = ["--from", "any", "--queues", queues, *more]
-        yield ["check", *words, "-"], diagram_checks.wanted_of(text, words, "-")
+        yield ["check", *words, "-"], diagram_check_answer(text, words)
     for is_listed in (False, True):
-        wanted = imports.wanted_of(text, ["--name", "t"], is_listed)
+        wanted = import_answer(text, ["--name", "t"], is_listed)
         yield ["import", "--name", "t", *["--list"] * is_listed, "-"], wanted
 
 
@@ -145,11 +143,11 @@ def explanations(count, program, pick, text, queues):
         words = [program, "explain", "--queues", queues, "-", str(e), str(f)]
         plain = run(words, text.encode())
         try:
-            chains.check(chart, e, f, plain.output.decode().splitlines())
+            check(chart, e, f, plain.output.decode().splitlines())
             wrong = plain[1:] != (b"", int(not is_enforced(chart, e, f)))
-            chains.check_placed(program_of(words), text, places_of(text.encode()), e, f, Run(plain))
-            chains.check_short(program_of(words), text, chart, e, f, Run(plain))
-        except (chains.Wrong, IndexError, ValueError) as told:
+            check_placed(program_of(words), text, places_of(text.encode()), e, f, plain)
+            check_short(program_of(words), text, chart, e, f, plain)
+        except (Wrong, IndexError, ValueError) as told:
             wrong = told
         count.add(not wrong, *words[1:], wrong, plain[1:])
 
@@ -157,13 +155,6 @@ def explanations(count, program, pick, text, queues):
 def program_of(words):
     """The program, its command, and the architecture."""
     return words[:4]
-
-
-class Run:
-    """A run of the program as chains.py takes it."""
-
-    def __init__(self, answer):
-        self.stdout, self.stderr, self.returncode = answer
 
 
 def pictures(count, program, pick, text):

@@ -6,8 +6,8 @@
 Texts at the limit are read or checked, and texts one past it are refused with the limit's line;
 texts that are as large as a text may be, each made of one thing, are read (with --quick those of
 few tokens alone, since the naive reader takes its time for the others). Wanted answers are those of
-tools/naive/reading.py or stand here; the limits of diagrams are met by tools/naive/imports.py and
-diagram_checks.py too. The largest charts and diagrams are answered the same with a stack of 128
+tools/naive or stand here; the limits of diagrams are met by its comparisons imports and
+diagram_checks too. The largest charts and diagrams are answered the same with a stack of 128
 KiB, for each thread too. Prints what differs, and last `N passed, M failed`.
 """
 import random
@@ -16,9 +16,8 @@ import sys
 
 from load import INSTANCES, MESSAGES, drawn
 from program import QUEUES, Answer, Count, add_commands, arguments, check_words, run
-from answer import read_answer
-import diagram_checks
-import imports
+from generators import diagram_checks, imports
+from models.answers import read_answer
 
 LIMIT = 1048576
 # bytes of a small stack

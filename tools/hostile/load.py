@@ -8,7 +8,7 @@ instances and the architectures in turn; then charts of 32 instances with 1,024 
 times one after the other (20 where it is not said). With --one-processor all of it has one
 processor. Every instance has to finish, the trace has to be a run in which every event occurs, and
 the status 0; standard error has to be empty. That is looked at by whole_runs.py;
-tools/naive/traces.py takes too long for charts of this size. Prints what differs, the longest
+the model in tools/naive takes too long for charts of this size. Prints what differs, the longest
 times, and last `N passed, M failed`.
 """
 import os
@@ -18,7 +18,7 @@ import sys
 import time
 from subprocess import PIPE
 
-from program import MOST, QUEUES, Answer, Count, arguments, run
+from program import MOST_SECONDS, QUEUES, Answer, Count, arguments, run
 from whole_runs import Drawn, spoiled
 
 # the messages and instances of the largest charts
@@ -70,7 +70,7 @@ def side_by_side(count, program, pick, runs):
         begun.append((process, charts[number % len(texts)], queues))
     for number, (process, chart, queues) in enumerate(begun):
         try:
-            output, error = process.communicate(timeout=10 * MOST)
+            output, error = process.communicate(timeout=10 * MOST_SECONDS)
             answer = Answer(output, error, process.returncode)
             judge(count, chart, queues, answer, f"run {number} of {runs}")
         except subprocess.TimeoutExpired:

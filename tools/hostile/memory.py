@@ -22,7 +22,7 @@ import tempfile
 
 from load import INSTANCES, MESSAGES, drawn
 from program import QUEUES, TOP, Count, add_commands, arguments, run
-from imports import at_the_limits
+from generators.imports import at_the_limits
 from refuse import Program, Shim, is_well, refuse_each
 from threads import star
 

@@ -1,43 +1,20 @@
 """Runs of the program, for the commands beside this file."""
-import argparse
 import pathlib
-import subprocess
 import sys
-from typing import NamedTuple
 
 sys.dont_write_bytecode = True
 TOP = pathlib.Path(__file__).resolve().parent.parent.parent
 sys.path += [str(TOP / "tools/naive"), str(TOP / "tools/refuse")]
+from harness import MOST_SECONDS, Answer, parser, run
+from models.chart import QUEUES
 
-# the most seconds that a run may take
-MOST = 60
 # the commands that are tried
 COMMANDS = ["read", "check", "run", "draw", "reverse", "report", "ready", "import"]
-# the architectures
-QUEUES = ("pair", "mailbox", "single")
-
-
-class Answer(NamedTuple):
-    """What a run wrote to standard output and to standard error, and its exit status: below 0 where
-    a signal ended it, and None where it did not end in time."""
-    output: bytes
-    error: bytes
-    status: int
-
-
-def run(words, stdin=b"", **options):
-    """Runs these words with this standard input, and with options of subprocess."""
-    try:
-        done = subprocess.run(words, input=stdin, capture_output=True, timeout=MOST, **options)
-    except subprocess.TimeoutExpired as late:
-        return Answer(late.stdout or b"", late.stderr or b"", None)
-    return Answer(done.stdout, done.stderr, done.returncode)
 
 
 def arguments(about):
     """The words of a command, of which the program is one."""
-    words = argparse.ArgumentParser(description=about,
-                                    formatter_class=argparse.RawDescriptionHelpFormatter)
+    words = parser(about)
     words.add_argument("program", metavar="PROGRAM")
     return words
 

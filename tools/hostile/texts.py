@@ -1,6 +1,6 @@
 #!/usr/bin/env python3
 """Cuts texts at every byte, leaves every byte out, and puts each of 40 telling bytes in the place
-of every byte; compares what the program answers with what tools/naive/answer.py does.
+of every byte; compares what the program answers with what the models of tools/naive do.
 
     texts.py [--every K] PROGRAM [CHART ..]
 
@@ -9,16 +9,15 @@ and charts/import/websocket_chat.mmd. Each text, or each K-th, is given to `msc 
 has a draft also to `msc check` under each architecture, to `msc draw` and `msc ready` under one, and
 to `check` and `ready` with `--again`.
 Those of a diagram are given to `msc import`, and where a scenario has a draft to `msc check --from`,
-and compared with tools/naive/mermaid.py and scenarios.py. Prints what differs, for each chart how
+and compared with these too. Prints what differs, for each chart how
 many texts had a draft, and last `N passed, M failed`.
 """
 import pathlib
 import sys
 
 from program import QUEUES, TOP, Count, arguments, check_words, run
-from answer import again_answer, check_answer, draw_answer, read_answer, ready_answer
-from diagram_checks import wanted_of as checked_of
-from imports import wanted_of
+from models.answers import again_answer, check_answer, diagram_check_answer, draw_answer
+from models.answers import import_answer, read_answer, ready_answer
 
 CHARTS = [TOP / "charts/kinds_and_comments.msc", TOP / "charts/texts_of_actions.msc",
           TOP / "charts/import/websocket_chat.mmd"]
@@ -68,11 +67,11 @@ def compare_diagram(count, program, text):
     """Compares what is imported of a diagram and what all its scenarios are answered; whether a
     scenario of it has a draft."""
     words, of_all = ["--choose", "main"], ["--from", "any", "--queues", "pair"]
-    wanted = wanted_of(text, words, False)
+    wanted = import_answer(text, words)
     count.compare(run([program, "import", *words, "-"], text), wanted, text)
     if wanted[2] != 0:
         return False
-    checked = checked_of(text, of_all, "-")
+    checked = diagram_check_answer(text, of_all)
     count.compare(run([program, "check", *of_all, "-"], text), checked, text)
     return True
 

@@ -1,9 +1,9 @@
 """Whether what `msc run` printed is a whole run of a chart, in time that grows with the chart
-alone: for large charts and many runs. tools/naive/traces.py says more of small ones."""
+alone: for large charts and many runs. the model of executions in tools/naive says more of small ones."""
 import collections
 
-from reading import Draft, key
-from verdict import action_text
+from models.chart import action_text
+from models.reading import Draft, key
 
 
 def shown(event):

@@ -3,7 +3,7 @@
 
     browser.py [--charts N] [--messages M] [--seed S] [--browser NAME] PROGRAM
 
-The charts are those of charts/, and random ones of compare.py; the pictures are in SVG: of each
+The charts are those of charts/, and random ones of naive/generators; the pictures are in SVG: of each
 chart with its closest races under each architecture, and of a run that reverses one of its races.
 They are put into a page that asks for the box of each text: no two texts of a picture meet, and none
 leaves it; the text of an action is in a box, and the number of a mark in its badge; and no other

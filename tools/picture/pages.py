@@ -7,11 +7,8 @@ import sys
 sys.dont_write_bytecode = True
 TOP = pathlib.Path(__file__).resolve().parent.parent.parent
 sys.path.insert(0, str(TOP / "tools" / "naive"))
-from compare import chart
-from verdict import Chart
-
-# the architectures
-QUEUES = ("pair", "mailbox", "single")
+from generators.charts import chart
+from models.chart import QUEUES, Chart
 
 
 def texts(number, messages, seed):

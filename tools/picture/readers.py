@@ -3,7 +3,7 @@
 
     readers.py [--charts N] [--messages M] [--seed S] PROGRAM
 
-The charts are those of charts/, and random ones of compare.py. Of each are read, under each
+The charts are those of charts/, and random ones of naive/generators. Of each are read, under each
 architecture, the picture of the chart in SVG, that of a run that reverses one of its races, and the
 report. Each is of the bytes 32 to 126 and LF, is read as XML, and names nothing on the network but
 the name space of SVG; in a report each element is closed in its place for an HTML reader too. A
@@ -21,9 +21,9 @@ import sys
 import xml.etree.ElementTree
 
 from pages import QUEUES, drawn_of, printed, texts
-from picture import label
-from reading import Draft
-from studies import closest_of
+from models.picture import label
+from models.races import closest_of
+from models.reading import Draft
 
 SPACE = "http://www.w3.org/2000/svg"
 ARROW = re.compile(r"M(\d+),(\d+)(?:L(\d+),(\d+)|h\d+V(\d+)H(\d+))")

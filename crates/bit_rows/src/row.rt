@@ -7,7 +7,7 @@ ghost use Rattle.bit_rows.specs.Rows.{all_ones, HasNumbersOf32Bits, IsWithout};
 
 use std::alloc::{AllocError, Global};
 
-/// How many words have a bit for each number below `n`.
+/// The number of words with a bit for each number below `n`.
 pub fn word_count(n: u32) -> usize
     ensures count { result ≡ word_count n }
     ensures small { result ≤ n }
@@ -16,14 +16,14 @@ pub fn word_count(n: u32) -> usize
     (n as usize).div_ceil(64)
 }
 
-/// So many words that are 0.
+/// `count` words that are 0.
 pub(crate) fn zeros(alloc: Global, count: usize) -> Result<Vec<u64>, AllocError>
     ensures { IfOk result (λ words. words.items ≡ replicate count 0) }
 {
     vec![in alloc; 0u64; count]
 }
 
-/// So many words whose bits are all 1.
+/// `count` words whose bits are all 1.
 fn ones(alloc: Global, count: usize) -> Result<Vec<u64>, AllocError>
     ensures { IfOk result (λ words. words.items ≡ replicate count all_ones) }
 {
@@ -99,7 +99,7 @@ pub fn part(row: &mut [u64], other: &[u64])
     }
 }
 
-/// Takes the numbers of another row of its length into the row.
+/// Adds the numbers of another row of its length to the row.
 pub(crate) fn join(row: &mut [u64], other: &[u64])
     requires { length other.now ≡ length row.old }
     ensures { (y : ℕ) → has row.new y ≡ (has row.old y || has other.now y) }
@@ -120,8 +120,8 @@ pub fn lowest_in(word: u64, k: u32) -> u32
     64 * k + word.trailing_zeros()
 }
 
-/// The bits of word `k` of a row that are 0 and stand for numbers from `start` up to `end`, which
-/// the word has some of.
+/// The bits of word `k` of a row that are 0 and represent numbers from `start` up to `end`. The
+/// word has some of these numbers.
 pub fn zeros_in(word: u64, k: u32, start: u32, end: u32) -> u64
     requires few { HasNumbersOf32Bits k }
     requires start { start < 64 * k + 64 }
@@ -138,8 +138,8 @@ pub fn zeros_in(word: u64, k: u32, start: u32, end: u32) -> u64
     zeros & (u64::MAX << from) & (u64::MAX >> past)
 }
 
-/// The first word in which two rows of one length have a number in common, where the words below
-/// `from` have none; or how many words there are.
+/// The first word in which two rows of one length have a number in common, given that the words
+/// below `from` have none; or the number of words.
 pub fn first_common(one: &[u64], other: &[u64], from: usize) -> usize
     requires other { length other.now ≡ length one.now }
     requires from { AreApartTo one.now other.now from }

@@ -1,4 +1,4 @@
-//! Sets of numbers whose least one is asked for again and again.
+//! Sets of numbers for repeated queries of the least number.
 
 ghost use Rattle.std.specs.Prelude.{◌≡◌, ℕ, ◌*◌, ◌/◌, ◌<◌, ◌≤◌, ◌||◌, false, length, nat_eq};
 ghost use Rattle.std.specs.Prelude.{IsTrue, IfOk};
@@ -8,7 +8,7 @@ use crate::{SET_LIMIT, row};
 use std::alloc::{AllocError, Global};
 use std::marker::Model;
 
-/// A row of bits, and a word that tells which of the row's words have a number.
+/// A row of bits, and a word that shows which of the row's words have a number.
 ///
 /// Contracts see the row.
 #[derive(Drop)]
@@ -52,7 +52,7 @@ impl Set {
         self.some |= 1 << (y / 64);
     }
 
-    /// Puts number `y` into the set, where it is wanted.
+    /// Puts number `y` into the set, if `wanted`.
     pub fn put_where(&mut self, y: u32, wanted: bool)
         requires { y < 64 * length self.old }
         ensures numbers { IsWith self.old self.new wanted y }

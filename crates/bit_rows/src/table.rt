@@ -9,7 +9,7 @@ use crate::row;
 use crate::row::{clear, join, meet, part, word_count, zeros};
 use std::alloc::{AllocError, Global};
 
-/// So many rows without a number. An error is a growth of memory that was refused.
+/// `rows` rows without a number. An error is a growth of memory that was refused.
 pub fn blank(alloc: Global, rows: u32, n: u32) -> Result<Vec<u64>, AllocError>
     ensures square { IfOk result (λ words. length words.items ≡ rows * word_count n) }
     ensures none { IfOk result (λ words. (x y : ℕ) → cell n words.items x y ≡ false) }
@@ -48,7 +48,7 @@ pub fn put(words: &mut [u64], n: u32, e: u32, f: u32)
     words[place] |= 1 << (f % 64);
 }
 
-/// Row `e` takes in row `f`.
+/// Adds the numbers of row `f` to row `e`.
 pub fn merge(words: &mut [u64], n: u32, e: u32, f: u32)
     requires row { HasRow n words.old e }
     requires other { HasRow n words.old f }
@@ -62,7 +62,7 @@ pub fn merge(words: &mut [u64], n: u32, e: u32, f: u32)
     }
 }
 
-/// Row `e` takes in row `f`, and `f` itself where it is wanted.
+/// Adds the numbers of row `f` to row `e`, and `f` itself if `wanted`.
 pub fn take_in(words: &mut [u64], n: u32, e: u32, f: u32, wanted: bool)
     requires row { HasRow n words.old e }
     requires other { HasRow n words.old f }
@@ -75,7 +75,7 @@ pub fn take_in(words: &mut [u64], n: u32, e: u32, f: u32, wanted: bool)
     }
 }
 
-/// Row `e` takes in a row of numbers.
+/// Adds a row of numbers to row `e`.
 pub fn take_row(words: &mut [u64], n: u32, e: u32, row: &[u64])
     requires row { HasRow n words.old e }
     requires numbers { length row.now ≡ word_count n }
@@ -109,7 +109,7 @@ pub fn drop_row(left: &mut [u64], words: &[u64], n: u32, c: u32)
     clear(left, c);
 }
 
-/// Puts the numbers of row `c`, and `c` itself, into `row`.
+/// Adds the numbers of row `c`, and `c` itself, to `row`.
 pub fn put_row(row: &mut [u64], words: &[u64], n: u32, c: u32)
     requires length { length row.old ≡ word_count n }
     requires row { HasRow n words.now c }

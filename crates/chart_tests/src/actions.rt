@@ -1,4 +1,4 @@
-//! Actions: what their texts hold, and how they are written.
+//! Actions: their texts, and their printed forms.
 
 use crate::drafts::{draft_of, is_written_as};
 use crate::host::Host;
@@ -61,7 +61,7 @@ fn actions_are_written_and_read_again(rt: HostRuntime) {
     }
 }
 
-/// Texts in apostrophes, and what they hold.
+/// Texts in apostrophes, and the bytes that they hold.
 const HELD: &[(&[u8], &[u8])] = &[(b"'it''s'", b"it's"), (b"''", b""), (b"'''''a'", b"''a")];
 
 #[test]

@@ -12,7 +12,7 @@ pub(crate) fn chart_of(rt: &impl Host, text: &[u8]) -> Chart {
     Chart::build(rt.alloc(), &draft_of(rt, text)).expect(rt, "a chart")
 }
 
-/// Whether a text has a draft with this fault, or whose chart is built where there is none.
+/// Whether a text has a draft with this fault or, without a fault, a draft whose chart is built.
 fn has_fault(rt: &impl Host, text: &[u8], wanted: Option<ChartFault>) -> bool {
     match parse(rt.alloc(), text) {
         Ok(draft) => Chart::build(rt.alloc(), &draft).err() == wanted,
@@ -20,7 +20,7 @@ fn has_fault(rt: &impl Host, text: &[u8], wanted: Option<ChartFault>) -> bool {
     }
 }
 
-/// Texts, and the faults of their drafts, or none where they are charts.
+/// Texts, and the faults of their drafts, or none if they are charts.
 const DRAFTS: &[(&[u8], Option<ChartFault>)] = &[
     (
         b"msc t; inst a; endmsc;",
@@ -74,8 +74,8 @@ fn drafts_and_their_faults(rt: HostRuntime) {
     }
 }
 
-/// A part of a text: what stands there once, and behind it so many statements, each of which has
-/// its number, from 0, between these two.
+/// A part of a text: a beginning, and after it a number of statements, each of which has its
+/// number, from 0, between these two strings.
 pub(crate) type Part = (&'static str, u32, &'static str, &'static str);
 
 /// Adds a part to a text.
@@ -96,7 +96,7 @@ pub(crate) fn text_of(rt: &impl Host, parts: &[Part]) -> String {
     text
 }
 
-/// Whether the draft of that text has this fault, or none.
+/// Whether the draft of the text of these parts has this fault, or none.
 fn is_limit(rt: &impl Host, parts: &[Part], wanted: Option<ChartFault>) -> bool {
     let text = text_of(rt, parts);
     has_fault(rt, text.as_bytes(), wanted)
@@ -163,11 +163,11 @@ fn the_limits_of_charts(rt: HostRuntime) {
     }
 }
 
-/// How many events a chart has, the segments of two of them, and whether the first is drawn before
-/// the second.
+/// The number of events of a chart, the segments of two of them, and whether the first is drawn
+/// before the second.
 type Drawn = (u32, u32, u32, bool);
 
-/// What is drawn of two events of a chart, if it has them.
+/// These data for two events of a chart, if it has them.
 fn drawn(chart: &Chart, e: Event, f: Event) -> Option<Drawn> {
     let events = chart.events();
     if e >= events || f >= events {
@@ -177,16 +177,16 @@ fn drawn(chart: &Chart, e: Event, f: Event) -> Option<Drawn> {
     Some((events, segments.0, segments.1, chart.before(e, f)))
 }
 
-/// Whether this is drawn of two events of a text's chart.
+/// Whether these are the data for two events of a text's chart.
 fn is_drawn(rt: &impl Host, text: &[u8], e: Event, f: Event, wanted: Drawn) -> bool {
     drawn(&chart_of(rt, text), e, f) == Some(wanted)
 }
 
-/// A chart in which a coregion without events stands between two events.
+/// A chart with a coregion without events between two events.
 const EMPTY_COREGION: &[u8] = b"msc t; instance a; out m to a; concurrent; endconcurrent; \
 in m from a; endinstance; endmsc;";
 
-/// Texts, two events, and what is drawn of them.
+/// Texts, two events, and the data for them.
 const DRAWN: &[(&[u8], Event, Event, Drawn)] = &[
     (COREGION, 1, 2, (4, 0, 0, false)),
     (TWO_SENDERS, 1, 2, (4, 0, 1, true)),
@@ -230,8 +230,8 @@ fn line(chart: &Chart, i: u32) -> Option<(Event, Event)> {
     Some(chart.line(i))
 }
 
-/// Whether a text's chart has an instance with this line, or where there is none, no instance of
-/// this number.
+/// Whether a text's chart has an instance of this number with this line or, if there is no line, no
+/// such instance.
 fn is_line(rt: &impl Host, text: &[u8], i: u32, wanted: Option<(Event, Event)>) -> bool {
     line(&chart_of(rt, text), i) == wanted
 }
@@ -254,7 +254,7 @@ fn lines_of_relay(rt: HostRuntime) {
 /// The instance, the kind, the partner and the message of an event.
 type Shown = (u32, EventKind, Option<Event>, Option<u32>);
 
-/// What is shown of an event of a chart, if it has the event.
+/// These data for an event of a chart, if it has the event.
 fn shown(chart: &Chart, e: Event) -> Option<Shown> {
     if e >= chart.events() {
         return None;
@@ -263,12 +263,12 @@ fn shown(chart: &Chart, e: Event) -> Option<Shown> {
     Some((chart.instance_of(e), chart.kind(e), ends.0, ends.1))
 }
 
-/// Whether a text's chart has an event of which this is shown.
+/// Whether a text's chart has an event with these data.
 fn is_event(rt: &impl Host, text: &[u8], e: Event, wanted: Shown) -> bool {
     shown(&chart_of(rt, text), e) == Some(wanted)
 }
 
-/// Texts, an event, and what is shown of it.
+/// Texts, an event, and the data for it.
 const EVENTS: &[(&[u8], Event, Shown)] = &[
     (RELAY, 1, (0, EventKind::Output, Some(4), Some(1))),
     (RELAY, 2, (1, EventKind::Input, Some(0), Some(0))),
@@ -319,7 +319,7 @@ fn labels_of_local_events(rt: HostRuntime) {
 /// architecture.
 type Sent = ((Event, Event, u32, u32), [u32; 3]);
 
-/// What is shown of a message of a chart, if it has the message.
+/// These data for a message of a chart, if it has the message.
 fn sent(chart: &Chart, m: u32) -> Option<Sent> {
     if m >= chart.messages() {
         return None;
@@ -331,7 +331,7 @@ fn sent(chart: &Chart, m: u32) -> Option<Sent> {
     Some(((ends.0, ends.1, chart.sender(m), chart.receiver(m)), queues))
 }
 
-/// Whether this is shown of a message of a text's chart.
+/// Whether a message of a text's chart has these data.
 fn is_sent(rt: &impl Host, text: &[u8], m: u32, wanted: Option<Sent>) -> bool {
     sent(&chart_of(rt, text), m) == wanted
 }

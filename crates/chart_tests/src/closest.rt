@@ -1,4 +1,4 @@
-//! Closest races. The expected values are read off the charts by hand, from the definitions in
+//! Closest races. The expected values were derived from the charts by hand, with the definitions in
 //! `docs/MODEL.md`.
 
 use crate::charts::{Part, chart_of, text_of};
@@ -10,8 +10,8 @@ use msc_chart::{Chart, Event, Queues};
 use msc_race::Enforced;
 use msc_reason::{KindSet, LeftOut, Listing, Pairs, Stream};
 
-/// An output between two inputs of one queue, which are taken in the order in which they were not
-/// sent: the later input always comes first, and before the output.
+/// An output between two inputs of one queue that are taken in the other order than they are sent:
+/// the later input always comes first, and before the output.
 pub(crate) const OUTPUT_BETWEEN: &[u8] =
     b"msc t; instance a; out m1 to b; out m2 to b; endinstance; \
 instance b; in m2 from a; out k to c; in m1 from a; endinstance; \
@@ -25,7 +25,7 @@ const CLOSEST: &[(&[u8], Queues, &[(Event, Event)])] = &[
     (CROSSING, Queues::Pair, &[(0, 1), (2, 3)]),
     (WAITS, Queues::Pair, &[(1, 2)]),
     (TWO_MAILBOXES, Queues::Mailbox, &[(4, 5), (6, 7)]),
-    // The events of a coregion are next to what is drawn above it and below it.
+    // The events of a coregion are adjacent to the events drawn above it and below it.
     (
         BELOW_COREGION,
         Queues::Pair,
@@ -36,7 +36,7 @@ const CLOSEST: &[(&[u8], Queues, &[(Event, Event)])] = &[
     (OUTPUT_BETWEEN, Queues::Single, &[(3, 4)]),
 ];
 
-/// What a listing lists, event by event.
+/// The races of a listing, event by event.
 fn listed(rt: &impl Host, listing: &Listing) -> Vec<(Event, Event)> {
     let mut list = Vec::new(rt.alloc());
     let mut stream = Stream::new(rt.alloc());
@@ -65,7 +65,7 @@ fn are_near(rt: &impl Host, chart: &Chart, queues: Queues, wanted: &[(Event, Eve
     near_of(rt, enforced).as_slice() == wanted
 }
 
-/// The same of a text's chart.
+/// The same for a text's chart.
 fn are_closest(rt: &impl Host, text: &[u8], queues: Queues, wanted: &[(Event, Event)]) -> bool {
     are_near(rt, &chart_of(rt, text), queues, wanted)
 }
@@ -78,8 +78,8 @@ fn closest_races(rt: HostRuntime) {
     }
 }
 
-/// Texts with as many messages from each of two senders, drawn one stream below the other; how many
-/// races their charts have, and the one closest race.
+/// Texts with as many messages from each of two senders, drawn one stream below the other; the
+/// number of races of their charts, and the one closest race.
 const STREAMS: &[(&[Part], u32, (Event, Event))] = &[
     (
         &[
@@ -105,10 +105,10 @@ const STREAMS: &[(&[Part], u32, (Event, Event))] = &[
     ),
 ];
 
-/// How many races and how many closest races there are, and the first of these.
+/// The number of races, the number of closest races, and the first of these.
 type Counted = (u32, usize, Option<(Event, Event)>);
 
-/// How many races and how many closest races a chart has, and the first of these.
+/// The number of races and of closest races of a chart, and the first of these.
 fn counted(rt: &impl Host, chart: &Chart) -> Counted {
     let enforced = Enforced::of(rt.alloc(), chart, Queues::Pair).expect(rt, "an order");
     let all = enforced.count_races();
@@ -116,7 +116,7 @@ fn counted(rt: &impl Host, chart: &Chart) -> Counted {
     (all, near.len(), near.first().copied())
 }
 
-/// The same of the chart of a text of these parts.
+/// The same for the chart of a text of these parts.
 fn of_streams(rt: &impl Host, parts: &[Part]) -> Counted {
     let text = text_of(rt, parts);
     counted(rt, &chart_of(rt, text.as_bytes()))
@@ -130,14 +130,14 @@ fn two_streams_have_one_closest_race(rt: HostRuntime) {
     }
 }
 
-/// The pair (3, 4) of the six events of `OUTPUT_BETWEEN`, as it is accepted.
+/// The pair (3, 4) of the six events of `OUTPUT_BETWEEN`, as an accepted pair.
 fn one_accepted(rt: &impl Host) -> Pairs {
     let mut pairs = Pairs::none(rt.alloc(), 6).expect(rt, "memory");
     pairs.put(3, 4);
     pairs
 }
 
-/// The closest races of that chart beside the one that is accepted.
+/// The closest races of that chart without the accepted one.
 fn beside_the_accepted(rt: &impl Host) -> Vec<(Event, Event)> {
     let chart = chart_of(rt, OUTPUT_BETWEEN);
     let enforced = Enforced::of(rt.alloc(), &chart, Queues::Pair).expect(rt, "an order");
@@ -149,7 +149,7 @@ fn beside_the_accepted(rt: &impl Host) -> Vec<(Event, Event)> {
     near_without(rt, enforced, left_out)
 }
 
-// (2, 4) spans it, and is a closest race once it does not count.
+// (2, 4) spans it, and is a closest race once the pair does not count.
 #[test]
 fn closest_races_beside_an_accepted_one(rt: HostRuntime) {
     assert_eq!(rt; beside_the_accepted(&rt).as_slice(), [(2, 4)].as_slice());

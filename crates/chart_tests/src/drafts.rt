@@ -1,37 +1,37 @@
-//! Drafts: the parts that the readers show, and the canonical text.
+//! Drafts: their parts, and the canonical text.
 
 use crate::host::Host;
 use example_charts::ONE_MESSAGE;
-use msc_parser::{Draft, Item, Section, Signal, Statement, Way, parse};
+use msc_parser::{Direction, Draft, Item, Section, Signal, Statement, parse};
 
 /// Whether an event is this one of message `m`, with no message instance name and no parameters.
-fn is_plain(signal: &Signal, way: Way, address: &[u8]) -> bool {
-    signal.way == way
+fn is_plain(signal: &Signal, direction: Direction, address: &[u8]) -> bool {
+    signal.direction == direction
         && signal.name.as_slice() == b"m".as_slice()
         && signal.number.is_none()
         && signal.parameters.as_slice().is_empty()
         && signal.address.as_slice() == address
 }
 
-/// Whether a section is that of this instance, which has no kind, and has one event, of message
+/// Whether a section belongs to this instance, which has no kind, and has one event, of message
 /// `m`.
-fn is_of(section: &Section, name: &[u8], way: Way, address: &[u8]) -> bool {
+fn is_of(section: &Section, name: &[u8], direction: Direction, address: &[u8]) -> bool {
     if section.decl.name.as_slice() != name || !section.decl.kind.as_slice().is_empty() {
         return false;
     }
     match section.items.as_slice() {
-        [Item::Single(Statement::Message(signal))] => is_plain(signal, way, address),
+        [Item::Single(Statement::Message(signal))] => is_plain(signal, direction, address),
         _ => false,
     }
 }
 
-/// Whether a draft is that of `ONE_MESSAGE`.
+/// Whether a draft is the draft of `ONE_MESSAGE`.
 fn is_one_message(draft: &Draft) -> bool {
     if draft.name() != b"t".as_slice() || !draft.header().is_empty() {
         return false;
     }
     match draft.sections() {
-        [a, b] => is_of(a, b"a", Way::Output, b"b") && is_of(b, b"b", Way::Input, b"a"),
+        [a, b] => is_of(a, b"a", Direction::Output, b"b") && is_of(b, b"b", Direction::Input, b"a"),
         _ => false,
     }
 }
@@ -52,7 +52,7 @@ fn the_parts_of_one_message(rt: HostRuntime) {
     assert!(rt; is_one_message(&draft_of(&rt, ONE_MESSAGE)));
 }
 
-/// Whether a text is written as `wanted`, and `wanted` as itself.
+/// Whether the canonical text of a text is `wanted`, and that of `wanted` is `wanted`.
 pub fn is_written_as(rt: &impl Host, text: &[u8], wanted: &[u8]) -> bool {
     let first = canonical(rt, text);
     let again = canonical(rt, wanted);

@@ -1,4 +1,4 @@
-//! Why a text has no draft, and at which place.
+//! Why a text has no draft, and the place of the fault.
 
 use crate::host::Host;
 use msc_lexer::{LexFault, Word};
@@ -34,7 +34,7 @@ const REFUSED: &[(&[u8], ParseFault)] = &[
     ),
 ];
 
-/// Whether a text has no draft for this fault.
+/// Whether this is the fault of a text without a draft.
 pub fn has_fault(rt: &impl Host, text: &[u8], wanted: ParseFault) -> bool {
     fault(rt, text) == Some(wanted)
 }
@@ -46,7 +46,7 @@ fn refused_texts(rt: HostRuntime) {
     }
 }
 
-/// Whether the message of a fault is this.
+/// Whether this is the message of a fault.
 fn has_message(rt: &impl Host, fault: ParseFault, wanted: &str) -> bool {
     fault.to_string(rt.alloc()).expect(rt, "memory").as_str() == wanted
 }
@@ -72,13 +72,13 @@ fn messages_are_the_printed_words(rt: HostRuntime) {
     }
 }
 
-/// Whether a text of one byte, so many times, has no draft for this fault.
+/// Whether this is the fault of a text of one byte, repeated `count` times.
 fn has_fault_of_many(rt: &impl Host, byte: u8, count: usize, wanted: ParseFault) -> bool {
     let text = vec![in rt.alloc(); byte; count].expect(rt, "memory");
     has_fault(rt, &text, wanted)
 }
 
-/// Bytes, how many of them make a text, and its fault.
+/// Bytes, the number of them that makes a text, and its fault.
 const LIMITS: &[(u8, usize, ParseFault)] = &[
     (b' ', 1_048_577, ParseFault::Lex(LexFault::TooLong)),
     (b' ', 1_048_576, ParseFault::Expected(1_048_576, What::Msc)),

@@ -1,4 +1,4 @@
-//! All faults of a draft, and the further ones behind the first.
+//! All faults of a draft, and the further ones after the first.
 
 use crate::host::Host;
 use msc_chart::ChartFault::{
@@ -13,13 +13,13 @@ fn drafted(rt: &impl Host, text: &[u8]) -> Draft {
     parse(rt.alloc(), text).expect(rt, "a draft")
 }
 
-/// Whether exactly these faults stand in a text.
+/// Whether a text has exactly these faults.
 fn has_faults(rt: &impl Host, text: &[u8], wanted: &[ChartFault]) -> bool {
     let standing = faults(rt.alloc(), &drafted(rt, text)).expect(rt, "memory");
     standing.as_slice() == wanted
 }
 
-/// Texts, and the faults that stand in them.
+/// Texts, and their faults.
 const STANDING: &[(&[u8], &[ChartFault])] = &[
     (b"msc t; endmsc;", &[]),
     (
@@ -27,7 +27,7 @@ const STANDING: &[(&[u8], &[ChartFault])] = &[
           instance b; in m from a; endinstance; endmsc;",
         &[],
     ),
-    // an action is no end of a message, and two alike are no fault
+    // an action is no end of a message, and two equal actions are no fault
     (
         b"msc t; instance a; action 'm'; action 'm'; endinstance; endmsc;",
         &[],
@@ -38,7 +38,7 @@ const STANDING: &[(&[u8], &[ChartFault])] = &[
           instance b; endinstance; instance a; endinstance; endmsc;",
         &[TwiceInstance(2), TwiceInstance(3), TwiceInstance(4)],
     ),
-    // names in a header may stand twice, and differ in capitals from those of sections
+    // names in a header may occur twice, and differ in capitals from those of sections
     (
         b"msc t; inst a, A, a; inst b; instance a; endinstance; endmsc;",
         &[HeaderWithoutBody(1), HeaderWithoutBody(3)],
@@ -49,7 +49,7 @@ const STANDING: &[(&[u8], &[ChartFault])] = &[
           instance b; in m from a; endinstance; endmsc;",
         &[UnknownAddress(1), UnmatchedOut(1), UnmatchedIn(2)],
     ),
-    // the other end may be of an instance of an unknown name, and then it has none
+    // the other end may be on an instance of an unknown name, and then it is missing
     (
         b"msc t; instance a; in m from c; out m to a; endinstance; endmsc;",
         &[UnknownAddress(0), UnmatchedOut(1), UnmatchedIn(0)],
@@ -60,13 +60,13 @@ const STANDING: &[(&[u8], &[ChartFault])] = &[
           instance a; out m to b; endinstance; endmsc;",
         &[TwiceInstance(2), TwiceEvent(2)],
     ),
-    // a message to oneself has an output and an input, which are not twice the same
+    // a message to oneself has an output and an input, which are not the same end twice
     (
         b"msc t; instance a; out m to a; in m from a; out m to a; in m from a; out m, 2 to a;
           endinstance; endmsc;",
         &[TwiceEvent(2), TwiceEvent(3), UnmatchedOut(4)],
     ),
-    // message instance names are told apart from none, and parameters are not looked at
+    // message instance names differ from none, and parameters are not compared
     (
         b"msc t; instance a; out m(p) to b; out m, 1 to b; out m, 01 to b; out m(q) to b;
           endinstance; instance b; in m, 1 from a; in m from a; endinstance; endmsc;",
@@ -126,21 +126,22 @@ const FURTHER: &[(&[u8], ChartFault, &[ChartFault])] = &[
             UnmatchedOut(0),
         ],
     ),
-    // the output that may have been meant tells of the input: between the same, of one name
+    // the note on the input names the output that may have been meant: between the same instances,
+    // with another name
     (
         b"msc t; instance a; out m, 1 to b; endinstance; instance b; in m, 2 from a; endinstance;
           endmsc;",
         UnmatchedOut(0),
         &[],
     ),
-    // or between others, where a mistyped address makes it so
+    // or between others, if a mistyped address makes it so
     (
         b"msc t; instance a; out m to bb; endinstance; instance b; in m from a; endinstance;
           endmsc;",
         UnknownAddress(0),
         &[],
     ),
-    // or between the same, where its name is mistyped
+    // or between the same, if its name is mistyped
     (
         b"msc t; instance a; out m to c; out n to b; endinstance;
           instance b; in m from a; in o from a; endinstance; instance c; endinstance; endmsc;",
@@ -167,7 +168,7 @@ const FURTHER: &[(&[u8], ChartFault, &[ChartFault])] = &[
         UnknownAddress(2),
         &[TwiceEvent(1), UnmatchedIn(0)],
     ),
-    // behind other faults there are none
+    // after other faults there are none
     (
         b"msc t; instance a; in m from a; out m to a; endinstance; endmsc;",
         Cyclic(0),

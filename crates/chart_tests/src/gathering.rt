@@ -57,8 +57,9 @@ const GATHERED: &[(&[u8], Queues, &[&[Event]], &[Event])] = &[
     ),
 ];
 
-/// Logs of `crossing` that no run has as its lines: each queue is in order by itself; a log too
-/// few; an event twice; events on another line; an event of no chart; an input without its output.
+/// Logs of `crossing` that no run has as its lines: each queue is in order by itself; a log is
+/// missing; an event twice; events on another line; an event of no chart; an input without its
+/// output.
 const OF_NO_RUN: &[&[&[Event]]] = &[
     &[&[1, 0], &[3, 2]],
     &[&[0, 1]],
@@ -84,8 +85,8 @@ fn owned(rt: &impl Host, logs: &[&[Event]]) -> Vec<Vec<Event>> {
     all
 }
 
-/// Whether the logs of a chart are gathered into this run, or where there is none, no run has them
-/// as its lines.
+/// Whether the logs of a chart are gathered into this run or, if there is none, no run has them as
+/// its lines.
 fn is_gathered_in(
     rt: &impl Host,
     chart: &Chart,
@@ -100,7 +101,7 @@ fn is_gathered_in(
     }
 }
 
-/// The same of a text's chart.
+/// The same for a text's chart.
 fn is_gathered(
     rt: &impl Host,
     text: &[u8],

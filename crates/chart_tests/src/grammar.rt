@@ -27,7 +27,7 @@ fn has_number_and_parameters(signal: &Signal) -> bool {
     }
 }
 
-/// Whether a draft is that of `KINDS_AND_COMMENTS`, up to the only event of its first section.
+/// Whether a draft is the draft of `KINDS_AND_COMMENTS`, up to the only event of its first section.
 fn has_kinds_numbers_and_parameters(draft: &Draft) -> bool {
     let [a, _b] = draft.sections() else {
         return false;
@@ -64,8 +64,7 @@ fn kinds_numbers_parameters_and_coregions(rt: HostRuntime) {
     assert!(rt; has_coregions(&draft_of(&rt, COREGIONS)));
 }
 
-/// Texts without a draft, where the first token stands that is not expected, and what is expected
-/// there.
+/// Texts without a draft, the place of the first token that is not expected, and the expected part.
 const PLACES: &[(&[u8], usize, What)] = &[
     (b"x", 0, What::Msc),
     (b"msc ;", 4, What::Name),
@@ -138,12 +137,12 @@ fn a_refused_text_for_each_place(rt: HostRuntime) {
     }
 }
 
-/// The fault of the first bytes of `KINDS_AND_COMMENTS`, so many of them.
+/// The fault of the first `length` bytes of `KINDS_AND_COMMENTS`.
 fn fault_of_beginning(rt: &impl Host, length: usize) -> Option<ParseFault> {
     fault(rt, KINDS_AND_COMMENTS.get(..length).unwrap_or(b""))
 }
 
-/// Numbers of bytes, and the faults of so many.
+/// Numbers of bytes, and the faults of the first bytes, this many of them.
 const CUT: &[(usize, ParseFault)] = &[
     (50, ParseFault::Lex(LexFault::OpenText(49))),
     (51, ParseFault::Lex(LexFault::OpenText(49))),

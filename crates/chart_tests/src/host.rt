@@ -1,4 +1,4 @@
-//! What the helpers of tests take: they end the process where a call of theirs fails.
+//! The host of the helpers of tests, which end the process if a call of theirs fails.
 
 use std::alloc::AllocGlobal;
 use std::process::Abort;

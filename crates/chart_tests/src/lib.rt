@@ -1,5 +1,6 @@
 //! Tests of reading and of charts: tokens, drafts, the grammar and the fault of each text that is
-//! refused; events, orders, races and runs, and logs that are gathered into runs.
+//! refused; events, orders, races and runs, and logs that are gathered into runs. They start no
+//! thread; `program_tests` may.
 #![tactic(auto)]
 
 #[cfg(test)]
@@ -35,7 +36,7 @@ mod reasons;
 #[cfg(test)]
 mod rings_of_tables;
 #[cfg(test)]
-mod round_sticks;
+mod round_blocked_pairs;
 #[cfg(test)]
 mod rounds;
 #[cfg(test)]

@@ -1,5 +1,5 @@
-//! Marks: what the comments of statements say of races. The expected values are read off the texts
-//! by hand, from the section on marks in `docs/MODEL.md`.
+//! Marks: comments of statements on races. The expected values were derived from the texts by hand,
+//! with the section on marks in `docs/MODEL.md`.
 
 use crate::charts::chart_of;
 use crate::host::Host;
@@ -7,7 +7,7 @@ use msc_chart::{Event, Queues};
 use msc_mark::{Accepted, MarkFault, Marks};
 use msc_race::Enforced;
 
-/// What stands before the comment of event 5, and behind it.
+/// The text before the comment of event 5, and after it.
 const BEFORE: &[u8] = b"msc handover; instance SGW; out END_MARKER to source; \
 out DL_DATA to target; endinstance; instance source; in END_MARKER from SGW; \
 out END_MARKER, 2 to target; endinstance; \
@@ -15,7 +15,7 @@ instance target; in END_MARKER, 2 from source; in DL_DATA from SGW comment ";
 
 const BEHIND: &[u8] = b"; endinstance; endmsc;";
 
-/// Comments of event 5, and what reading them answers: how many marks, or a fault.
+/// Comments of event 5, and the result of reading them: the number of marks, or a fault.
 const COMMENTS: &[(&[u8], Result<usize, MarkFault>)] = &[
     (
         b"'race ok with END_MARKER, 2: the reorder buffer takes either'",
@@ -65,13 +65,13 @@ fn with_comment(rt: &impl Host, comment: &[u8]) -> Vec<u8> {
     text
 }
 
-/// How many marks a text has, or its first fault.
+/// The number of marks of a text, or its first fault.
 fn marks_in(rt: &impl Host, text: &[u8]) -> Result<usize, MarkFault> {
     let marks = Marks::of(rt.alloc(), text)?;
     Ok(marks.as_slice().len())
 }
 
-/// What reading a comment of event 5 answers.
+/// The result of reading a comment of event 5.
 fn read(rt: &impl Host, comment: &[u8]) -> Result<usize, MarkFault> {
     let text = with_comment(rt, comment);
     marks_in(rt, text.as_slice())
@@ -84,7 +84,7 @@ fn comments_that_are_marks(rt: HostRuntime) {
     }
 }
 
-/// Texts, and what reading their marks answers.
+/// Texts, and the results of reading their marks.
 const TEXTS: &[(&[u8], Result<usize, MarkFault>)] = &[
     // Comments of other statements are no marks, and no faults.
     (
@@ -143,7 +143,7 @@ const ACCEPTED: &[(&[u8], Queues, bool, &[Event])] = &[
     (b"'END_MARKER, 2'", Queues::Pair, false, &[]),
 ];
 
-/// What marks accept of the race (4, 5) of a text, and which of them are stale.
+/// Whether marks accept the race (4, 5) of a text, and which of them are stale.
 fn accepts(rt: &impl Host, text: &[u8], queues: Queues) -> (bool, Vec<Event>) {
     let chart = chart_of(rt, text);
     let marks = Marks::of(rt.alloc(), text).expect(rt, "marks");
@@ -153,7 +153,7 @@ fn accepts(rt: &impl Host, text: &[u8], queues: Queues) -> (bool, Vec<Event>) {
     (chart.events() > 5 && accepted.has(4, 5), stale)
 }
 
-/// Whether this is accepted, and these are stale, where event 5 has a comment.
+/// Whether the race is accepted, and these marks are stale, if event 5 has a comment.
 fn are_accepted(rt: &impl Host, comment: &[u8], queues: Queues, is: bool, stale: &[Event]) -> bool {
     let text = with_comment(rt, comment);
     let (accepted, list) = accepts(rt, text.as_slice(), queues);
@@ -170,8 +170,8 @@ fn races_that_are_accepted(rt: HostRuntime) {
     }
 }
 
-/// Texts, architectures, and the events whose marks are stale: an action is told by its word, and
-/// its mark counts as that of any event.
+/// Texts, architectures, and the events whose marks are stale: an action has its word as its name,
+/// and its mark counts as that of any event.
 const STALE: &[(&[u8], Queues, &[Event])] = &[
     (
         b"msc t; instance a; action 'x' comment 'race ok with m: y'; in m from b; endinstance; \

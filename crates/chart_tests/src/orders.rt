@@ -8,11 +8,11 @@ use example_charts::{LOCAL_EVENTS, OVERTAKING, RELAY, TWO_MAILBOXES, TWO_SENDERS
 use msc_chart::{Event, Queues};
 use msc_order::Order;
 
-/// How many events an order is of, and whether it holds two of them in this order, and in the
+/// The number of events of an order, and whether it holds two of them in this order, and in the
 /// other.
 type Held = (u32, bool, bool);
 
-/// Whether this is held of two events by an order of so many events.
+/// Whether an order of `events` events holds two of them in this way.
 fn is_held(order: &Order, events: u32, e: Event, f: Event, wanted: Held) -> bool
     requires { events ≡ length order.now }
 {
@@ -22,14 +22,14 @@ fn is_held(order: &Order, events: u32, e: Event, f: Event, wanted: Held) -> bool
     (events, order.holds(e, f), order.holds(f, e)) == wanted
 }
 
-/// Whether this is held by the visual order of a text's chart.
+/// Whether the visual order of a text's chart holds two events in this way.
 fn is_seen(rt: &impl Host, text: &[u8], e: Event, f: Event, wanted: Held) -> bool {
     let chart = chart_of(rt, text);
     let order = Order::visual(rt.alloc(), &chart).expect(rt, "an order");
     is_held(&order, chart.events(), e, f, wanted)
 }
 
-/// Whether this is held by the enforced order of a text's chart.
+/// Whether the enforced order of a text's chart holds two events in this way.
 fn is_enforced(
     rt: &impl Host,
     text: &[u8],
@@ -43,7 +43,7 @@ fn is_enforced(
     is_held(&order, chart.events(), e, f, wanted)
 }
 
-/// Texts, two events, and what the visual order holds of them.
+/// Texts, two events, and how the visual order holds them.
 const SEEN: &[(&[u8], Event, Event, Held)] = &[
     (OVERTAKING, 2, 3, (4, true, false)),
     (WAITS, 1, 2, (3, true, false)),
@@ -56,7 +56,7 @@ fn what_is_drawn_is_in_the_visual_order(rt: HostRuntime) {
     }
 }
 
-/// Texts, architectures, two events, and what the enforced order holds of them.
+/// Texts, architectures, two events, and how the enforced order holds them.
 const ENFORCED: &[(&[u8], Queues, Event, Event, Held)] = &[
     (OVERTAKING, Queues::Pair, 2, 3, (4, false, true)),
     (OVERTAKING, Queues::Mailbox, 2, 3, (4, false, true)),
@@ -76,8 +76,8 @@ fn what_an_architecture_enforces(rt: HostRuntime) {
     }
 }
 
-/// What of a list of pairs, ascending, follows the pairs that an order holds of one first event, if
-/// it begins with them.
+/// The rest of a list of pairs, ascending, after the pairs that an order holds of one first event,
+/// if it begins with them.
 fn after_row<'a>(
     order: &Order,
     events: u32,
@@ -138,14 +138,14 @@ fn the_enforced_pairs_of_two_mailboxes(rt: HostRuntime) {
     assert!(rt; are_enforced(&rt, TWO_MAILBOXES, queues, ENFORCED_BY_MAILBOXES));
 }
 
-/// Whether an event's row of an order of so many events is this word.
+/// Whether this word is an event's row of an order of `events` events.
 fn has_row(order: &Order, events: u32, e: Event, wanted: u64) -> bool
     requires { events ≡ length order.now }
 {
     e < events && order.row(e) == [wanted].as_slice()
 }
 
-/// Whether an event's row of the enforced order of a text's chart under `Pair` is this word.
+/// Whether this word is an event's row of the enforced order of a text's chart under `Pair`.
 fn is_row(rt: &impl Host, text: &[u8], e: Event, wanted: u64) -> bool {
     let chart = chart_of(rt, text);
     let order = Order::enforced(rt.alloc(), &chart, Queues::Pair).expect(rt, "an order");

@@ -1,9 +1,9 @@
-//! Where things stand in texts: lines, columns, excerpts, and the places of events and names.
+//! Positions in texts: lines, columns, excerpts, and the places of events and names.
 
 ghost use Rattle.std.specs.Prelude.{◌≡◌};
 
 use crate::host::Host;
-use msc_place::{EventPlace, Lines, Places, Position, excerpt, spot_at};
+use msc_place::{EventPlace, Lines, Places, Position, excerpt, token_at};
 
 /// Texts, places, and the line and the column of each.
 const POSITIONS: &[(&[u8], usize, usize, usize)] = &[
@@ -59,7 +59,7 @@ fn positions_by_an_index(rt: HostRuntime) {
     }
 }
 
-/// A text of so many lines of three bytes each.
+/// A text of `count` lines of three bytes each.
 fn ruled(rt: &impl Host, count: usize) -> Vec<u8> {
     let mut text = Vec::new(rt.alloc());
     for _ in 0..count {
@@ -103,7 +103,7 @@ const EXCERPTS: &[(&[u8], usize, &[u8])] = &[
     ),
     (b"msc t;\ninstance a;\n", 19, b"  \n  ^\n"),
     (b"a\tb;\r\nc", 2, b"  a b;\n    ^\n"),
-    // Behind the CR the mark stands behind the last column.
+    // After the CR the mark follows the last column.
     (b"a\tb;\r\nc", 5, b"  a b;\n      ^\n"),
     (b"out \x1B[31m\x7F;", 4, b"  out ?[31m?;\n      ^\n"),
     // A letter of two bytes is one column, and a continuation byte is none.
@@ -121,7 +121,8 @@ fn lines_of_places(rt: HostRuntime) {
 /// A line of many columns.
 const LONG: &[u8] = &[b'x'; 100_000];
 
-/// Places of it, how many columns are shown of its row, and how many before the place.
+/// Places of it, the number of columns that are shown of its row, and the number of columns before
+/// the place.
 const WINDOWS: &[(usize, usize, usize)] = &[
     (0, 100, 0),
     (49, 100, 49),
@@ -131,7 +132,7 @@ const WINDOWS: &[(usize, usize, usize)] = &[
     (100_000, 49, 49),
 ];
 
-/// Whether so many columns are shown of a long line, and so many before the place.
+/// Whether this number of columns is shown of a long line, and this number before the place.
 fn shows_window(rt: &impl Host, at: usize, columns: usize, before: usize) -> bool {
     if at > LONG.len() {
         return false;
@@ -150,7 +151,8 @@ fn windows_of_a_long_line(rt: HostRuntime) {
     }
 }
 
-/// A text with notes, comments and actions that hold what begins and ends statements.
+/// A text with notes, comments and actions that hold the words and marks that begin and end
+/// statements.
 const TEXT: &[u8] = b"MSC t; inst a /* inst x, */ : p, b comment 'inst y,'; inst c;\n\
 /* out m to b; */ INSTANCE a : p q comment 'instance x; out m to b;';\n\
   out m, 1(x, y) to b /* ; */ comment 'to c; from d';\n\
@@ -174,7 +176,7 @@ const STATEMENTS: &[(&[u8], Option<&[u8]>)] = &[
     (b"in o from a;", Some(b"a; endinstance; endmsc;")),
 ];
 
-/// What stands behind the names of its sections, and of its header.
+/// The bytes after the names of its sections, and of its header.
 const SECTIONS: &[&[u8]] = &[b"a : p q comment", b"b; in m", b"c; concurrent;"];
 
 const HEADER: &[&[u8]] = &[b"a /* inst x", b"b comment 'inst y", b"c;\n/*"];
@@ -186,7 +188,7 @@ fn places_of<'t>(rt: &impl Host, text: &'t [u8]) -> Places<'t>
     Places::of(rt.alloc(), text).expect(rt, "memory")
 }
 
-/// Whether these bytes stand in the text at a place.
+/// Whether the text has these bytes at a place.
 fn stands(text: &[u8], at: Option<usize>, wanted: Option<&[u8]>) -> bool {
     match (at, wanted) {
         (Some(at), Some(wanted)) => text.get(at..).is_some_and(|rest| rest.starts_with(wanted)),
@@ -195,7 +197,7 @@ fn stands(text: &[u8], at: Option<usize>, wanted: Option<&[u8]>) -> bool {
     }
 }
 
-/// Whether a statement of the text stands at a place, with its address.
+/// Whether the text has a statement at a place, with its address.
 fn is_statement(
     text: &[u8],
     place: Option<EventPlace>,
@@ -267,18 +269,18 @@ fn first_events_of_lines(rt: HostRuntime) {
     }
 }
 
-/// Texts, places, where the token there begins, and where the token before it ends.
+/// Texts, places, the place at which the token there begins, and the end of the token before it.
 const SPOTS: &[(&[u8], usize, Option<u32>, Option<usize>)] = &[
     (b"msc t; /* x */ instance a;", 0, Some(0), None),
     (b"msc t; /* x */ instance a;", 15, Some(15), Some(6)),
     (b"msc t; /* x */ instance a;", 16, Some(24), Some(23)),
     (b"msc t; /* x */ instance a; ", 27, None, Some(26)),
     (b"", 0, None, None),
-    // A text without tokens has nothing.
+    // A text without tokens has no such place.
     (b"msc t; ?", 4, None, None),
 ];
 
-/// Whether this token begins at a place of a text or behind it, behind one that ends there.
+/// Whether this token begins at a place of a text or after it, and the token before it ends there.
 fn is_spot(
     rt: &impl Host,
     text: &[u8],
@@ -286,7 +288,7 @@ fn is_spot(
     start: Option<u32>,
     behind: Option<usize>,
 ) -> bool {
-    let spot = spot_at(rt.alloc(), text, at).expect(rt, "memory");
+    let spot = token_at(rt.alloc(), text, at).expect(rt, "memory");
     spot.token.map(|token| token.start) == start && spot.behind == behind
 }
 

@@ -1,5 +1,4 @@
-//! Races of charts, and verdicts. Those of the worked charts are tested as they are printed, in
-//! `program_tests`.
+//! Races of charts, and verdicts. `program_tests` tests the printed verdicts on the worked charts.
 
 use crate::charts::chart_of;
 use crate::host::Host;
@@ -7,12 +6,12 @@ use msc_chart::{Event, Queues};
 use msc_race::{Verdict, check};
 use std::fmt::Write;
 
-/// A chart in which what follows the queue rule is enforced as well.
+/// A chart in which the pairs that follow from the queue rule are also enforced.
 const REPLY: &[u8] = b"msc t; instance a; out m1 to b; out m2 to b; endinstance; \
 instance b; in m2 from a; out x to c; in m1 from a; in y from c; endinstance; \
 instance c; in x from b; out y to b; endinstance; endmsc;";
 
-/// Whether these are the races of a verdict, none where it passes.
+/// Whether these are the races of a verdict; none if it passes.
 fn are_listed(verdict: &Verdict, wanted: &[(Event, Event)]) -> bool {
     match verdict {
         Verdict::Pass => wanted.is_empty(),
@@ -34,7 +33,7 @@ fn what_follows_the_queue_rule_is_enforced(rt: HostRuntime) {
     assert!(rt; are_races(&rt, REPLY, Queues::Pair, &[(2, 4), (3, 4)]));
 }
 
-/// So many messages from a to b, in one order or the inputs in reverse.
+/// `count` messages from a to b, with the inputs in the same order or in reverse.
 fn messages(rt: &impl Host, count: u32, reversed: bool) -> String {
     let mut text = String::from_str(rt.alloc(), "msc t;instance a;").expect(rt, "memory");
     for m in 0..count {
@@ -50,10 +49,10 @@ fn messages(rt: &impl Host, count: u32, reversed: bool) -> String {
     text
 }
 
-/// How many races there are, the first and the last.
+/// The number of races, the first and the last.
 type Summary = (usize, Option<(Event, Event)>, Option<(Event, Event)>);
 
-/// How many races a verdict has, the first and the last.
+/// The number of races of a verdict, the first and the last.
 fn summary_of(verdict: &Verdict) -> Summary {
     match verdict {
         Verdict::Pass => (0, None, None),
@@ -64,14 +63,14 @@ fn summary_of(verdict: &Verdict) -> Summary {
     }
 }
 
-/// How many races there are of a text's chart under an architecture, the first and the last.
+/// The number of races of a text's chart under an architecture, the first and the last.
 fn summary(rt: &impl Host, text: &[u8], queues: Queues) -> Summary {
     let chart = chart_of(rt, text);
     summary_of(&check(rt.alloc(), &chart, queues).expect(rt, "a verdict"))
 }
 
-/// Whether these are the races of so many messages from a to b, in one order or the inputs in
-/// reverse.
+/// Whether these are the races of `count` messages from a to b, with the inputs in the same order
+/// or in reverse.
 fn are_many(rt: &impl Host, count: u32, reversed: bool, queues: Queues, wanted: Summary) -> bool {
     let text = messages(rt, count, reversed);
     summary(rt, text.as_bytes(), queues) == wanted

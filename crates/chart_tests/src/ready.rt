@@ -1,5 +1,7 @@
-//! Systems whose instances are all ready: their sticks, what is ahead of them, runs after which they
-//! have stuck, and whether a run can be whole. The expected values are those of `tools/naive/ready.py`.
+//! Systems whose instances are all ready: their blocked pairs, the blocked pairs that are ahead of
+//! them, runs after which they have stuck, and whether a run can be whole. The expected values are
+//! those of
+//! `tools/naive/models/ready.py`.
 
 use crate::charts::{Part, chart_of, text_of};
 use crate::host::Host;
@@ -8,16 +10,18 @@ use example_charts::{
     TWO_SENDERS, WAITS,
 };
 use msc_chart::{Chart, Event, Queues};
-use msc_ready::{Ready, Sticks};
+use msc_ready::{BlockedPairs, Ready};
 
-/// A cancelled job: the dispatcher hands it on, and the client's word can come to the worker first.
+/// A cancelled job: the dispatcher hands it on, and the client's message can come to the worker
+/// first.
 const CANCEL_OVERTAKES: &[u8] = b"msc t; instance client; out submit to dispatcher; \
 out cancel to worker; in cancelled from worker; endinstance; \
 instance dispatcher; in submit from client; out start to worker; endinstance; \
 instance worker; in start from dispatcher; in cancel from client; out cancelled to client; \
 endinstance; endmsc;";
 
-/// A coordinator asks two others, and takes their answers in an order; and so once more.
+/// A coordinator asks two others, and takes their answers in a fixed order; then it does so once
+/// more.
 const TWO_PHASE_COMMIT: &[u8] = b"msc t; instance c; out prepare to a; out prepare to b; \
 in yes from a; in yes from b; out commit to a; out commit to b; in done from a; in done from b; \
 endinstance; instance a; in prepare from c; out yes to c; in commit from c; out done to c; \
@@ -28,10 +32,10 @@ endinstance; endmsc;";
 const OWN_MESSAGE: &[u8] = b"msc t; instance a; out m1 to a; in m1 from a; in m2 from b; \
 endinstance; instance b; action 'go'; out m2 to a; endinstance; endmsc;";
 
-/// What is said of a stick: the stick that is ahead of it, or else its run.
+/// The data for a blocked pair: the blocked pair that is ahead of it, or otherwise its run.
 type Said<'a> = ((Event, Event), Option<(Event, Event)>, &'a [Event]);
 
-/// Charts, architectures, whether some run is whole, and their sticks.
+/// Charts, architectures, whether some run is whole, and their blocked pairs.
 const STICKS: &[(&[u8], Queues, bool, &[Said])] = &[
     (EMPTY, Queues::Mailbox, true, &[]),
     (TWO_SENDERS, Queues::Pair, true, &[]),
@@ -81,50 +85,63 @@ const STICKS: &[(&[u8], Queues, bool, &[Said])] = &[
     ),
 ];
 
-/// Whether this is what is said of a stick.
-fn is_said(rt: &impl Host, sticks: &Sticks, pair: (Event, Event), wanted: Said) -> bool {
-    let events = sticks.ready().events();
+/// Whether these are the data for a blocked pair.
+fn is_said(
+    rt: &impl Host,
+    blocked_pairs: &BlockedPairs,
+    pair: (Event, Event),
+    wanted: Said,
+) -> bool {
+    let events = blocked_pairs.ready().events();
     if pair.0 >= events || pair.1 >= events {
         return false;
     }
-    if !sticks.is_first(pair.0, pair.1) {
-        return (pair, sticks.ahead_of(pair.1)) == (wanted.0, wanted.1);
+    if !blocked_pairs.is_first(pair.0, pair.1) {
+        return (pair, blocked_pairs.ahead_of(pair.1)) == (wanted.0, wanted.1);
     }
-    let run = sticks.ready().stick_run(rt.alloc(), pair.0, pair.1);
+    let run = blocked_pairs
+        .ready()
+        .blocked_pair_run(rt.alloc(), pair.0, pair.1);
     (pair, None) == (wanted.0, wanted.1) && run.expect(rt, "a run").as_slice() == wanted.2
 }
 
-/// All sticks, event by event.
-fn listed(rt: &impl Host, sticks: &Sticks) -> Vec<(Event, Event)> {
+/// All blocked pairs, event by event.
+fn listed(rt: &impl Host, blocked_pairs: &BlockedPairs) -> Vec<(Event, Event)> {
     let mut all = Vec::new(rt.alloc());
     let mut list = Vec::new(rt.alloc());
-    for e in 0..sticks.ready().events() {
-        sticks.next(&mut list, e).expect(rt, "memory");
+    for e in 0..blocked_pairs.ready().events() {
+        blocked_pairs.next(&mut list, e).expect(rt, "memory");
         all.extend_from_slice(list.as_slice()).expect(rt, "memory");
     }
     all
 }
 
-/// Whether these are the sticks of a chart under an architecture, and what is said of them.
-fn are_sticks(rt: &impl Host, chart: &Chart, queues: Queues, whole: bool, wanted: &[Said]) -> bool {
+/// Whether these are the blocked pairs of a chart under an architecture, with their data.
+fn are_blocked_pairs(
+    rt: &impl Host,
+    chart: &Chart,
+    queues: Queues,
+    whole: bool,
+    wanted: &[Said],
+) -> bool {
     let ready = Ready::all(rt.alloc(), chart, queues).expect(rt, "an order");
     let may_finish = ready.may_finish(rt.alloc()).expect(rt, "a run");
-    let sticks = Sticks::of(rt.alloc(), ready).expect(rt, "memory");
-    let all = listed(rt, &sticks);
-    if sticks.count() as usize != wanted.len() || all.len() != wanted.len() {
+    let blocked_pairs = BlockedPairs::of(rt.alloc(), ready).expect(rt, "memory");
+    let all = listed(rt, &blocked_pairs);
+    if blocked_pairs.count() as usize != wanted.len() || all.len() != wanted.len() {
         return false;
     }
     let told = all.iter().zip(wanted);
     may_finish == whole
         && told
             .into_iter()
-            .all(|(pair, said)| is_said(rt, &sticks, *pair, *said))
+            .all(|(pair, said)| is_said(rt, &blocked_pairs, *pair, *said))
 }
 
 #[test]
-fn sticks_and_their_runs(rt: HostRuntime) {
+fn blocked_pairs_and_their_runs(rt: HostRuntime) {
     for &(text, queues, whole, wanted) in STICKS {
-        let are = are_sticks(&rt, &chart_of(&rt, text), queues, whole, wanted);
+        let are = are_blocked_pairs(&rt, &chart_of(&rt, text), queues, whole, wanted);
         assert!(rt; are, "{wanted:?}, {queues:?}");
     }
 }
@@ -133,12 +150,13 @@ fn sticks_and_their_runs(rt: HostRuntime) {
 #[test]
 fn single_never_sticks(rt: HostRuntime) {
     for &(text, _, _, _) in STICKS {
-        let are = are_sticks(&rt, &chart_of(&rt, text), Queues::Single, true, &[]);
+        let are = are_blocked_pairs(&rt, &chart_of(&rt, text), Queues::Single, true, &[]);
         assert!(rt; are, "{:?}", Queues::Single);
     }
 }
 
-/// Which instances are ready, and what is said then: the sticks, or else the races that are left.
+/// Which instances are ready, and the results: the blocked pairs, or otherwise the races that are
+/// left.
 const SOME: &[(&[u8], &[bool], &[(Event, Event)], &[(Event, Event)])] = &[
     (CANCEL_OVERTAKES, &[false, false, true], &[(5, 6)], &[]),
     (CANCEL_OVERTAKES, &[true, false, false], &[], &[(5, 6)]),
@@ -164,7 +182,7 @@ fn list_of(rt: &impl Host, lines: &[bool]) -> Vec<bool> {
     Vec::from_slice(rt.alloc(), lines).expect(rt, "memory")
 }
 
-/// Whether with these instances ready a chart has these sticks, and these races are left.
+/// Whether, with these instances ready, a chart has these blocked pairs, and these races are left.
 fn are_some(
     rt: &impl Host,
     chart: &Chart,
@@ -172,17 +190,19 @@ fn are_some(
     wanted: (&[(Event, Event)], &[(Event, Event)]),
 ) -> bool {
     let ready = Ready::some(rt.alloc(), chart, Queues::Mailbox, list_of(rt, lines));
-    let sticks = Sticks::of(rt.alloc(), ready.expect(rt, "an order")).expect(rt, "memory");
-    if listed(rt, &sticks).as_slice() != wanted.0 {
+    let blocked_pairs = BlockedPairs::of(rt.alloc(), ready.expect(rt, "an order")).expect(
+        rt, "memory",
+    );
+    if listed(rt, &blocked_pairs).as_slice() != wanted.0 {
         return false;
     }
-    !wanted.0.is_empty() || left(rt, sticks.ready()).as_slice() == wanted.1
+    !wanted.0.is_empty() || left(rt, blocked_pairs.ready()).as_slice() == wanted.1
 }
 
 #[test]
 fn some_instances_ready(rt: HostRuntime) {
-    for &(text, lines, sticks, races) in SOME {
-        let are = are_some(&rt, &chart_of(&rt, text), lines, (sticks, races));
+    for &(text, lines, blocked_pairs, races) in SOME {
+        let are = are_some(&rt, &chart_of(&rt, text), lines, (blocked_pairs, races));
         assert!(rt; are, "{lines:?}");
     }
 }
@@ -196,17 +216,19 @@ const STREAMS: &[Part] = &[
     ("endinstance;endmsc;", 0, "", ""),
 ];
 
-/// How many sticks a chart of mailboxes has, whether the last is behind another, and how long the
-/// run of the first is.
+/// The number of blocked pairs of a chart of mailboxes, whether another blocked pair is ahead of
+/// the last one, and the length of the run of the first.
 fn summary(rt: &impl Host, chart: &Chart) -> (u32, Option<(Event, Event)>, usize) {
     let ready = Ready::all(rt.alloc(), chart, Queues::Mailbox).expect(rt, "an order");
-    let sticks = Sticks::of(rt.alloc(), ready).expect(rt, "memory");
-    if sticks.ready().events() != 2_048 || !sticks.is_first(512, 1_024) {
+    let blocked_pairs = BlockedPairs::of(rt.alloc(), ready).expect(rt, "memory");
+    if blocked_pairs.ready().events() != 2_048 || !blocked_pairs.is_first(512, 1_024) {
         return (0, None, 0);
     }
-    let behind = sticks.ahead_of(1_535);
-    let run = sticks.ready().stick_run(rt.alloc(), 512, 1_024);
-    (sticks.count(), behind, run.expect(rt, "a run").len())
+    let behind = blocked_pairs.ahead_of(1_535);
+    let run = blocked_pairs
+        .ready()
+        .blocked_pair_run(rt.alloc(), 512, 1_024);
+    (blocked_pairs.count(), behind, run.expect(rt, "a run").len())
 }
 
 #[test]

@@ -1,5 +1,5 @@
-//! Why races are races, and why pairs are enforced. The expected values are read off the charts by
-//! hand, from the definitions in `docs/MODEL.md`.
+//! Why races are races, and why pairs are enforced. The expected values were derived from the
+//! charts by hand, with the definitions in `docs/MODEL.md`.
 
 use crate::charts::chart_of;
 use crate::closest::OUTPUT_BETWEEN;
@@ -9,13 +9,14 @@ use example_charts::{
 };
 use msc_chart::{Chart, Event, Queues};
 use msc_race::Enforced;
-use msc_reason::{Lack, RaceKind, Reason, Why, explain, is_race, lack_of};
+use msc_reason::{Cause, RaceKind, Reason, Why, cause_of, explain, is_race};
 
-/// The kind of a race, what it needs before which output, and whether it is reversed always.
-type Cause = (RaceKind, Event, Event, bool);
+/// The kind of a race, the event that it needs before which output, and whether it is always
+/// reversed.
+type Expected = (RaceKind, Event, Event, bool);
 
-/// Charts, architectures, pairs of events, and why they are races where they are.
-const REASONS: &[(&[u8], Queues, (Event, Event), Option<Cause>)] = &[
+/// Charts, architectures, pairs of events, and why they are races, if they are.
+const REASONS: &[(&[u8], Queues, (Event, Event), Option<Expected>)] = &[
     (
         TWO_SENDERS,
         Queues::Pair,
@@ -111,8 +112,13 @@ const REASONS: &[(&[u8], Queues, (Event, Event), Option<Cause>)] = &[
     ),
 ];
 
-/// Why a pair of events of a chart is a race under an architecture, where it is one.
-fn reason_in(rt: &impl Host, chart: &Chart, queues: Queues, pair: (Event, Event)) -> Option<Cause> {
+/// Why a pair of events of a chart is a race under an architecture, if it is one.
+fn reason_in(
+    rt: &impl Host,
+    chart: &Chart,
+    queues: Queues,
+    pair: (Event, Event),
+) -> Option<Expected> {
     let (e, f) = pair;
     let enforced = Enforced::of(rt.alloc(), chart, queues).expect(rt, "an order");
     if e >= enforced.events() || f >= enforced.events() {
@@ -121,12 +127,17 @@ fn reason_in(rt: &impl Host, chart: &Chart, queues: Queues, pair: (Event, Event)
     if !is_race(&enforced, e, f) {
         return None;
     }
-    let lack = lack_of(&enforced, e, f);
-    Some((lack.kind, lack.needed, lack.output, lack.always))
+    let cause = cause_of(&enforced, e, f);
+    Some((cause.kind, cause.needed, cause.output, cause.always))
 }
 
-/// The same of a text's chart.
-fn reason_of(rt: &impl Host, text: &[u8], queues: Queues, pair: (Event, Event)) -> Option<Cause> {
+/// The same for a text's chart.
+fn reason_of(
+    rt: &impl Host,
+    text: &[u8],
+    queues: Queues,
+    pair: (Event, Event),
+) -> Option<Expected> {
     reason_in(rt, &chart_of(rt, text), queues, pair)
 }
 
@@ -159,11 +170,11 @@ fn words_of_kinds(rt: HostRuntime) {
 const THREE: &[u8] = b"msc t; instance a; out m1 to b; out m2 to b; out m3 to b; endinstance; \
 instance b; in m1 from a; in m2 from a; in m3 from a; endinstance; endmsc;";
 
-/// What shows that an event is enforced before another: the input that the rule of queues leads to,
-/// where it is needed; a chain, there of the outputs; and what leads on from that input.
+/// Why an event is enforced before another: the input to which the rule of queues leads, if it is
+/// needed; a chain, in that case of the outputs; and the chain from that input on.
 type Shown<'a> = (Option<Event>, &'a [Event], &'a [Event]);
 
-/// Charts, architectures, pairs of events, and why they are enforced where they are.
+/// Charts, architectures, pairs of events, and why they are enforced, if they are.
 const WHYS: &[(&[u8], Queues, (Event, Event), Option<Shown>)] = &[
     (RELAY, Queues::Pair, (0, 5), Some((None, &[1, 4, 5], &[]))),
     (
@@ -199,7 +210,7 @@ const WHYS: &[(&[u8], Queues, (Event, Event), Option<Shown>)] = &[
     (THREE, Queues::Single, (3, 5), None),
 ];
 
-/// What shows that an event is enforced before another.
+/// The data of a reason why an event is enforced before another.
 fn shown(why: &Why) -> Shown<'_> {
     match why {
         Why::Straight(steps) => (None, steps.as_slice(), &[]),
@@ -207,7 +218,7 @@ fn shown(why: &Why) -> Shown<'_> {
     }
 }
 
-/// What is said of a pair of events of a chart under an architecture, if the chart has both and
+/// The explanation of a pair of events of a chart under an architecture, if the chart has both and
 /// they are two.
 fn said_of(rt: &impl Host, chart: &Chart, queues: Queues, pair: (Event, Event)) -> Option<Reason> {
     let (e, f) = pair;
@@ -218,13 +229,13 @@ fn said_of(rt: &impl Host, chart: &Chart, queues: Queues, pair: (Event, Event)) 
     Some(explain(rt.alloc(), &enforced, e, f, false).expect(rt, "a reason"))
 }
 
-/// The same of a text's chart.
+/// The same for a text's chart.
 fn said(rt: &impl Host, text: &[u8], queues: Queues, pair: (Event, Event)) -> Option<Reason> {
     said_of(rt, &chart_of(rt, text), queues, pair)
 }
 
-/// Whether it is said that the pair is enforced for this reason, or not enforced where none is
-/// wanted.
+/// Whether the explanation is that the pair is enforced for this reason or, if there is none, that
+/// it is not enforced.
 fn is_explained(said: &Option<Reason>, wanted: Option<Shown>) -> bool {
     match said {
         Some(Reason::Enforced(why)) => Some(shown(why)) == wanted,
@@ -233,7 +244,7 @@ fn is_explained(said: &Option<Reason>, wanted: Option<Shown>) -> bool {
     }
 }
 
-/// Whether that is said of a pair of events of a text's chart under an architecture.
+/// Whether this explains a pair of events of a text's chart under an architecture.
 fn explains(
     rt: &impl Host,
     text: &[u8],
@@ -252,11 +263,11 @@ fn reasons_of_enforced_pairs(rt: HostRuntime) {
     }
 }
 
-/// A run that reverses a pair of events, the kind of the race where it is one, and what shows that
-/// the second is enforced before the first, where it is.
+/// A run that reverses a pair of events, the kind of the race if it is one, and why the second is
+/// enforced before the first, if it is.
 type Reversed<'a> = (&'a [Event], Option<RaceKind>, Option<Shown<'a>>);
 
-/// Charts, architectures, pairs of events that are not enforced, and what is said of them.
+/// Charts, architectures, pairs of events that are not enforced, and their explanations.
 const FREE: &[(&[u8], Queues, (Event, Event), Reversed)] = &[
     (
         TWO_SENDERS,
@@ -282,15 +293,15 @@ const FREE: &[(&[u8], Queues, (Event, Event), Reversed)] = &[
     ),
 ];
 
-/// The kind of what a race lacks, where there is one.
-fn kind_of(lack: &Option<Lack>) -> Option<RaceKind> {
-    match lack {
-        Some(lack) => Some(lack.kind),
+/// The kind of what a race lacks, if there is one.
+fn kind_of(cause: &Option<Cause>) -> Option<RaceKind> {
+    match cause {
+        Some(cause) => Some(cause.kind),
         None => None,
     }
 }
 
-/// What is shown, where something is.
+/// The data of a reason, if there is one.
 fn shown_if(why: &Option<Why>) -> Option<Shown<'_>> {
     match why {
         Some(why) => Some(shown(why)),
@@ -298,17 +309,17 @@ fn shown_if(why: &Option<Why>) -> Option<Shown<'_>> {
     }
 }
 
-/// Whether this is said of a pair that is not enforced.
+/// Whether this is the explanation of a pair that is not enforced.
 fn is_free(said: &Option<Reason>, wanted: Reversed) -> bool {
     match said {
-        Some(Reason::Free(run, lack, late)) => {
-            (run.as_slice(), kind_of(lack), shown_if(late)) == wanted
+        Some(Reason::Free(run, cause, late)) => {
+            (run.as_slice(), kind_of(cause), shown_if(late)) == wanted
         }
         _ => false,
     }
 }
 
-/// Whether this is said of a pair of events of a text's chart that is not enforced.
+/// Whether this explains a pair of events of a text's chart that is not enforced.
 fn frees(
     rt: &impl Host,
     text: &[u8],

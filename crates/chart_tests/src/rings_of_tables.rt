@@ -1,4 +1,4 @@
-//! Rings of small tables, beside a search through all lists.
+//! Rings of small tables, compared with a search through all lists.
 
 ghost use Rattle.std.specs.Prelude.{◌≡◌, ◌*◌, length};
 ghost use Rattle.bit_rows.specs.Rows.{word_count};
@@ -7,7 +7,7 @@ use crate::host::Host;
 use bit_rows::table;
 use rings::ring;
 
-/// The greatest number of numbers of a table here.
+/// The greatest number of a table's numbers here.
 const MOST: u32 = 4;
 
 /// Whether number x leads to number y in a pattern, which has a bit for each pair of four numbers.
@@ -30,7 +30,7 @@ fn table_of(rt: &impl Host, pattern: u32, n: u32) -> Vec<u64>
     words
 }
 
-/// A list of `length` numbers below `n` that begins with `start`, by its place among those lists.
+/// A list of `length` numbers below `n` that begins with `start`, by its place among these lists.
 fn list_of(rt: &impl Host, mut place: u32, n: u32, length: u32, start: u32) -> Vec<u32> {
     let mut list = Vec::new(rt.alloc());
     for _ in 1..length {
@@ -44,7 +44,7 @@ fn list_of(rt: &impl Host, mut place: u32, n: u32, length: u32, start: u32) -> V
 }
 
 /// Whether a list is a ring of a pattern: each number leads to the next, the last to the first, and
-/// none comes twice.
+/// none occurs twice.
 fn is_ring(pattern: u32, list: &[u32]) -> bool {
     for (k, &x) in list.iter().enumerate() {
         let next = list.get(k + 1).or(list.first()).copied().unwrap_or(MOST);
@@ -55,7 +55,7 @@ fn is_ring(pattern: u32, list: &[u32]) -> bool {
     true
 }
 
-/// How many lists there are of so many numbers below `n` that begin with one.
+/// The number of lists of `length` numbers below `n` that begin with a given one.
 fn lists(n: u32, length: u32) -> u32 {
     let mut lists: u32 = 1;
     for _ in 1..length {
@@ -64,7 +64,7 @@ fn lists(n: u32, length: u32) -> u32 {
     lists
 }
 
-/// The first ring through a number, of the lists by their lengths and then number by number.
+/// The first ring through a number, among the lists by their lengths and then number by number.
 fn first_ring(rt: &impl Host, pattern: u32, n: u32, start: u32) -> Option<Vec<u32>> {
     for length in 1..=n {
         for place in 0..lists(n, length) {
@@ -77,7 +77,7 @@ fn first_ring(rt: &impl Host, pattern: u32, n: u32, start: u32) -> Option<Vec<u3
     None
 }
 
-/// Whether what is found through each number of a table is the first ring.
+/// Whether the ring that is found through each number of a table is the first one.
 fn finds_the_first(rt: &impl Host, pattern: u32, n: u32) -> bool {
     let words = table_of(rt, pattern, n);
     for start in 0..n {
@@ -104,7 +104,7 @@ fn tables_of_four_numbers(rt: HostRuntime) {
     }
 }
 
-/// How many numbers a long ring has.
+/// The number of numbers of a long ring.
 const LONG: u32 = 200;
 
 /// A table in which each number leads to the next, and the last to the first.

@@ -1,11 +1,11 @@
-//! Two rounds of a chart: the numbers of its events, what they are, and charts that are too long.
+//! Two rounds of a chart: the numbers and the data of its events, and charts that are too long.
 
 use crate::charts::{Part, chart_of, text_of};
 use crate::host::Host;
 use example_charts::COREGION;
-use msc_chart::{Chart, Event, RoundNumbers, TwiceFault};
+use msc_chart::{Chart, Event, RoundNumbers, UnrollFault};
 
-/// Of each event of two rounds of a chart its event in the chart, its round, its partner, and its
+/// For each event of two rounds of a chart, its event in the chart, its round, its partner, and its
 /// segment.
 type Told = (Event, u32, Event, u32);
 
@@ -13,8 +13,8 @@ type Told = (Event, u32, Event, u32);
 const ACTIONS: &[u8] = b"msc t; instance a; action 'go'; out m to b; endinstance; \
 instance b; in m from a; action 'done'; endinstance; endmsc;";
 
-/// Charts, and what is told of the events of two rounds of them. `COREGION` has the input of each
-/// of two messages in a coregion, between the lines of their outputs.
+/// Charts, and the data for the events of two rounds of them. `COREGION` has the input of each of
+/// two messages in a coregion, between the lines of their outputs.
 const ROUNDS: &[(&[u8], &[Told])] = &[
     (
         ACTIONS,
@@ -44,8 +44,8 @@ const ROUNDS: &[(&[u8], &[Told])] = &[
     ),
 ];
 
-/// Whether event `k` of these two rounds of a chart is this, and has the text that its event has in
-/// the chart.
+/// Whether event `k` of these two rounds of a chart has these data, and the text that its event has
+/// in the chart.
 fn is_told(rt: &impl Host, chart: &Chart, rounds: &Chart, k: Event, told: Told) -> bool {
     let (e, round, partner, segment) = told;
     if k >= rounds.events() || k >= 2 * chart.events() {
@@ -60,10 +60,10 @@ fn is_told(rt: &impl Host, chart: &Chart, rounds: &Chart, k: Event, told: Told) 
         && rounds.label(k) == chart.label(place.0)
 }
 
-/// Whether two rounds of a chart are these events.
+/// Whether these are the data for the events of two rounds of a chart.
 fn are_told(rt: &impl Host, text: &[u8], told: &[Told]) -> bool {
     let chart = chart_of(rt, text);
-    let rounds = chart.twice(rt.alloc()).expect(rt, "two rounds");
+    let rounds = chart.two_rounds(rt.alloc()).expect(rt, "two rounds");
     if told.len() != rounds.events() as usize {
         return false;
     }
@@ -91,8 +91,8 @@ const SECOND: &str = "endinstance; instance b;";
 /// The end of a text.
 const END: Part = ("endinstance; endmsc;", 0, "", "");
 
-/// Charts as long as they may be for two rounds, and charts that are too long; messages count first.
-const LONG: &[(&[Part], Option<TwiceFault>)] = &[
+/// Charts at the limit for two rounds, and charts that are too long. Messages count first.
+const LONG: &[(&[Part], Option<UnrollFault>)] = &[
     (
         &[
             (FIRST, 512, "out m", " to b;"),
@@ -109,18 +109,18 @@ const LONG: &[(&[Part], Option<TwiceFault>)] = &[
             (SECOND, 513, "in m", " from a;"),
             END,
         ],
-        Some(TwiceFault::TooManyMessages),
+        Some(UnrollFault::TooManyMessages),
     ),
     (
         &[(FIRST, 513, "action '", "';"), END],
-        Some(TwiceFault::TooManyActions),
+        Some(UnrollFault::TooManyActions),
     ),
 ];
 
 /// Whether two rounds of the chart of these parts are a chart, or have this fault.
-fn is_long(rt: &impl Host, parts: &[Part], wanted: Option<TwiceFault>) -> bool {
+fn is_long(rt: &impl Host, parts: &[Part], wanted: Option<UnrollFault>) -> bool {
     let chart = chart_of(rt, text_of(rt, parts).as_bytes());
-    chart.twice(rt.alloc()).err() == wanted
+    chart.two_rounds(rt.alloc()).err() == wanted
 }
 
 #[test]

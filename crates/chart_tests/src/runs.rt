@@ -1,5 +1,5 @@
-//! Runs that reverse pairs of events. Those of the races of the worked charts are tested as they
-//! are printed, in `program_tests`.
+//! Runs that reverse pairs of events. `program_tests` tests the printed runs of the races of the
+//! worked charts.
 
 use crate::charts::chart_of;
 use crate::host::Host;
@@ -7,8 +7,7 @@ use example_charts::{COREGION, TWO_SENDERS};
 use msc_chart::{Chart, Event, Queues};
 use msc_race::Enforced;
 
-/// Texts, architectures, two events of the chart, and the run that reverses them, where there is
-/// one.
+/// Texts, architectures, two events of the chart, and the run that reverses them, if there is one.
 const REVERSED: &[(&[u8], Queues, Event, Event, Option<&[Event]>)] = &[
     (TWO_SENDERS, Queues::Pair, 3, 0, Some(&[0, 1, 3, 2])),
     (TWO_SENDERS, Queues::Mailbox, 3, 0, Some(&[0, 1, 3, 2])),
@@ -21,7 +20,7 @@ const REVERSED: &[(&[u8], Queues, Event, Event, Option<&[Event]>)] = &[
     (TWO_SENDERS, Queues::Pair, 2, 2, None),
 ];
 
-/// Whether the chart has both events, and this is the run that reverses them, where there is one.
+/// Whether the chart has both events, and this is the run that reverses them, if there is one.
 fn is_run(
     rt: &impl Host,
     chart: &Chart,
@@ -43,7 +42,7 @@ fn is_run(
     }
 }
 
-/// The same of a text's chart.
+/// The same for a text's chart.
 fn is_reversing_run(
     rt: &impl Host,
     text: &[u8],

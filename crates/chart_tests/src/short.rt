@@ -1,4 +1,4 @@
-//! Short runs of pairs of events, worked out by hand.
+//! Short witnesses of pairs of events, worked out by hand.
 
 use crate::charts::chart_of;
 use crate::host::Host;
@@ -51,7 +51,7 @@ endmsc;
 ";
 
 /// Under `Mailbox` the past of the second input of k is no run: q would have to take m2 first, and
-/// z m3, so that the outputs of a and b would go round in a ring.
+/// z m3, so that the outputs of a and b would wait for each other in a ring.
 const RING: &[u8] = b"msc t; instance a; out m1 to q; out m3 to z; endinstance; \
 instance b; out m4 to z; out m2 to q; endinstance; \
 instance q; in m2 from b; out x to w; in m1 from a; endinstance; \
@@ -74,10 +74,10 @@ in commit from coordinator; out done to coordinator; endinstance; \
 instance bob; in prepare from coordinator; out yes to coordinator; \
 in commit from coordinator; out done to coordinator; endinstance; endmsc;";
 
-/// The past of the second `done`, but for bob's.
+/// The past of the second `done`, without bob's.
 const DONE: &[Event] = &[0, 1, 8, 9, 2, 12, 13, 3, 4, 5, 14, 15, 7];
 
-/// Texts, architectures, two events of the chart, and their short run, where there is one.
+/// Texts, architectures, two events of the chart, and their short witness, if there is one.
 const SHORT: &[(&[u8], Queues, Event, Event, Option<&[Event]>)] = &[
     (
         ISDN_CALL,
@@ -144,7 +144,7 @@ const SHORT: &[(&[u8], Queues, Event, Event, Option<&[Event]>)] = &[
     (TWO_SENDERS, Queues::Pair, 2, 2, None),
 ];
 
-/// Whether the chart has both events, and this is their short run, where there is one.
+/// Whether the chart has both events, and this is their short witness, if there is one.
 fn is_short(
     rt: &impl Host,
     chart: &Chart,
@@ -157,14 +157,17 @@ fn is_short(
     if e >= enforced.events() || f >= enforced.events() {
         return false;
     }
-    match &enforced.short_run(rt.alloc(), e, f).expect(rt, "memory") {
+    match &enforced
+        .short_witness(rt.alloc(), e, f)
+        .expect(rt, "memory")
+    {
         Some(run) => Some(run.as_slice()) == wanted,
         None => wanted.is_none(),
     }
 }
 
-/// The same of a text's chart.
-fn is_short_run(
+/// The same for a text's chart.
+fn is_short_witness(
     rt: &impl Host,
     text: &[u8],
     queues: Queues,
@@ -176,9 +179,9 @@ fn is_short_run(
 }
 
 #[test]
-fn short_runs(rt: HostRuntime) {
+fn short_witnesses(rt: HostRuntime) {
     for &(text, queues, e, f, wanted) in SHORT {
-        let is = is_short_run(&rt, text, queues, e, f, wanted);
+        let is = is_short_witness(&rt, text, queues, e, f, wanted);
         assert!(rt; is, "({e}, {f}) {queues:?}: {text:?}");
     }
 }

@@ -1,4 +1,4 @@
-//! The texts of example charts, for tests. Each stands in `charts/` as a file of the same name.
+//! The texts of example charts, for tests. Each is also a file of `charts/`, with the same name.
 #![tactic(auto)]
 
 /// A chart without instances.
@@ -22,7 +22,7 @@ pub const RELAY: &[u8] = b"msc t; instance a; out m1 to b; out x to c; endinstan
 instance b; in m1 from a; in m2 from c; endinstance; \
 instance c; in x from a; out m2 to b; endinstance; endmsc;";
 
-/// Two messages of one queue, taken in the order in which they were not sent.
+/// Two messages of one queue that are taken in the other order than they are sent.
 pub const OVERTAKING: &[u8] = b"msc t; instance a; out m1 to b; out m2 to b; endinstance; \
 instance b; in m2 from a; in m1 from a; endinstance; endmsc;";
 
@@ -30,11 +30,11 @@ instance b; in m2 from a; in m1 from a; endinstance; endmsc;";
 pub const CROSSING: &[u8] = b"msc t; instance a; out p to b; in q from b; endinstance; \
 instance b; out q to a; in p from a; endinstance; endmsc;";
 
-/// Two messages of one name, told apart by their message instance names.
+/// Two messages of one name, distinguished by their message instance names.
 pub const NUMBERED: &[u8] = b"msc t; instance a; out m, 1 to b; out m, 2 to b; endinstance; \
 instance b; in m, 1 from a; in m, 2 from a; endinstance; endmsc;";
 
-/// Two races that no run of mailboxes reverses both.
+/// Two races such that no run of mailboxes reverses both.
 pub const TWO_MAILBOXES: &[u8] = b"msc t; instance a; out m1 to q; out m3 to z; endinstance; \
 instance b; out m4 to z; out m2 to q; endinstance; \
 instance q; in m1 from a; in m2 from b; endinstance; \
@@ -54,7 +54,7 @@ pub const KINDS_AND_COMMENTS: &[u8] = b"msc t; inst a, b; instance a : process p
 pub const LOCAL_EVENTS: &[u8] = b"msc t; instance a; action 'go'; out m to b; endinstance; \
 instance b; in m from a; action 'done'; endinstance; endmsc;";
 
-/// An action that is drawn before an input, and that does not keep the message from coming.
+/// An action that is drawn before an input, and that does not prevent the message from coming.
 pub const WAITS: &[u8] = b"msc t; instance a; out m to b; endinstance; \
 instance b; action 'wait'; in m from a; endinstance; endmsc;";
 

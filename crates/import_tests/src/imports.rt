@@ -10,7 +10,7 @@ use msc_place::Position;
 use msc_scenarios::{all_choices, scenarios};
 use std::alloc::AllocGlobal;
 
-/// The usual manner.
+/// The usual options of an import.
 const MANNER: Manner = Manner {
     own: Own::Action,
     par: Par::Refused,
@@ -19,7 +19,7 @@ const MANNER: Manner = Manner {
 /// A text, the numbers of rounds, and the choices of its scenarios.
 type Chosen = (&'static [u8], &'static [usize], &'static [&'static [usize]]);
 
-/// Blocks of each kind, and blocks inside others and behind them.
+/// Blocks of each kind, and blocks inside others and after them.
 const CHOICES: &[Chosen] = &[
     (b"sequenceDiagram\nA->>B: a", &[0, 2], &[&[]]),
     (
@@ -132,7 +132,7 @@ const CHOICES: &[Chosen] = &[
     ),
 ];
 
-/// Whether the lists are these.
+/// Whether these are the lists.
 fn are_lists(lists: &[Listed<usize>], wanted: &[&[usize]]) -> bool {
     if lists.len() != wanted.len() {
         return false;
@@ -145,7 +145,7 @@ fn are_lists(lists: &[Listed<usize>], wanted: &[&[usize]]) -> bool {
     true
 }
 
-/// Whether a text's scenarios have these choices, and are so many.
+/// Whether a text's scenarios have these choices, and their number is right.
 fn are_choices(
     rt: &impl AllocGlobal,
     text: &[u8],
@@ -173,7 +173,7 @@ fn the_choices_of_scenarios(rt: HostRuntime) {
 const PLACED: &[u8] =
     b"sequenceDiagram\nparticipant B\n  \xc3\xa9->>B: a; B->>\xc3\xa9: b\n\topt x\n\tB->>B: c\nend\n\xc3\xa9 \xc3\xa9->>C: d";
 
-/// Where the arrow of each event of its chart begins.
+/// The position at which the arrow of each event of its chart begins.
 const PLACES: &[Position] = &[
     Position { line: 3, column: 3 },
     Position {
@@ -202,14 +202,14 @@ fn the_places_of_events(rt: HostRuntime) {
     assert!(rt; found);
 }
 
-/// All scenarios of a text, where loops go these numbers of rounds. Their charts' name is `t`.
+/// All scenarios of a text, if loops go these numbers of rounds. Their charts' name is `t`.
 fn all_of(
     rt: &impl AllocGlobal,
     text: &[u8],
     rounds: &[usize],
     limit: usize,
     fence: Option<usize>,
-) -> Result<Scenarios, Refused> {
+) -> Result<Scenarios<'static>, Refused> {
     let importing = ImportingAll {
         language: Language::Any,
         fence,
@@ -227,10 +227,14 @@ fn all_choices_of_import_all(rt: HostRuntime) {
     for &(text, rounds, wanted) in CHOICES {
         let same = match all_of(&rt, text, rounds, wanted.len(), None) {
             Ok(found) => {
-                let list = found.list.as_slice();
-                let mut same = list.len() == wanted.len();
+                let list = found.list;
+                let mut same = list.len() == wanted.len() && !found.drawn;
                 for i in 0..list.len() {
-                    same = same && i < wanted.len() && list[i].choices.as_slice() == wanted[i];
+                    let choices = match list.scenario(rt.alloc(), i) {
+                        Ok(scenario) => scenario.choices,
+                        Err(_) => Listed::from_vec(Vec::new(rt.alloc())),
+                    };
+                    same = same && i < wanted.len() && choices.as_slice() == wanted[i];
                 }
                 same
             }
@@ -240,7 +244,7 @@ fn all_choices_of_import_all(rt: HostRuntime) {
     }
 }
 
-/// Loops of which each round of one goes all rounds of the next.
+/// Nested loops: each round of one goes all rounds of the next.
 const DEEP: &[u8] = b"sequenceDiagram\nloop x\nloop y\nloop z\nA->>B: a\nend\nend\nend\nA->>B: b";
 
 #[test]

@@ -1,4 +1,4 @@
-//! Tests of imports: of diagrams, of their scenarios, of blocks of Markdown, and of what they lack.
+//! Tests of imports: of diagrams, of their scenarios, of blocks of Markdown, and of their faults.
 #![tactic(auto)]
 
 #[cfg(test)]
@@ -6,4 +6,4 @@ mod imports;
 #[cfg(test)]
 mod markdown;
 #[cfg(test)]
-mod sites;
+mod spans;

@@ -1,8 +1,8 @@
 //! Lists that contracts see as lists.
 //!
-//! A [`Listed`] is made from a `Vec` and gives it back, and neither takes memory. Other crates keep
-//! it where a contract compares a value with a definition's: a `Vec` shows its capacity and where
-//! it lies, a `Listed` its items alone.
+//! A [`Listed`] is made from a `Vec` and returns it, and neither takes memory. Other crates use it
+//! if a contract compares a value with that of a definition: a `Vec` shows its capacity and its
+//! address, a `Listed` only its items.
 #![tactic(auto)]
 
 ghost use Rattle.std.specs.Prelude.{◌≡◌, List};

@@ -1,4 +1,4 @@
-//! Numbers that every part of an answer goes into, by the hash of Fowler, Noll and Vo (FNV-1a), a
+//! Numbers that depend on every part of a result, by the hash of Fowler, Noll and Vo (FNV-1a), a
 //! word at a time.
 
 ghost use Rattle.std.specs.Prelude.{◌≡◌, length};
@@ -15,7 +15,7 @@ fn and(number: u64, part: u64) -> u64 {
     (number ^ part).wrapping_mul(1_099_511_628_211)
 }
 
-/// The number of a draft: how many items each section has.
+/// The number of a draft: the number of items of each section.
 pub fn parsed(draft: &Draft) -> u64 {
     let sections = draft.sections().iter();
     sections.fold(

@@ -1,11 +1,17 @@
-//! Does what is to be measured (`bench/charts`, `checks`, `orders`, `queues`).
+//! The program whose runs are measured (`bench/charts`, `checks`, `orders`, `queues`).
 //!
-//! Words: a phase of what is made of the chart on standard input, and a count. What stands before
-//! the phase is done once, the phase as often as the count says, and at least once. A number that
-//! every part of the phase's answer goes into is printed.
+//! Its words are a phase, which takes the chart on standard input, and a count. The steps before
+//! the phase are done once, and the phase as often as the count, but at least once. The program
+//! prints a number that depends on every part of the phase's result.
 //!
-//! Or the word `queues`, a number of senders from 1 to 32, and a number of queues: how many
-//! messages went through them is printed, and how many nanoseconds they took to standard error.
+//! Or the word `queues`, a number of senders from 1 to 32, and a number of queues: the program
+//! prints the number of messages that went through them, and to standard error the time in
+//! nanoseconds.
+//!
+//! # Choices
+//!
+//! - One program does all measurements: the crates that a program links are proved and compiled
+//!   anew for it. Executions are measured as runs of `msc`, since they would link five more crates.
 #![tactic(auto)]
 
 ghost use Rattle.std.specs.Prelude.{◌≡◌, length};
@@ -83,7 +89,7 @@ fn read_chart(alloc: Global, text: &[u8]) -> Result<Chart> {
     Ok(Chart::build(alloc, &parse(alloc, text)?)?)
 }
 
-/// Goes through a step from a chart, and answers the number of its answer.
+/// Does a step from a chart, and returns the number of its result.
 fn take_step(alloc: Global, chart: &Chart, step: Step, count: u32) -> Result<u64> {
     match step {
         Step::Visual => visual_often(alloc, chart, count),
@@ -92,12 +98,12 @@ fn take_step(alloc: Global, chart: &Chart, step: Step, count: u32) -> Result<u64
     }
 }
 
-/// The same from the chart of a text.
+/// The same with the chart of a text.
 fn take_step_of_text(alloc: Global, text: &[u8], step: Step, count: u32) -> Result<u64> {
     take_step(alloc, &read_chart(alloc, text)?, step, count)
 }
 
-/// Goes through a phase, and answers the number of its answer.
+/// Does a phase, and returns the number of its result.
 fn go_through(alloc: Global, text: &[u8], phase: Phase, count: u32) -> Result<u64> {
     match phase {
         Phase::Parse => parse_often(alloc, text, count),
@@ -106,21 +112,21 @@ fn go_through(alloc: Global, text: &[u8], phase: Phase, count: u32) -> Result<u6
     }
 }
 
-/// What is to be done.
+/// The task of the program.
 enum Task {
-    /// To send through so many queues, from so many senders, which stand first.
+    /// To send through this number of queues, from this number of senders, which comes first.
     Send(u32, u32),
-    /// To go through a phase so often.
+    /// To do a phase this number of times.
     GoThrough(Phase, u32),
 }
 
-/// The number that a word is, where there is a word; `asked` asks for it.
+/// The number that a word is, if there is a word; otherwise `asked` is the error.
 fn number(word: Option<String>, asked: &'static str) -> Result<u32> {
     let word = word.context(asked)?;
     Ok(word.parse()?)
 }
 
-/// What the words of the command line, behind the program's name, say is to be done.
+/// The task in the words of the command line, after the program's name.
 fn read_words(rt: &HostRuntime) -> Result<Task> {
     let mut words = env::args(rt)?.skip(1);
     let word = words.next().context("what?")?;
@@ -131,7 +137,7 @@ fn read_words(rt: &HostRuntime) -> Result<Task> {
     Ok(Task::GoThrough(phase_of(&word).context("no such phase")?, first))
 }
 
-/// Goes through a phase of the text on standard input, and answers the number of its answer.
+/// Does a phase on the text on standard input, and returns the number of its result.
 fn go_through_input(rt: &HostRuntime, phase: Phase, count: u32) -> Result<u64> {
     let mut text = Vec::new(rt.alloc());
     rt.stdin().read_to_end(&mut text)?;

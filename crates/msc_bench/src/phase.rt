@@ -1,8 +1,8 @@
-//! What is measured.
+//! The phases that are measured.
 
 use msc_chart::Queues;
 
-/// What is made of a chart.
+/// A step that starts from a chart.
 #[derive(Clone, Copy)]
 pub enum Step {
     /// The visual order of the chart.
@@ -13,7 +13,7 @@ pub enum Step {
     Races(Queues),
 }
 
-/// What is made on the way from a text to the races of its chart.
+/// A phase of the path from a text to the races of its chart.
 #[derive(Clone, Copy)]
 pub enum Phase {
     /// From the text to its draft.

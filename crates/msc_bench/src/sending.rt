@@ -2,7 +2,7 @@
 //!
 //! Each sender has a thread of its own and goes through the queues one after the other: in each it
 //! puts its share of the 1,024 messages that a queue may have, and the end mark. One thread takes,
-//! queue by queue, until all senders have ended. All queues are made before.
+//! queue by queue, until all senders have ended. All queues are made first.
 
 use anyhow::{Context, Result, bail};
 use msc_fifo::{Inlet, Outlet, QUOTA_LIMIT, Taken, queue};
@@ -12,7 +12,7 @@ use std::thread;
 use std::thread::{Scope, Threads};
 use std::time::{Clock, Instant};
 
-/// Puts what the quotas allow, and closes.
+/// Puts the messages that the quotas allow, and closes the outlets.
 fn send_all(outlets: Vec<Outlet>) {
     for mut outlet in outlets {
         for m in 0..outlet.left() {
@@ -22,7 +22,7 @@ fn send_all(outlets: Vec<Outlet>) {
     }
 }
 
-/// Takes all messages of a queue, and answers how many there were.
+/// Takes all messages of a queue, and returns their number.
 fn take_all(mut inlet: Inlet) -> u64 {
     let mut taken = 0u64;
     for _ in 0..u64::MAX {
@@ -38,7 +38,7 @@ fn take_all(mut inlet: Inlet) -> u64 {
     taken
 }
 
-/// Takes all messages of the queues, one after the other, and answers how many there were.
+/// Takes all messages of the queues, one after the other, and returns their number.
 fn take_each(inlets: Vec<Inlet>) -> u64 {
     let mut taken = 0u64;
     for inlet in inlets {
@@ -47,7 +47,7 @@ fn take_each(inlets: Vec<Inlet>) -> u64 {
     taken
 }
 
-/// Starts a thread for each sender, and says whether all could be started.
+/// Starts a thread for each sender, and returns whether all could be started.
 fn start_all<'s, 'e>(scope: &Scope<'s, &'e ()>, senders: Vec<Vec<Outlet>>) -> bool {
     for outlets in senders {
         if scope.spawn(move || send_all(outlets)).is_err() {
@@ -57,14 +57,14 @@ fn start_all<'s, 'e>(scope: &Scope<'s, &'e ()>, senders: Vec<Vec<Outlet>>) -> bo
     true
 }
 
-/// The ends of queues: for each sender its outlets, and all inlets.
+/// The ends of queues: the outlets of each sender, and all inlets.
 #[derive(Drop)]
 pub struct Ends {
     senders: Vec<Vec<Outlet>>,
     inlets: Vec<Inlet>,
 }
 
-/// Sends and takes, each sender in a thread; answers how many messages were taken, where all
+/// Sends and takes, each sender in a thread. Returns the number of messages that were taken, if all
 /// threads could be started.
 fn run<R: Threads + Wait + Sync>(rt: &R, ends: Ends) -> Option<u64> {
     let Ends { senders, inlets } = ends;
@@ -76,7 +76,7 @@ fn run<R: Threads + Wait + Sync>(rt: &R, ends: Ends) -> Option<u64> {
     })
 }
 
-/// So many senders without outlets.
+/// `count` senders without outlets.
 fn new_senders(alloc: Global, count: usize) -> Result<Vec<Vec<Outlet>>, AllocError> {
     let mut senders = Vec::new(alloc);
     for _ in 0..count {
@@ -103,7 +103,7 @@ impl Ends {
     }
 }
 
-/// The ends of so many queues with these quotas.
+/// The ends of this number of queues with these quotas.
 fn ends_with(alloc: Global, quotas: &[u32], queues: u32) -> Result<Ends> {
     let senders = new_senders(alloc, quotas.len())?;
     let inlets = Vec::new(alloc);
@@ -114,7 +114,8 @@ fn ends_with(alloc: Global, quotas: &[u32], queues: u32) -> Result<Ends> {
     Ok(ends)
 }
 
-/// The ends of so many queues of so many senders, which share what a queue may have.
+/// The ends of `queues` queues of `senders` senders, which share the messages that a queue may
+/// have.
 pub fn ends_of(alloc: Global, senders: u32, queues: u32) -> Result<Ends> {
     if senders == 0 {
         bail!("no sender");
@@ -123,7 +124,8 @@ pub fn ends_of(alloc: Global, senders: u32, queues: u32) -> Result<Ends> {
     ends_with(alloc, &quotas, queues)
 }
 
-/// Sends and takes, and answers how many messages were taken, and in how many nanoseconds.
+/// Sends and takes, and returns the number of messages that were taken, and the time in
+/// nanoseconds.
 pub fn measured<R: Threads + Wait + Clock + Sync>(rt: &R, ends: Ends) -> Result<(u64, u128)> {
     let start = Instant::now(rt)?;
     let taken = run(rt, ends).context("a thread could not be started")?;

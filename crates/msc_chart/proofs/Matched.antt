@@ -28,12 +28,12 @@ use Rattle.msc_chart.proofs.Drawn.{local_parts}
 
 -- the other end of the other end is the end itself
 other-other : (x : MessageEnd) → other_end (other_end x) ≡ x
-other-other x = λ i. record { sends = twice x.sends i; key = x.key }
+other-other x = λ i. record { sends = two_rounds x.sends i; key = x.key }
   where
     -- what is negated twice is as before
-    twice : (b : Bool) → not (not b) ≡ b
-    twice true = refl
-    twice false = refl
+    two_rounds : (b : Bool) → not (not b) ≡ b
+    two_rounds true = refl
+    two_rounds false = refl
 
 -- the other end of an output is an input, and the other way round
 other_kinds : (b : Bool) → sends (cond (not b) Output Input) ≡ takes (cond b Output Input)
@@ -127,13 +127,13 @@ module _ (d : Tree) where
 
 module _ (d : Tree) (clear : IsClearBelow d 10) where
   -- no end stands twice
-  pub none-twice : (e : ℕ) → IsTwice (acts_of d) e → ⊥
+  pub none-two_rounds : (e : ℕ) → IsTwice (acts_of d) e → ⊥
   unfolding Stands
-  none-twice e h = let low : 10 ≤ 7 = clear (TwiceEvent e) h in omega arith
+  none-two_rounds e h = let low : 10 ≤ 7 = clear (TwiceEvent e) h in omega arith
 
   -- so each stands at its place
   pub place-own : (e : ℕ) (x : MessageEnd) → StandsAt (acts_of d) e (OfMessage x) → end_place (acts_of d) x ≡ e
-  place-own = place-once (acts_of d) none-twice
+  place-own = place-once (acts_of d) none-two_rounds
 
   -- no end is alone
   other-occurs : (e : ℕ) (x : MessageEnd) → StandsAt (acts_of d) e (OfMessage x) → Occurs (acts_of d) (OfMessage (other_end x))

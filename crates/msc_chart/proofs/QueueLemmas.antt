@@ -11,7 +11,7 @@ use Rattle.std.proofs.lemmas.Option.{slice_get-get_or}
 use Rattle.msc_chart.specs.declared.TheConstants.{INSTANCE_LIMIT}
 use Rattle.msc_chart.specs.declared.queue.Queues.{Queues}
 use Rattle.msc_chart.specs.declared.queue.Queues.TheVariants.{Pair, Mailbox, Single}
-use Rattle.msc_chart.specs.Charts.{line, partner, message, is_output, is_input, is_local}
+use Rattle.msc_chart.specs.Charts.{line, partner, message, is_output, is_input, is_local, IsMatched}
 use Rattle.msc_chart.specs.Drawings.{Drawing, input_of, output_of, sender_of, receiver_of, IsAccepted}
 use Rattle.msc_chart.specs.Orders.{queue_bound, queue_number, queue_of, sender_at, receiver_at, wired, queue, IsWired}
 use Rattle.msc_chart.specs.Laws.{messages_in, sends_to, senders_in, IsBounded}
@@ -133,7 +133,7 @@ bounded queues d m accepted known =
       one_receiver = λ k l k_in l_in of_k of_l. shared queues d accepted k l k_in l_in (of_k ∙ sym of_l);
     }
 
-module _ (queues : Queues) (d : Drawing) (accepted : IsAccepted d) where
+module _ (queues : Queues) (d : Drawing) where
   -- the sender and the receiver of an output's message
   of_output : (s : ℕ) → is_output d.events s ≡ true → (sender_at d.events s ≡ line d.events s) × (receiver_at d.events s ≡ line d.events (partner d.events s))
   unfolding sender_at receiver_at
@@ -158,35 +158,40 @@ module _ (queues : Queues) (d : Drawing) (accepted : IsAccepted d) where
   same_number : {s s' r r' m m' : ℕ} → s ≡ s' → r ≡ r' → m ≡ m' → queue_number queues (length d.instances) s r m ≡ queue_number queues (length d.instances) s' r' m'
   same_number p q o = λ k. queue_number queues (length d.instances) (p k) (q k) (o k)
 
-  -- both ends of a message have one queue
-  pub ends_share : IsWired (wired queues d)
+  -- where both ends of a message have its number, they have one queue
+  pub wired_from : IsMatched d.events → ((e : ℕ) → e < length d.events → message d.events (partner d.events e) ≡ message d.events e) → IsWired (wired queues d)
   unfolding queue
-  ends_share = record {
-    matched = accepted.matched;
+  wired_from matched shared = record {
+    matched = matched;
     one_queue = λ e within.
-        let back = accepted.matched.to_and_fro e within in
-        let one = accepted.has_messages.shared e within in
+        let back = matched.to_and_fro e within in
+        let one = shared e within in
         by_test (is_local d.events e)
-        (λ local. ap (queue (wired queues d)) (accepted.matched.own e local))
+        (λ local. ap (queue (wired queues d)) (matched.own e local))
         (λ away. elim (output_or_input d.events e within away) [
           | inl o ↦
               let here = of_output e o in
-              let there = of_input (partner d.events e) (partner_of_output d.events accepted.matched e o) in
+              let there = of_input (partner d.events e) (partner_of_output d.events matched e o) in
               same_number (there.0 ∙ ap (line d.events) back ∙ sym here.0) (there.1 ∙ sym here.1) one
           | inr i ↦
               let here = of_input e i in
-              let there = of_output (partner d.events e) (partner_of_input d.events accepted.matched e i) in
+              let there = of_output (partner d.events e) (partner_of_input d.events matched e i) in
               same_number (there.0 ∙ sym here.0) (there.1 ∙ ap (line d.events) back ∙ sym here.1) one
         ]);
   }
+
+module _ (queues : Queues) (d : Drawing) (accepted : IsAccepted d) where
+  -- both ends of a message of an accepted chart have one queue
+  pub ends_share : IsWired (wired queues d)
+  ends_share = wired_from queues d accepted.matched accepted.has_messages.shared
 
   -- the queue of an output is that of its message
   output_queue : (s : ℕ) → is_output d.events s ≡ true → queue (wired queues d) s ≡ queue_of queues d (message d.events s)
   unfolding queue queue_of sender_of receiver_of input_of
   output_queue s o =
-      let here = of_output s o in
+      let here = of_output queues d s o in
       let back = accepted.has_messages.back s o in
-      same_number (here.0 ∙ ap (line d.events) (sym back)) (here.1 ∙ ap (λ (e : ℕ). line d.events (partner d.events e)) (sym back)) refl
+      same_number queues d (here.0 ∙ ap (line d.events) (sym back)) (here.1 ∙ ap (λ (e : ℕ). line d.events (partner d.events e)) (sym back)) refl
 
   -- and so is that of an input
   pub event_queue : (e : ℕ) → e < length d.events → is_local d.events e ≡ false → queue (wired queues d) e ≡ queue_of queues d (message d.events e)

@@ -24,7 +24,7 @@ use Rattle.msc_chart.specs.Faults.{Stands, HoldsAt, IsRepeat, IsTwice, IsUnknown
 use Rattle.msc_chart.proofs.FaultLemmas.{first_of, clear_next, clear_first}
 use Rattle.msc_chart.proofs.Places.{repeat_from, no_repeat}
 use Rattle.msc_chart.proofs.MatchingLemmas.{mark_same}
-use Rattle.msc_chart.proofs.TwiceLemmas.{AreOwn, twice_from, none_twice}
+use Rattle.msc_chart.proofs.UnrollingLemmas.{AreOwn, twice_from, none_twice}
 
 -- names that compare equal are equal
 bytes-true : (a b : Bor (List ℕ)) → equal_names a b ≡ true → deref a ≡ deref b

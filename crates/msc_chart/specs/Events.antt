@@ -2,8 +2,8 @@
 use Rattle.std.specs.Prelude.{ℕ, ◌+◌, Bool, true, false, cond, ◌&&◌, not, List, [], ◌∷◌, ◌++◌, Option, None, Some, map, nat_eq}
 use mathlib.Core.Bool.{beq}
 use Rattle.std.specs.Cmp.Lexicographic.{pointwise}
-use Rattle.msc_parser.specs.declared.tree.Way.{Way}
-use Rattle.msc_parser.specs.declared.tree.Way.TheVariants.{Output, Input}
+use Rattle.msc_parser.specs.declared.tree.Direction.{Direction}
+use Rattle.msc_parser.specs.declared.tree.Direction.TheVariants.{Output, Input}
 use Rattle.msc_parser.specs.declared.tree.Signal.{Signal}
 use Rattle.msc_parser.specs.declared.tree.Statement.{Statement}
 use Rattle.msc_parser.specs.declared.tree.Statement.TheVariants as statements
@@ -36,7 +36,7 @@ pub record DraftEvent : Type 0 where
   pub act : Act
 
 -- the end of a message that a statement of an instance of this name draws
-abbrev pub end_by : Way → List ℕ → Signal → MessageEnd
+abbrev pub end_by : Direction → List ℕ → Signal → MessageEnd
 end_by Output own s =
     record { sends = true; key = record { sender = own; receiver = s.address; name = s.name; number = s.number } }
 end_by Input own s =
@@ -44,7 +44,7 @@ end_by Input own s =
 
 -- the same by the way of the statement itself
 abbrev pub end_of : List ℕ → Signal → MessageEnd
-end_of own s = end_by s.way own s
+end_of own s = end_by s.direction own s
 
 -- what a statement of an instance of this name does
 abbrev pub act_of : List ℕ → Statement → Act

@@ -7,9 +7,10 @@ pub mod Drawings
 pub mod Items
 pub mod Architectures
 pub mod Orders
+pub mod Precedence
 pub mod Wirings
 pub mod Runs
-pub mod Chosen
+pub mod Witness
 pub mod Rounds
 pub mod RoundLaws
 pub mod Faults

@@ -1,11 +1,11 @@
--- Laws of several rounds of a chart, under each architecture. E in round r is the event that number_of
--- gives; rounds are numbered from 0.
+-- Laws of several rounds of a chart, under each architecture. E in round r is the event that
+-- number_of gives; rounds are numbered from 0.
 use Rattle.std.specs.Prelude.{◌≡◌, ℕ, ◌+◌, ◌*◌, ◌<◌, ◌≤◌, ◌⊎◌, ◌↔◌, false, length, IsTrue}
 use Rattle.msc_chart.specs.declared.queue.Queues.{Queues}
 use Rattle.msc_chart.specs.Charts.{line, kind, partner, message, before, is_local, Visual}
 use Rattle.msc_chart.specs.Drawings.{Drawing, IsAccepted, label_of, message_at}
 use Rattle.msc_chart.specs.Orders.{WiredChart, wired, Enforced, IsRace}
-use Rattle.msc_chart.specs.Rounds.{number_of, event_of, round_of, message_in, repeated, twice}
+use Rattle.msc_chart.specs.Rounds.{number_of, event_of, round_of, message_in, repeated, two_rounds}
 
 -- event e in round r of n rounds
 abbrev pub in_round : ℕ → Drawing → ℕ → ℕ → ℕ
@@ -29,8 +29,8 @@ EachEventIsInEachRound =
     → (in_round n d e r < length (repeated n d).events)
     × (event_of n d.events (in_round n d e r) ≡ e) × (round_of n d.events (in_round n d e r) ≡ r)
 
--- Lines are done round by round: of two events the first is drawn before the second where they are on
--- one line, the first in an earlier round, or in the same one and drawn before it in the chart.
+-- Lines are done round by round: of two events the first is drawn before the second where they are
+-- on one line, the first in an earlier round, or in the same one and drawn before it in the chart.
 abbrev pub LinesAreDoneRoundByRound : Type 0
 LinesAreDoneRoundByRound =
     (n : ℕ) (d : Drawing) (e r f q : ℕ) → IsAccepted d → IsIn n d e r → IsIn n d f q
@@ -57,7 +57,8 @@ TextsStayAsTheyAre =
     (n : ℕ) (d : Drawing) (e r : ℕ) → IsAccepted d → IsIn n d e r → IsTrue (is_local d.events e)
     → label_of (repeated n d) (in_round n d e r) ≡ label_of d e
 
--- a message has its name and its message instance name in each round, and its output is its output there
+-- a message has its name and its message instance name in each round, and its output is its output
+-- there
 abbrev pub NamesStayAsTheyAre : Type 0
 NamesStayAsTheyAre =
     (n : ℕ) (d : Drawing) (m r : ℕ) → IsAccepted d → m < length d.messages → r < n
@@ -110,7 +111,25 @@ Passes chart = (e f : ℕ) → IsRace chart e f → ⊥
 abbrev pub RoundsByTwo : Type 0
 RoundsByTwo =
     (queues : Queues) (d : Drawing) → IsAccepted d
-    → ((n : ℕ) → Passes (wired queues (repeated n d))) ↔ Passes (wired queues (twice d))
+    → ((n : ℕ) → Passes (wired queues (repeated n d))) ↔ Passes (wired queues (two_rounds d))
+
+-- and so does each number of rounds from two on
+abbrev pub ManyRoundsPassAsTwo : Type 0
+ManyRoundsPassAsTwo =
+    (queues : Queues) (d : Drawing) → IsAccepted d → (n : ℕ) → 2 ≤ n
+    → Passes (wired queues (repeated n d)) ↔ Passes (wired queues (two_rounds d))
+
+-- no race is between an event of the first of two rounds and one of the second
+abbrev pub NoneIsBetween : Queues → Drawing → Type 0
+NoneIsBetween queues d =
+    (e f : ℕ) → e < length d.events → f < length d.events
+    → IsRace (wired queues (two_rounds d)) (in_round 2 d e 0) (in_round 2 d f 1) → ⊥
+
+-- two rounds pass exactly where one does and no race is between them
+abbrev pub TwoRoundsPass : Type 0
+TwoRoundsPass =
+    (queues : Queues) (d : Drawing) → IsAccepted d
+    → Passes (wired queues (two_rounds d)) ↔ (Passes (wired queues d) × NoneIsBetween queues d)
 
 -- nothing is drawn between x and y
 abbrev pub AreNext : WiredChart → ℕ → ℕ → Type 0
@@ -120,14 +139,14 @@ AreNext chart x y = (z : ℕ) → IsTrue (before chart.events x z) → IsTrue (b
 abbrev pub IsNextRace : WiredChart → ℕ → ℕ → Type 0
 IsNextRace chart x y = IsRace chart x y × AreNext chart x y
 
--- the closest races of n rounds are those of the chart within a round, and those between the first and
--- the second of two rounds, between a round and the next
+-- the closest races of n rounds are those of the chart within a round, and those between the first
+-- and the second of two rounds, between a round and the next
 abbrev pub ClosestRacesByTwo : Type 0
 ClosestRacesByTwo =
     (queues : Queues) (n : ℕ) (d : Drawing) (e r f q : ℕ) → IsAccepted d → IsIn n d e r → IsIn n d f q
     → IsNextRace (wired queues (repeated n d)) (in_round n d e r) (in_round n d f q)
     ↔ (((q ≡ r) × IsNextRace (wired queues d) e f)
-    ⊎ ((q ≡ r + 1) × IsNextRace (wired queues (twice d)) (in_round 2 d e 0) (in_round 2 d f 1)))
+    ⊎ ((q ≡ r + 1) × IsNextRace (wired queues (two_rounds d)) (in_round 2 d e 0) (in_round 2 d f 1)))
 
 -- event e is of the last segment of its line
 abbrev pub IsLast : Drawing → ℕ → Type 0
@@ -137,9 +156,9 @@ IsLast d e = (x : ℕ) → IsTrue (before d.events e x) → ⊥
 abbrev pub IsFirstDrawn : Drawing → ℕ → Type 0
 IsFirstDrawn d f = (x : ℕ) → IsTrue (before d.events x f) → ⊥
 
--- between the first and the second round nothing is drawn between an event of the last segment of a line
--- and one of its first, and between no other two
+-- between the first and the second round nothing is drawn between an event of the last segment of a
+-- line and one of its first, and between no other two
 abbrev pub NextOverTwoRounds : Type 0
 NextOverTwoRounds =
     (queues : Queues) (d : Drawing) (e f : ℕ) → IsAccepted d → e < length d.events → f < length d.events → line d.events e ≡ line d.events f
-    → AreNext (wired queues (twice d)) (in_round 2 d e 0) (in_round 2 d f 1) ↔ (IsLast d e × IsFirstDrawn d f)
+    → AreNext (wired queues (two_rounds d)) (in_round 2 d e 0) (in_round 2 d f 1) ↔ (IsLast d e × IsFirstDrawn d f)

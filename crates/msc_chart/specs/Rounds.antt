@@ -1,14 +1,14 @@
 -- Charts of several rounds. Each line has its events again in each round, those of a round before
--- those of the next, and the messages of different rounds are different. So each instance begins its
--- next round when its own line is done, and none waits for another. The rule is our own.
+-- those of the next, and the messages of different rounds are different. So each instance begins
+-- its next round when its own line is done, and none waits for another. The rule is our own.
 --
 -- Rounds are numbered from 0 here, and from 1 where they are shown.
 use Rattle.std.specs.Prelude.{ℕ, ◌+◌, ◌-◌, ◌*◌, ◌/◌, ◌%◌, ◌<◌, ◌≤◌, cond, List, length, map, filter, count_by}
 use Rattle.std.specs.List.{range_with_len}
 use Rattle.msc_chart.specs.declared.event.ChartEvent.{ChartEvent}
 use Rattle.msc_chart.specs.declared.TheConstants.{ROUND_ACTION_LIMIT, ROUND_MESSAGE_LIMIT}
-use Rattle.msc_chart.specs.declared.fault.TwiceFault.{TwiceFault}
-use Rattle.msc_chart.specs.declared.fault.TwiceFault.TheVariants.{TooManyMessages, TooManyActions, Memory}
+use Rattle.msc_chart.specs.declared.fault.UnrollFault.{UnrollFault}
+use Rattle.msc_chart.specs.declared.fault.UnrollFault.TheVariants.{TooManyMessages, TooManyActions, Memory}
 use Rattle.msc_chart.specs.declared.message.Message.{Message}
 use Rattle.msc_chart.specs.Charts.{line, segment, kind, partner, message, acts, line_start}
 use Rattle.msc_chart.specs.Drawings.{Drawing, message_at, label_of}
@@ -103,8 +103,8 @@ repeated n d = record {
 }
 
 -- the chart of two rounds
-abbrev pub twice : Drawing → Drawing
-twice = repeated 2
+abbrev pub two_rounds : Drawing → Drawing
+two_rounds = repeated 2
 
 -- a chart has few enough messages and actions for two rounds
 pub record IsShort (d : Drawing) : Type 0 where
@@ -112,7 +112,7 @@ pub record IsShort (d : Drawing) : Type 0 where
   pub actions : length d.actions ≤ ROUND_ACTION_LIMIT
 
 -- why two rounds of a chart are no chart: the first of these that stands
-abbrev pub IsTwiceFault : Drawing → TwiceFault → Type 0
-IsTwiceFault d TooManyMessages = ROUND_MESSAGE_LIMIT < length d.messages
-IsTwiceFault d TooManyActions = (length d.messages ≤ ROUND_MESSAGE_LIMIT) × (ROUND_ACTION_LIMIT < length d.actions)
-IsTwiceFault d Memory = ⊥
+abbrev pub IsUnrollFault : Drawing → UnrollFault → Type 0
+IsUnrollFault d TooManyMessages = ROUND_MESSAGE_LIMIT < length d.messages
+IsUnrollFault d TooManyActions = (length d.messages ≤ ROUND_MESSAGE_LIMIT) × (ROUND_ACTION_LIMIT < length d.actions)
+IsUnrollFault d Memory = ⊥

@@ -1,7 +1,7 @@
 -- Small charts, and what the definitions say of them.
 use Rattle.std.specs.Prelude.{ℕ, List, [], ◌∷◌, length, map, None, ◌↔◌}
 use Rattle.std.specs.List.{range_with_len}
-use Rattle.msc_parser.specs.declared.tree.Way.TheVariants.{Output, Input}
+use Rattle.msc_parser.specs.declared.tree.Direction.TheVariants.{Output, Input}
 use Rattle.msc_parser.specs.declared.tree.Statement.{Statement}
 use Rattle.msc_parser.specs.declared.tree.Statement.TheVariants.{Message, Action}
 use Rattle.msc_parser.specs.declared.tree.Item.{Item}
@@ -70,11 +70,11 @@ done = 100 ∷ 111 ∷ 110 ∷ 101 ∷ []
 
 -- `out NAME to ADDRESS;`
 abbrev pub out_to : List ℕ → List ℕ → Statement
-out_to name address = Message (record { way = Output; name = name; number = None; parameters = []; address = address })
+out_to name address = Message (record { direction = Output; name = name; number = None; parameters = []; address = address })
 
 -- `in NAME from ADDRESS;`
 abbrev pub in_from : List ℕ → List ℕ → Statement
-in_from name address = Message (record { way = Input; name = name; number = None; parameters = []; address = address })
+in_from name address = Message (record { direction = Input; name = name; number = None; parameters = []; address = address })
 
 -- `action 'TEXT';`
 abbrev pub does : List ℕ → Statement

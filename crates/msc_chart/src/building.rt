@@ -49,7 +49,7 @@ fn marks_of<'d>(alloc: Global, events: &[DraftEvent<'d>]) -> Result<Vec<Mark<'d>
     Ok(marks)
 }
 
-/// The instances by number, where the draft has none of the faults that concern their names.
+/// The instances by number, if the draft has none of the faults that concern their names.
 fn instances<'d>(alloc: Global, draft: &'d Draft) -> Result<IndexSet<&'d [u8]>, ChartFault>
     ensures names { IfOk result (λ names. map deref names.keys ≡ instances_of draft.entry.now) }
     ensures few { OnOk result (length draft.entry.now.sections ≤ INSTANCE_LIMIT) }
@@ -70,7 +70,7 @@ fn instances<'d>(alloc: Global, draft: &'d Draft) -> Result<IndexSet<&'d [u8]>, 
     Ok(numbers)
 }
 
-/// Refuses an end of a message whose address is the name of no instance.
+/// Refuses an end of a message whose address is no instance's name.
 fn refuse_unknown_address<'d>(
     draft: &Draft,
     instances: &IndexSet<&'d [u8]>,
@@ -89,7 +89,7 @@ fn refuse_unknown_address<'d>(
     }
 }
 
-/// Refuses more messages, and more actions, than a chart may have.
+/// Refuses more messages, or more actions, than a chart may have.
 fn refuse_too_many(draft: &Draft, marks: &[Mark]) -> Result<(), ChartFault>
     requires acts { map mark_view marks.now ≡ acts_of draft.now }
     requires clear { IsClearBelow draft.now 5 }
@@ -106,7 +106,7 @@ fn refuse_too_many(draft: &Draft, marks: &[Mark]) -> Result<(), ChartFault>
     Ok(())
 }
 
-/// Refuses an end of a message whose other end is at no place, outputs first.
+/// Refuses an end of a message without its other end, outputs first.
 fn refuse_unmatched(draft: &Draft, marks: &[Mark], partners: &[u32]) -> Result<(), ChartFault>
     requires acts { map mark_view marks.now ≡ acts_of draft.now }
     requires partners { partners.now ≡ partners_of (map mark_view marks.now) }
@@ -124,8 +124,7 @@ fn refuse_unmatched(draft: &Draft, marks: &[Mark], partners: &[u32]) -> Result<(
     Ok(())
 }
 
-/// The marks of the events by place, where no fault stands up to an end of a message that is there
-/// twice.
+/// The marks of the events by place, if the draft has no fault up to a repeated end of a message.
 fn places<'d>(
     alloc: Global,
     draft: &Draft,
@@ -152,8 +151,8 @@ fn places<'d>(
     }
 }
 
-/// The events of a draft, and their marks by place, where no fault stands up to an end of a message
-/// that is there twice.
+/// The events of a draft, and their marks by place, if the draft has no fault up to a repeated end
+/// of a message.
 fn placed_events<'d>(
     alloc: Global,
     draft: &'d Draft,
@@ -170,7 +169,7 @@ fn placed_events<'d>(
     Ok((events, places))
 }
 
-/// The partners of the events, where every end of a message has its other end.
+/// The partners of the events, if every end of a message has its other end.
 fn matched_partners<'d>(
     alloc: Global,
     draft: &Draft,
@@ -189,8 +188,8 @@ fn matched_partners<'d>(
     Ok(partners)
 }
 
-/// The events of the chart, and a linear order of them, of these events of a draft, where no fault
-/// stands.
+/// The events of the chart, and a linear order of them, made of these events of a draft, if there
+/// is no fault.
 fn ordered_events<'d>(
     alloc: Global,
     draft: &Draft,
@@ -213,7 +212,7 @@ fn ordered_events<'d>(
 }
 
 /// The events of the chart, a linear order of them, and the marks of the draft's events by place,
-/// where no fault stands.
+/// if there is no fault.
 pub(crate) fn lawful_events<'d>(
     alloc: Global,
     draft: &'d Draft,

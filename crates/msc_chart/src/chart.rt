@@ -2,8 +2,8 @@
 //!
 //! Instances, events and messages are numbered from 0: instances by their sections, events in the
 //! order of the text, messages by their outputs. Contracts see the lists of all three, and the
-//! texts of the actions. The words are those of Z.120; the visual order is that of Alur, Holzmann
-//! and Peled (1996).
+//! texts of the actions. The terms are from Z.120; the visual order is from Alur, Holzmann and
+//! Peled (1996).
 
 ghost use Rattle.std.specs.Prelude.{◌≡◌, ◌≢◌, ◌<◌, ◌≤◌, ◌+◌, ◌↔◌, IsTrue, false, cond, None, Some};
 ghost use Rattle.std.specs.Prelude.{length, IfOk, IfErr, OnOk, slice_get};
@@ -31,7 +31,7 @@ use msc_parser::{Draft, Label, Name};
 use std::alloc::Global;
 use std::marker::Model;
 
-mod twice;
+mod two_rounds;
 
 /// The chart of a draft.
 #[derive(Drop)]
@@ -49,19 +49,19 @@ impl Model for Chart {
 
     ghost view = { λ c. drawing c.name c.instances c.events.items c.messages c.actions };
 
-    // What holds of every chart that was built.
+    // The facts that hold for every chart that was built.
     ghost invariant = { λ c.
         IsBuilt (drawing c.name c.instances c.events.items c.messages c.actions) c.order.items };
 }
 
 impl Chart {
-    /// The chart of a draft, or the draft's first fault: of the variants of [`ChartFault`] the
-    /// first that stands in it, at its least place. `Memory` is answered where a growth of memory
+    /// The chart of a draft, or the draft's first fault: the first of the variants of
+    /// [`ChartFault`] that applies, at its least place. `Memory` is returned if a growth of memory
     /// was refused.
     pub fn build(alloc: Global, draft: &Draft) -> Result<Chart, ChartFault>
         ensures chart { IfOk result (λ chart. chart ≡ chart_of draft.now) }
 
-        // A chart is answered only where no fault stands, and a fault only where it is the first.
+        // A chart is returned only if there is no fault, and a fault only if it is the first.
         ensures faultless { OnOk result (IsFaultless draft.now) }
         ensures fault { IfErr result (λ f. f ≢ ChartFault.Memory → IsFirstFault draft.now f) }
     {
@@ -97,18 +97,18 @@ impl Chart {
     pub fn events(&self) -> u32
         ensures number { result ≡ length self.now.events }
 
-        // What every chart keeps: partners match, no event precedes itself, and all is bounded.
+        // The facts on every chart: partners match, no event precedes itself, and all is bounded.
         ensures accepted { IsAccepted self.now }
     {
         self.events.len() as u32
     }
 
-    /// What every chart keeps: partners match, no event precedes itself, all is bounded. It does
-    /// nothing; a caller calls it to rest its own proof on that.
-    pub fn accepted(&self)
+    /// The facts that hold for every chart: partners match, no event precedes itself, all is
+    /// bounded. It does nothing when it runs; a caller that needs these facts calls it.
+    pub fn facts(&self)
         ensures { IsAccepted self.now }
     {
-        // A look at a field makes known what every chart keeps.
+        // A look at a field makes the facts on every chart known.
         let _events = &self.events;
     }
 
@@ -117,7 +117,7 @@ impl Chart {
         ensures number { result ≡ length self.now.messages }
         ensures few { length self.now.messages ≤ MESSAGE_LIMIT }
     {
-        // A look at a field makes known what every chart keeps.
+        // A look at a field makes the facts on every chart known.
         let _events = &self.events;
         self.messages.as_slice().len() as u32
     }
@@ -131,7 +131,7 @@ impl Chart {
         name.as_slice()
     }
 
-    /// How many events stand on lines before line `i`.
+    /// The number of events on lines before line `i`.
     fn line_start(&self, i: u32) -> u32
         ensures { result ≡ line_start self.now.events i }
     {
@@ -144,10 +144,10 @@ impl Chart {
         ensures first { result.0 ≡ line_start self.now.events i }
         ensures past_last { result.1 ≡ line_start self.now.events (i + 1) }
 
-        // The numbers between them are those of the events of the line, and of no other.
+        // The numbers between them are exactly those of the events of the line.
         ensures range { IsLine self.now i result.0 result.1 }
     {
-        // A look at a field makes known what every chart keeps.
+        // A look at a field makes the facts on every chart known.
         let _instances = &self.instances;
         (self.line_start(i), self.line_start(i + 1))
     }
@@ -231,7 +231,7 @@ impl Chart {
         self.kind(e).is_local()
     }
 
-    /// Whether the instance of event `e` decides when it comes: it is an output or a local event.
+    /// Whether the instance of event `e` controls when it comes: it is an output or a local event.
     /// An input waits for its message. It takes no memory.
     pub fn is_controlled(&self, e: Event) -> bool
         requires { e < length self.now.events }
@@ -290,8 +290,8 @@ impl Chart {
         Some(label.as_slice())
     }
 
-    /// The event at the other end of the message of event `e`; of a local event itself. It takes no
-    /// memory.
+    /// The event at the other end of the message of event `e`, or `e` itself for a local event. It
+    /// takes no memory.
     pub fn other_end(&self, e: Event) -> Event
         requires { e < length self.now.events }
         ensures value { result ≡ partner self.now.events e }
@@ -314,8 +314,8 @@ impl Chart {
         first.segment < second.segment
     }
 
-    /// A list of all events, each once, in which whatever precedes an event in the visual order
-    /// stands before it. It takes no memory.
+    /// A list of all events, each once, in which an event that precedes another in the visual order
+    /// comes earlier. It takes no memory.
     pub fn linear_order(&self) -> &[Event]
         ensures { IsLinearOrder self.now.events result.now }
     {
@@ -366,7 +366,7 @@ impl Chart {
         message.name.as_slice()
     }
 
-    /// The message instance name of message `m`, where it has one. It takes no memory.
+    /// The message instance name of message `m`, if it has one. It takes no memory.
     pub fn message_number(&self, m: u32) -> Option<&[u8]>
         requires { m < length self.now.messages }
         ensures { option_copied result ≡ (message_at self.now m).number }

@@ -20,7 +20,7 @@ use msc_lexer::TEXT_LIMIT;
 use msc_parser::{Draft, Label, Name};
 use std::alloc::{AllocError, Global};
 
-/// The place of an end among all events, or their number.
+/// The place of an end among all events, or the number of events.
 fn place<'d>(places: &IndexSet<Mark<'d>>, end: MessageEnd<'d>) -> usize
     ensures place { result ≡ end_place (map mark_view places.now.keys) (end_view end.entry) }
     ensures within { result ≤ length places.now.keys }
@@ -31,7 +31,7 @@ fn place<'d>(places: &IndexSet<Mark<'d>>, end: MessageEnd<'d>) -> usize
 }
 
 /// The event at the other end of the message of event `e`, which has this mark, or the number of
-/// all events where there is none. An action is its own.
+/// all events if there is none. An action is its own other end.
 fn partner<'d>(places: &IndexSet<Mark<'d>>, e: u32, mark: &Mark<'d>) -> u32
     requires { length places.now.keys ≤ TEXT_LIMIT }
     ensures { result ≡ partner_of (map mark_view places.now.keys) e (mark_view mark.entry.now) }
@@ -59,8 +59,8 @@ pub(crate) fn partners<'d>(
     Ok(partners)
 }
 
-/// How many outputs stand before each end of a message, how many actions before each action, and
-/// last how many outputs there are.
+/// The number of outputs before each end of a message, the number of actions before each action,
+/// and last the number of all outputs.
 fn numbers(alloc: Global, marks: &[Mark]) -> Result<Vec<u32>, AllocError>
     requires { length marks.now ≤ EVENT_LIMIT }
     ensures { IfOk result (λ numbers. numbers.items ≡ numbers_of (map mark_view marks.now)) }
@@ -97,14 +97,14 @@ fn kind_of(sends: bool) -> EventKind
     }
 }
 
-/// The output of the message of event `e`, an end of a message, of this partner.
+/// The output of the message of event `e`, an end of a message with this partner.
 fn output_of(sends: bool, e: u32, partner: u32) -> u32
     ensures { result ≡ cond sends e partner }
 {
     if sends { e } else { partner }
 }
 
-/// Event `e` of a chart, which this event of a draft becomes.
+/// Event `e` of a chart, made of this event of a draft.
 fn charted<'d>(
     e: u32,
     event: &DraftEvent<'d>,
@@ -136,7 +136,7 @@ fn charted<'d>(
     }
 }
 
-/// The events of the chart, where no end of a message stands twice.
+/// The events of the chart, if no end of a message occurs twice.
 pub(crate) fn chart_events<'d>(
     alloc: Global,
     events: &[DraftEvent<'d>],
@@ -180,7 +180,7 @@ pub(crate) fn names(alloc: Global, draft: &Draft) -> Result<(Name, Listed<Name>)
     Ok((chart, instances))
 }
 
-/// The message number of an output, which is a name of its own.
+/// The message number of an output, as a name with its own memory.
 pub(crate) fn owned_number(alloc: Global, number: Option<&[u8]>) -> Result<Option<Name>, AllocError>
     ensures { IfOk result (λ r. r ≡ option_copied number.entry) }
 {

@@ -16,14 +16,14 @@ use crate::{ACTION_LIMIT, MESSAGE_LIMIT};
 use indexmap::IndexSet;
 use msc_parser::Decl;
 
-/// Whether the name is that of no instance.
+/// Whether no instance has the name.
 fn is_unknown<'d>(instances: &IndexSet<&'d [u8]>, name: &[u8]) -> bool
     ensures { IsTrue result ↔ IsUnknown (map deref instances.now.keys) name.now }
 {
     !instances.contains(name)
 }
 
-/// Whether it is an end of a message whose address is the name of no instance.
+/// Whether it is an end of a message whose address is no instance's name.
 fn is_away<'d>(instances: &IndexSet<&'d [u8]>, mark: &Mark<'d>) -> bool
     ensures { IsTrue result ↔ OfEnd
         (λ x. IsUnknown (map deref instances.now.keys) (address_of x)) (mark_view mark.now) }
@@ -34,7 +34,7 @@ fn is_away<'d>(instances: &IndexSet<&'d [u8]>, mark: &Mark<'d>) -> bool
     }
 }
 
-/// Whether the event at place `e` is an output, or an input, whose other end is at no place.
+/// Whether the event at place `e` is an output, or an input, without its other end.
 fn is_unmatched(marks: &[Mark], partners: &[u32], e: usize, sends: bool) -> bool
     requires event { e < length marks.now }
     requires partners { partners.now ≡ partners_of (map mark_view marks.now) }
@@ -47,7 +47,7 @@ fn is_unmatched(marks: &[Mark], partners: &[u32], e: usize, sends: bool) -> bool
     }
 }
 
-/// The first header name that is not a section's.
+/// The first header name that is no section's name.
 pub(crate) fn unknown_header<'d>(header: &[Decl], instances: &IndexSet<&'d [u8]>) -> Option<usize>
     ensures { AnswersLeast (HoldsAt
         (IsUnknown (map deref instances.now.keys)) (map (λ d. d.name) header.now)) result }
@@ -60,7 +60,7 @@ pub(crate) fn unknown_header<'d>(header: &[Decl], instances: &IndexSet<&'d [u8]>
     None
 }
 
-/// The first event whose address is not a section's name.
+/// The first event whose address is no section's name.
 pub(crate) fn unknown_address<'d>(
     marks: &[Mark<'d>],
     instances: &IndexSet<&'d [u8]>,
@@ -77,7 +77,7 @@ pub(crate) fn unknown_address<'d>(
     None
 }
 
-/// The first output, or the first input, whose other end is at no place.
+/// The first output, or the first input, without its other end.
 pub(crate) fn unmatched(marks: &[Mark], partners: &[u32], sends: bool) -> Option<usize>
     requires { partners.now ≡ partners_of (map mark_view marks.now) }
     ensures { AnswersLeast (HoldsAt
@@ -92,7 +92,7 @@ pub(crate) fn unmatched(marks: &[Mark], partners: &[u32], sends: bool) -> Option
     None
 }
 
-/// How many are of this kind.
+/// The number of events of this kind.
 fn count(marks: &[Mark], kind: EventKind) -> usize
     ensures { result ≡ count_by (is_of kind) (map mark_view marks.now) }
 {

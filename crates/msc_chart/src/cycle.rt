@@ -1,8 +1,8 @@
 //! The least event that precedes itself in the visual order.
 //!
 //! From each event in turn the search goes down the lines and along the messages. It keeps the
-//! least segment that was reached on each line; `u32::MAX` stands for none. It takes a number of
-//! steps that grows with the square of the number of events.
+//! least segment that was reached on each line; `u32::MAX` means none. The number of its steps
+//! grows with the square of the number of events.
 #![tactic(auto, unfolding(crate::specs::Charts::line, crate::specs::Charts::segment, crate::specs::Charts::partner, crate::specs::Charts::kind))]
 
 ghost use Rattle.std.specs.Prelude.{◌≡◌, ◌<◌, ◌≤◌, ◌↔◌, IsTrue, length, sum, IfOk, MatchOption};
@@ -16,7 +16,7 @@ use crate::EVENT_LIMIT;
 use crate::event::ChartEvent;
 use std::alloc::{AllocError, Global};
 
-/// Whether `s` is an output that is `e` or lies below what is reached on its line.
+/// Whether `s` is an output that is `e` or is below what is reached on its line.
 fn is_passed(events: &[ChartEvent], e: usize, low: &[u32], s: usize) -> bool
     requires event { s < length events.now }
     requires line { (at events.now s).line < length low.now }
@@ -26,8 +26,8 @@ fn is_passed(events: &[ChartEvent], e: usize, low: &[u32], s: usize) -> bool
     event.kind.is_output() && (s == e || low[event.line as usize] < event.segment)
 }
 
-/// Reaches the input of `s`, where `s` is passed, if it lies above what is reached; answers
-/// whether.
+/// Reaches the input of `s`, if `s` is passed and the input is above what is reached. Returns
+/// whether it was.
 fn lower(events: &[ChartEvent], e: usize, low: &mut [u32], s: usize) -> bool
     requires matched { IsMatched events.now }
     requires lines { AreOnLines (length low.old) events.now }
@@ -50,7 +50,7 @@ fn lower(events: &[ChartEvent], e: usize, low: &mut [u32], s: usize) -> bool
     true
 }
 
-/// Does this for each output; answers whether anything new was reached.
+/// Does this for each output. Returns whether anything new was reached.
 fn round(events: &[ChartEvent], e: usize, low: &mut [u32]) -> bool
     requires matched { IsMatched events.now }
     requires lines { AreOnLines (length low.old) events.now }
@@ -86,7 +86,7 @@ fn reach(events: &[ChartEvent], e: usize, low: &mut [u32])
     search(events, e, low);
 }
 
-/// Goes on while something new is reached.
+/// Repeats this while something new is reached.
 fn search(events: &[ChartEvent], e: usize, low: &mut [u32])
     requires matched { IsMatched events.now }
     requires lines { AreOnLines (length low.old) events.now }

@@ -12,7 +12,7 @@ ghost use Rattle.msc_chart.specs.Views.{HasNext};
 use crate::INSTANCE_LIMIT;
 use crate::event::EventKind;
 use msc_lexer::TEXT_LIMIT;
-use msc_parser::{Draft, Item, Section, Signal, Statement, Way};
+use msc_parser::{Direction, Draft, Item, Section, Signal, Statement};
 use std::alloc::{AllocError, Global};
 use std::hash::{Hash, Hasher};
 
@@ -37,7 +37,7 @@ impl<'d> MessageEnd<'d> {
         }
     }
 
-    /// The name that stands as its address.
+    /// The name in its address.
     pub fn address(&self) -> &'d [u8]
         ensures { result.now ≡ address_of (end_view self.entry.now) }
     {
@@ -49,7 +49,7 @@ impl<'d> MessageEnd<'d> {
     }
 }
 
-/// Each name goes to the hasher as a whole; a slice by itself goes there byte by byte.
+/// The hasher gets each name as a whole; of a slice it would get byte by byte.
 impl Hash for MessageEnd<'_> {
     ghost hash_input = { fed_end };
 
@@ -66,7 +66,7 @@ impl Hash for MessageEnd<'_> {
     }
 }
 
-/// What an event of a draft does: it is an end of a message, or an action with its text.
+/// The act of an event of a draft: it is an end of a message, or an action with its text.
 #[derive(Clone, Copy)]
 pub(crate) enum Act<'d> {
     OfMessage(MessageEnd<'d>),
@@ -74,7 +74,7 @@ pub(crate) enum Act<'d> {
 }
 
 impl<'d> Act<'d> {
-    /// The mark of event `e`, which does this.
+    /// The mark of event `e`, which has this act.
     pub fn mark(self, e: u32) -> Mark<'d>
         ensures { result ≡ mark_at e self.entry }
     {
@@ -93,7 +93,8 @@ pub(crate) struct DraftEvent<'d> {
     pub act: Act<'d>,
 }
 
-/// The text of an action. The number of its event tells an action apart, so the text is not hashed.
+/// The text of an action. Actions are distinguished by the numbers of their events, so the text is
+/// not hashed.
 #[derive(Clone, Copy, PartialEq, Eq)]
 pub(crate) struct ActionText<'d> {
     pub bytes: &'d [u8],
@@ -107,8 +108,8 @@ impl Hash for ActionText<'_> {
     fn hash<H: Hasher>(&self, _state: &mut H) {}
 }
 
-/// What tells the events of a draft apart: an end of a message does by itself, an action by the
-/// number of its event. So no two actions are equal.
+/// The key of an event of a draft: an end of a message by itself, an action with the number of its
+/// event. So no two actions are equal.
 #[derive(Clone, Copy, PartialEq, Eq, Hash)]
 pub(crate) enum Mark<'d> {
     OfMessage(MessageEnd<'d>),
@@ -139,15 +140,15 @@ fn end_of<'d>(own: &'d [u8], signal: &'d Signal) -> MessageEnd<'d>
         Some(number) => Some(number.as_slice()),
         None => None,
     };
-    match signal.way {
-        Way::Output => MessageEnd {
+    match signal.direction {
+        Direction::Output => MessageEnd {
             sends: true,
             sender: own,
             receiver: address,
             name,
             number,
         },
-        Way::Input => MessageEnd {
+        Direction::Input => MessageEnd {
             sends: false,
             sender: address,
             receiver: own,
@@ -157,7 +158,7 @@ fn end_of<'d>(own: &'d [u8], signal: &'d Signal) -> MessageEnd<'d>
     }
 }
 
-/// What a statement of the instance `own` does.
+/// The act of a statement of the instance `own`.
 fn act_of<'d>(own: &'d [u8], statement: &'d Statement) -> Act<'d>
     ensures { act_view result ≡ act_of own.entry.now statement.entry.now }
 {
@@ -167,7 +168,7 @@ fn act_of<'d>(own: &'d [u8], statement: &'d Statement) -> Act<'d>
     }
 }
 
-/// Puts the events of a coregion at the back, all in one segment.
+/// Appends the events of a coregion, all in one segment.
 fn push_coregion<'d>(
     events: &mut Vec<DraftEvent<'d>>,
     line: u32,
@@ -189,7 +190,7 @@ fn push_coregion<'d>(
     Ok(())
 }
 
-/// Puts the events of an item at the back, and answers the next item's segment.
+/// Appends the events of an item, and returns the next item's segment.
 fn push_item<'d>(
     events: &mut Vec<DraftEvent<'d>>,
     line: u32,
@@ -224,7 +225,7 @@ fn push_item<'d>(
     }
 }
 
-/// Puts the events of a section at the back.
+/// Appends the events of a section.
 fn push_section<'d>(
     events: &mut Vec<DraftEvent<'d>>,
     line: u32,
@@ -253,7 +254,7 @@ pub(crate) fn events_of<'d>(
     ensures events { IfOk result (λ events.
         map event_view events.items ≡ events_of draft.entry.now) }
 
-    // No draft has more events than a text has bytes.
+    // A draft has at most as many events as a text has bytes.
     ensures few { IfOk result (λ events. length events.items ≤ TEXT_LIMIT) }
 {
     let mut events = Vec::new(alloc);

@@ -35,7 +35,8 @@ impl EventKind {
         }
     }
 
-    /// Whether its instance decides when it comes: an output or a local event. It takes no memory.
+    /// Whether its instance controls when it comes: it is an output or a local event. It takes no
+    /// memory.
     pub(crate) fn is_controlled(self) -> bool
         ensures { result ≡ controls self }
     {
@@ -46,9 +47,9 @@ impl EventKind {
     }
 }
 
-/// What a chart keeps of one event: its line, its segment on that line, both from 0, its kind, the
-/// event at the other end of its message, and what it is about: that message. A local event is its
-/// own partner, and is about its action.
+/// The data of one event of a chart: its line, its segment on that line, both from 0, its kind, the
+/// event at the other end of its message, and its subject: that message. A local event is its own
+/// partner, and its subject is its action.
 #[derive(Clone, Copy)]
 pub(crate) struct ChartEvent {
     pub line: u32,

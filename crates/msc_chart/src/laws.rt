@@ -1,5 +1,5 @@
-//! Laws of charts, over their definitions alone. The functions have no code: a caller calls one to
-//! rest its own proof on the law.
+//! Laws of charts, over their definitions only. The functions have no code: a caller that needs a
+//! law calls its function.
 
 ghost use Rattle.std.specs.Prelude.{◌≡◌, ◌∷◌, [], map};
 ghost use Rattle.msc_chart.specs.declared.queue.Queues.TheVariants.{Pair, Mailbox, Single};
@@ -11,14 +11,16 @@ ghost use Rattle.msc_chart.specs.Laws.{EndsShareQueues, EventsHaveQueues, Inputs
 ghost use Rattle.msc_chart.specs.Laws.{LinesAreRanges, LinesAreWithin, PairsHaveQueuesOfTheirOwn};
 ghost use Rattle.msc_chart.specs.Laws.{QueueBoundsAreSmall, QueueNumbersAreBounded};
 ghost use Rattle.msc_chart.specs.Laws.{QueuesAreBounded, SegmentsRise};
+ghost use Rattle.msc_chart.specs.Precedence.{AllReadyIsVisual, NoneReadyIsEnforced};
 ghost use Rattle.msc_chart.specs.RoundLaws.{ClosestRacesByTwo, EachEventIsInEachRound};
 ghost use Rattle.msc_chart.specs.RoundLaws.{EachEventIsInOneRound, EventsStayAsTheyAre};
 ghost use Rattle.msc_chart.specs.RoundLaws.{LinesAreDoneRoundByRound, MessagesAreOfOneRound};
 ghost use Rattle.msc_chart.specs.RoundLaws.{NamesStayAsTheyAre, NextOverTwoRounds, NoVisualWayBack};
 ghost use Rattle.msc_chart.specs.RoundLaws.{NoWayBack, OrderOfSomeRounds, OrderWithinARound};
-ghost use Rattle.msc_chart.specs.RoundLaws.{RoundsByTwo, TextsStayAsTheyAre};
+ghost use Rattle.msc_chart.specs.RoundLaws.{ManyRoundsPassAsTwo, RoundsByTwo, TextsStayAsTheyAre};
+ghost use Rattle.msc_chart.specs.RoundLaws.{TwoRoundsPass};
 ghost use Rattle.msc_chart.specs.RoundLaws.{VisualOrderOfSomeRounds, VisualOrderWithinARound};
-ghost use Rattle.msc_chart.specs.Rounds.{twice};
+ghost use Rattle.msc_chart.specs.Rounds.{two_rounds};
 ghost use Rattle.msc_chart.specs.Samples.{AreEnforcedPairs, actions, actions_pairs, below_coregion};
 ghost use Rattle.msc_chart.specs.Samples.{coregion, done, drawn_pairs, empty_coregion, event, go};
 ghost use Rattle.msc_chart.specs.Samples.{queue_numbers, relay, two_mailboxes, two_mailboxes_pairs};
@@ -62,29 +64,35 @@ pub fn inputs_share_lines()
     ensures { InputsShareLines }
 {}
 
-/// A line is a contiguous range of event numbers, along which segments do not fall.
+/// Which order the instances of some lines enforce depends on those that are ready: if none is, it
+/// is the enforced order, and if all are, it is the visual order.
+pub fn orders_depend_on_ready_lines()
+    ensures none { NoneReadyIsEnforced }
+    ensures all { AllReadyIsVisual }
+{}
+
+/// A line is a contiguous range of event numbers, along which segments do not decrease.
 pub fn lines_are_ranges()
     ensures ranges { LinesAreRanges }
     ensures within { LinesAreWithin }
     ensures rise { SegmentsRise }
 {}
 
-/// Of two events of a section the first is drawn before the second exactly where it stands in an
-/// earlier item; a coregion is one item.
+/// The first of two events of a section is drawn before the second if and only if it is in an
+/// earlier item. A coregion is one item.
 pub fn items_are_drawn_in_order()
     ensures order { ItemsAreDrawnInOrder }
     ensures each { EachHasAnEvent }
 {}
 
-/// Each event of several rounds is one event of the chart in one round, and the other way.
+/// Each event of several rounds is one event of the chart in one round, and vice versa.
 pub fn rounds_are_numbered()
     ensures one { EachEventIsInOneRound }
     ensures each { EachEventIsInEachRound }
 {}
 
-/// Lines are done round by round, and in a round each event is what it is in the chart: it is on
-/// its line, of its kind, and its partner is its partner there. The messages of different rounds
-/// are different.
+/// Lines proceed round by round, and in a round each event is as in the chart: it has its line, its
+/// kind, and its partner there. The messages of different rounds are different.
 pub fn lines_are_done_round_by_round()
     ensures drawn { LinesAreDoneRoundByRound }
     ensures events { EventsStayAsTheyAre }
@@ -93,15 +101,15 @@ pub fn lines_are_done_round_by_round()
     ensures names { NamesStayAsTheyAre }
 {}
 
-/// No event of a later round is enforced before one of an earlier, nor stands before it in the
+/// No event of a later round is enforced before one of an earlier round, or precedes it in the
 /// visual order.
 pub fn no_way_back()
     ensures enforced { NoWayBack }
     ensures visual { NoVisualWayBack }
 {}
 
-/// Order within a round is that of the chart alone, and order over some rounds that of as many: the
-/// enforced order, and the visual.
+/// Order within a round is that of the chart itself, and order over several rounds is that of as
+/// many rounds by themselves: the enforced order and the visual order.
 pub fn order_within_a_round()
     ensures within { OrderWithinARound }
     ensures some { OrderOfSomeRounds }
@@ -109,17 +117,20 @@ pub fn order_within_a_round()
     ensures visual_some { VisualOrderOfSomeRounds }
 {}
 
-/// Closest races are within a round, or between a round and the next, and two rounds tell them all:
-/// so several rounds pass, however many, exactly where two do. Between two rounds a closest race is
-/// from the last segment of a line to its first.
+/// Closest races are within a round, or between a round and the next, and two rounds show them all;
+/// so several rounds, however many, pass if and only if two do, and two pass if and only if one
+/// does and no race is between them. Between two rounds a closest race is from the last segment of
+/// a line to its first.
 pub fn rounds_by_two()
     ensures passes { RoundsByTwo }
+    ensures many { ManyRoundsPassAsTwo }
+    ensures two { TwoRoundsPass }
     ensures closest { ClosestRacesByTwo }
     ensures next { NextOverTwoRounds }
 {}
 
-/// What the definitions say of small charts: the drawn order, the segments around an empty
-/// coregion, the actions, the queue numbers, and two enforced orders pair by pair.
+/// The definitions applied to small charts: the drawn order, the segments around an empty coregion,
+/// the actions, the queue numbers, and two enforced orders pair by pair.
 pub fn worked_charts()
     ensures drawn { drawn_pairs (chart_of two_senders) ≡ (1, 2) ∷ [] }
     ensures coregion { drawn_pairs (chart_of coregion) ≡ [] }
@@ -142,20 +153,20 @@ pub fn worked_charts()
     ensures controlled { AreEnforcedPairs (wired Mailbox (chart_of actions)) actions_pairs }
 {}
 
-/// What the definitions say of two rounds of small charts: the events, the texts of the actions, and
+/// The definitions applied to two rounds of small charts: the events, the texts of the actions, and
 /// the drawn order.
 pub fn worked_rounds()
-    ensures events { (twice (chart_of actions)).events
+    ensures events { (two_rounds (chart_of actions)).events
         ≡ event 0 0 Local 0 0 ∷ event 0 1 Output 4 0 ∷ event 0 2 Local 2 1 ∷ event 0 3 Output 6 1
         ∷ event 1 0 Input 1 0 ∷ event 1 1 Local 5 2 ∷ event 1 2 Input 3 1 ∷ event 1 3 Local 7 3
         ∷ [] }
-    ensures texts { (twice (chart_of actions)).actions ≡ go ∷ go ∷ done ∷ done ∷ [] }
-    ensures drawn { drawn_pairs (twice (chart_of coregion))
+    ensures texts { (two_rounds (chart_of actions)).actions ≡ go ∷ go ∷ done ∷ done ∷ [] }
+    ensures drawn { drawn_pairs (two_rounds (chart_of coregion))
         ≡ (0, 1) ∷ (2, 4) ∷ (2, 5) ∷ (3, 4) ∷ (3, 5) ∷ (6, 7) ∷ [] }
 {}
 
-/// The limits of a chart: its instances, messages, actions, and so its events; and those of a chart
-/// of which two rounds are a chart.
+/// The limits of a chart: the numbers of its instances, messages and actions, and so of its events.
+/// Also the limits of a chart whose two rounds are a chart.
 pub fn limits_of_charts()
     ensures instances { INSTANCE_LIMIT ≡ 32 }
     ensures messages { MESSAGE_LIMIT ≡ 1024 }

@@ -1,10 +1,10 @@
 //! A linear order of the events that keeps the visual order.
 //!
-//! The events are put into a list one by one, each as soon as all that comes directly before it
-//! stands there: what is drawn before it and, for an input, its output. Each event that was put is
-//! followed by a look at what it may have opened: the input of its message, and the next segment of
-//! its line. So the sorting takes few steps for each event. Where it gets stuck before all events
-//! are put, some event precedes itself in the visual order.
+//! The events are put into a list one by one, each as soon as the list has all that comes directly
+//! before it: the events drawn before it and, for an input, its output. After each event, the code
+//! looks at the events that it may have opened: the input of its message, and the next segment of
+//! its line. So the sorting takes few steps for each event. If it gets stuck before all events are
+//! put, some event precedes itself in the visual order.
 
 ghost use Rattle.std.specs.Prelude.{◌≡◌, ℕ, ◌+◌, ◌<◌, ◌≤◌, ◌↔◌, IsTrue, false, length, vec_len};
 ghost use Rattle.std.specs.Prelude.{IfOk, OnOk, IfErr};
@@ -19,22 +19,22 @@ use crate::event::{ChartEvent, Event};
 use crate::fault::ChartFault;
 use std::alloc::{AllocError, Global};
 
-/// How far the sorting has come.
+/// The state of the sorting.
 #[derive(Drop)]
 pub(crate) struct Sorting {
-    /// The events that were put, in their order.
+    /// The events that were put into the list, in their order.
     pub order: Vec<Event>,
     /// Whether each event was put.
     pub is_put: Vec<bool>,
-    /// For each line a number below which none of its events is left.
+    /// For each line, a number below which none of its events is left.
     pub first: Vec<u32>,
-    /// For each line the least segment whose events were not yet looked at as a whole.
+    /// For each line, the least segment whose events were not yet visited as a whole.
     pub unopened: Vec<u32>,
-    /// How many events are left.
+    /// The number of events that are left.
     pub left: usize,
 }
 
-/// Whether event `x` is an event of the line that is left.
+/// Whether event `x` is an event of line `i` and is left.
 fn is_left(events: &[ChartEvent], marks: &[bool], i: u32, x: usize) -> bool
     requires marks { length marks.now ≡ length events.now }
     requires event { x < length events.now }
@@ -59,8 +59,8 @@ fn first_left(events: &[ChartEvent], marks: &[bool], i: u32, from: usize) -> usi
     events.len()
 }
 
-/// Whether all that comes directly before `e` was put, where `first` is the first event of its line
-/// that is left.
+/// Whether the list has all that comes directly before `e`, where `first` is the first event of its
+/// line that is left.
 fn is_open(events: &[ChartEvent], marks: &[bool], first: usize, e: usize) -> bool
     requires ready { (lines : ℕ) × AreReady lines events.now }
     requires marks { length marks.now ≡ length events.now }
@@ -99,7 +99,7 @@ fn move_first(events: &[ChartEvent], sorting: &mut Sorting, i: u32) -> usize
     first
 }
 
-/// Puts `e`, which is open, behind the others.
+/// Appends `e`, which is open, to the list.
 fn push(events: &[ChartEvent], sorting: &mut Sorting, e: usize) -> Result<(), AllocError>
     requires sorting { IsSorting events.now sorting.old }
     requires event { e < length events.now }
@@ -108,7 +108,7 @@ fn push(events: &[ChartEvent], sorting: &mut Sorting, e: usize) -> Result<(), Al
     ensures sorting { OnOk result (IsSorting events.now sorting.new) }
     ensures left { OnOk result (sorting.new.left + 1 ≡ sorting.old.left) }
 {
-    // A look at the slice makes known how long it can be.
+    // A look at the slice makes its greatest length known.
     let _events = events;
     sorting.order.push(e as u32)?;
     sorting.is_put[e] = true;
@@ -116,8 +116,8 @@ fn push(events: &[ChartEvent], sorting: &mut Sorting, e: usize) -> Result<(), Al
     Ok(())
 }
 
-/// Puts `e` behind the others, if it is left and all that comes directly before it stands there;
-/// answers whether.
+/// Appends `e` to the list, if it is left and the list has all that comes directly before it.
+/// Returns whether it was appended.
 fn put(events: &[ChartEvent], sorting: &mut Sorting, e: usize) -> Result<bool, AllocError>
     requires sorting { IsSorting events.now sorting.old }
     requires event { e < length events.now }
@@ -139,7 +139,7 @@ fn put(events: &[ChartEvent], sorting: &mut Sorting, e: usize) -> Result<bool, A
     Ok(true)
 }
 
-/// Puts what can be put of the segment that begins at event `from`.
+/// Appends the events of the segment that begins at event `from`, as far as possible.
 fn put_segment(events: &[ChartEvent], sorting: &mut Sorting, from: usize) -> Result<(), AllocError>
     requires sorting { IsSorting events.now sorting.old }
     requires from { from < length events.now }
@@ -156,8 +156,8 @@ fn put_segment(events: &[ChartEvent], sorting: &mut Sorting, from: usize) -> Res
     Ok(())
 }
 
-/// Puts what `e`, which was put, may have opened: the input of its message, and the next segment of
-/// its line, where that was not yet looked at.
+/// Appends the events that `e`, which is in the list, may have opened: the input of its message,
+/// and the next segment of its line, if that was not yet visited.
 fn put_opened(events: &[ChartEvent], sorting: &mut Sorting, e: usize) -> Result<(), AllocError>
     requires sorting { IsSorting events.now sorting.old }
     requires event { e < length events.now }
@@ -174,8 +174,8 @@ fn put_opened(events: &[ChartEvent], sorting: &mut Sorting, e: usize) -> Result<
     put_segment(events, sorting, next)
 }
 
-/// Looks behind each event of the order from this place on, as far as the order grows; answers
-/// where it ends.
+/// Visits the events that may follow each event of the list from this place on, while the list
+/// grows. Returns its length.
 fn follow(events: &[ChartEvent], sorting: &mut Sorting, from: usize) -> Result<usize, AllocError>
     requires sorting { IsSorting events.now sorting.old }
     ensures sorting { OnOk result (IsSorting events.now sorting.new) }
@@ -190,7 +190,7 @@ fn follow(events: &[ChartEvent], sorting: &mut Sorting, from: usize) -> Result<u
     Ok(place)
 }
 
-/// Puts what can be put, once along all events; answers whether anything was.
+/// Appends events as far as possible, once along all events. Returns whether any was appended.
 fn sweep(events: &[ChartEvent], sorting: &mut Sorting) -> Result<bool, AllocError>
     requires sorting { IsSorting events.now sorting.old }
     ensures sorting { OnOk result (IsSorting events.now sorting.new) }
@@ -222,7 +222,7 @@ fn begun(alloc: Global, events: &[ChartEvent], lines: usize) -> Result<Sorting, 
     })
 }
 
-/// The sorting where it is whole or stuck.
+/// The sorting when it is complete or stuck.
 pub(crate) fn whole_sorting(
     alloc: Global,
     events: &[ChartEvent],

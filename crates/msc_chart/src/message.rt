@@ -3,8 +3,8 @@
 use crate::event::Event;
 use msc_parser::Name;
 
-/// What a chart keeps of one message: its name, its message instance name where it has one, and
-/// its output.
+/// The data of one message of a chart: its name, its message instance name if it has one, and its
+/// output.
 #[derive(Drop)]
 pub(crate) struct Message {
     pub name: Name,

@@ -29,7 +29,7 @@ impl Queues {
         }
     }
 
-    /// The architecture that this word stands for, in small letters.
+    /// The architecture with this word, in small letters.
     pub fn of(word: &str) -> Option<Queues>
         ensures { result ≡ queues_of_word word.now }
     {

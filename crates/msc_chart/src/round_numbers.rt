@@ -30,7 +30,7 @@ impl<'a> Model for RoundNumbers<'a> {
 }
 
 impl<'a> RoundNumbers<'a> {
-    /// The events of this chart in two rounds. The only error is want of memory.
+    /// The events of this chart in two rounds. The only error is that memory ran out.
     pub fn of(alloc: Global, chart: &'a Chart) -> Result<RoundNumbers<'a>, AllocError>
         ensures { IfOk result (λ numbers. numbers ≡ chart.now) }
     {
@@ -38,7 +38,7 @@ impl<'a> RoundNumbers<'a> {
         Ok(RoundNumbers { chart, spans })
     }
 
-    /// The same, as the parts of the chart of two rounds are made from it.
+    /// The same with the parts from which the chart of two rounds is made.
     fn rounds(&self) -> Rounds<'_>
         ensures chart { result.chart.now ≡ self.now }
         ensures spans { HasSpans result }

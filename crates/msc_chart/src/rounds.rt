@@ -2,13 +2,13 @@
 //!
 //! Each line has its events twice. Rounds are numbered from 0: event `e` of the chart in round `r`
 //! has the number `2 * first + r * count + (e - first)`, where `first` is the first event of its
-//! line and `count` is how many events that line has.
+//! line and `count` is the number of events of that line.
 
 ghost use Rattle.std.specs.Prelude.{◌≡◌, ◌+◌, ◌*◌, ◌<◌, ◌≤◌, ◌++◌, cond, map, length, IfOk, OnOk};
 ghost use Rattle.msc_chart.specs.Charts.{IsLinearOrder, is_local, message};
 ghost use Rattle.msc_chart.specs.Drawings.{message_at};
 ghost use Rattle.msc_chart.specs.Rounds.{count_below, event_of, message_in, number_of};
-ghost use Rattle.msc_chart.specs.Rounds.{repeated_event, round_of, segments_of, twice};
+ghost use Rattle.msc_chart.specs.Rounds.{repeated_event, round_of, segments_of, two_rounds};
 ghost use Rattle.msc_chart.specs.Spans.{HasSpans, IsSpanOf, spans_of};
 
 use crate::chart::Chart;
@@ -38,14 +38,14 @@ pub(crate) fn spans(alloc: Global, chart: &Chart) -> Result<Vec<Span>, AllocErro
     Ok(spans)
 }
 
-/// The text of an action, once more.
+/// A copy of the text of an action.
 fn copied_label(alloc: Global, label: &[u8]) -> Result<Label, AllocError>
     ensures { IfOk result (λ copy. copy ≡ label.now) }
 {
     Ok(Label::from_vec(label.to_vec(alloc)?))
 }
 
-/// A chart with the spans of its lines. Its events in two rounds are told from these.
+/// A chart with the spans of its lines. Its events in two rounds are computed from these.
 #[derive(Clone, Copy)]
 pub(crate) struct Rounds<'a> {
     pub chart: &'a Chart,
@@ -59,7 +59,7 @@ impl Rounds<'_> {
         requires known { e < length self.now.chart.now.events }
         ensures { IsSpanOf self.now.chart.now.events e result }
     {
-        self.chart.accepted();
+        self.chart.facts();
         self.spans[self.chart.instance_of(e) as usize]
     }
 
@@ -71,7 +71,7 @@ impl Rounds<'_> {
         ensures value { result ≡ number_of 2 self.now.chart.now.events e round }
         ensures within { result < 2 * length self.now.chart.now.events }
     {
-        self.chart.accepted();
+        self.chart.facts();
         let span = self.span(e);
         2 * span.first + (round * (span.past - span.first) + (e - span.first))
     }
@@ -93,25 +93,25 @@ impl Rounds<'_> {
         (span.first + offset % count, offset / count)
     }
 
-    /// How many segments the line of event `e` has.
+    /// The number of segments of the line of event `e`.
     fn segments(&self, e: Event) -> u32
         requires spans { HasSpans self.now }
         requires known { e < length self.now.chart.now.events }
         ensures value { result ≡ segments_of self.now.chart.now.events e }
         ensures few { result ≤ length self.now.chart.now.events }
     {
-        self.chart.accepted();
+        self.chart.facts();
         self.chart.segment(self.span(e).past - 1) + 1
     }
 
-    /// What event `e` is about in this round, where so many local events stand before it.
+    /// The subject of event `e` in this round, if `locals` local events come before it.
     fn subject(&self, e: Event, round: u32, locals: u32) -> u32
         requires known { e < length self.now.chart.now.events }
         requires round { round < 2 }
         ensures { result ≡ cond (is_local self.now.chart.now.events e) locals
             (round * length self.now.chart.now.messages + message self.now.chart.now.events e) }
     {
-        self.chart.accepted();
+        self.chart.facts();
         if self.chart.is_local(e) {
             locals
         } else {
@@ -119,7 +119,7 @@ impl Rounds<'_> {
         }
     }
 
-    /// Event `k` of two rounds, before which so many local events stand.
+    /// Event `k` of two rounds, if `locals` local events come before it.
     fn event(&self, k: Event, locals: u32) -> ChartEvent
         requires spans { HasSpans self.now }
         requires known { k < 2 * length self.now.chart.now.events }
@@ -127,7 +127,7 @@ impl Rounds<'_> {
         ensures { result
             ≡ repeated_event 2 (length self.now.chart.now.messages) self.now.chart.now.events k }
     {
-        self.chart.accepted();
+        self.chart.facts();
         let (e, round) = self.place(k);
         ChartEvent {
             line: self.chart.instance_of(e),
@@ -141,7 +141,7 @@ impl Rounds<'_> {
     /// The events of two rounds.
     pub fn events(&self, alloc: Global) -> Result<Vec<ChartEvent>, AllocError>
         requires spans { HasSpans self.now }
-        ensures { IfOk result (λ events. events.items ≡ (twice self.now.chart.now).events) }
+        ensures { IfOk result (λ events. events.items ≡ (two_rounds self.now.chart.now).events) }
     {
         let mut events = Vec::new(alloc);
         let mut locals = 0;
@@ -163,7 +163,7 @@ impl Rounds<'_> {
         ensures { IfOk result (λ message. message
             ≡ message_in 2 self.now.chart.now.events (message_at self.now.chart.now m) round) }
     {
-        self.chart.accepted();
+        self.chart.facts();
         let output = self.number(self.chart.output_of(m), round);
         let name = Name::from_slice(alloc, self.chart.message_name(m))?;
         let number = owned_number(alloc, self.chart.message_number(m))?;
@@ -174,10 +174,10 @@ impl Rounds<'_> {
         })
     }
 
-    /// The messages of two rounds: those of the first, and then those of the second.
+    /// The messages of two rounds: the messages of the first, and then the messages of the second.
     pub fn messages(&self, alloc: Global) -> Result<Listed<Message>, AllocError>
         requires spans { HasSpans self.now }
-        ensures { IfOk result (λ messages. messages ≡ (twice self.now.chart.now).messages) }
+        ensures { IfOk result (λ messages. messages ≡ (two_rounds self.now.chart.now).messages) }
     {
         let count = self.chart.messages();
         let mut messages = Vec::new(alloc);
@@ -190,7 +190,7 @@ impl Rounds<'_> {
     /// The texts of the actions of two rounds, in the order of the events.
     pub fn actions(&self, alloc: Global) -> Result<Listed<Label>, AllocError>
         requires spans { HasSpans self.now }
-        ensures { IfOk result (λ actions. actions ≡ (twice self.now.chart.now).actions) }
+        ensures { IfOk result (λ actions. actions ≡ (two_rounds self.now.chart.now).actions) }
     {
         let mut actions = Vec::new(alloc);
         for k in 0..2 * self.chart.events() {
@@ -202,7 +202,7 @@ impl Rounds<'_> {
         Ok(Listed::from_vec(actions))
     }
 
-    /// Puts these events, in this round, behind the others.
+    /// Appends these events, in this round, to the others.
     fn push_round(
         &self,
         events: &[Event],
@@ -221,14 +221,14 @@ impl Rounds<'_> {
         Ok(())
     }
 
-    /// A linear order of the events of two rounds: that of the chart in the first round, and then in
-    /// the second.
+    /// A linear order of the events of two rounds: the order of the chart in the first round, and
+    /// then in the second.
     pub fn order(&self, alloc: Global) -> Result<Vec<Event>, AllocError>
         requires spans { HasSpans self.now }
         ensures { IfOk result (λ order.
-            IsLinearOrder (twice self.now.chart.now).events order.items) }
+            IsLinearOrder (two_rounds self.now.chart.now).events order.items) }
     {
-        self.chart.accepted();
+        self.chart.facts();
         let events = self.chart.linear_order();
         let mut order = Vec::new(alloc);
         self.push_round(events, &mut order, 0)?;

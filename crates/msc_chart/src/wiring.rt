@@ -10,7 +10,8 @@ use crate::chart::Chart;
 use crate::event::Event;
 use crate::queue::Queues;
 
-/// The number of the queue of message `m`, from a sender to a receiver, of so many instances.
+/// The number of the queue of message `m`, from a sender to a receiver, of this number of
+/// instances.
 pub(crate) fn queue_number(
     queues: Queues,
     instances: u32,
@@ -38,13 +39,13 @@ pub struct Wiring<'a> {
 }
 
 impl Wiring<'_> {
-    /// The instance that sends the message of event `e`; of a local event its own.
+    /// The instance that sends the message of event `e`, or the instance of a local event.
     pub fn sender(&self, e: Event) -> u32
         requires { e < size self.now }
         ensures value { result ≡ sender_at self.now.chart.now.events e }
         ensures known { result < length self.now.chart.now.instances }
     {
-        self.chart.accepted();
+        self.chart.facts();
         if self.chart.is_output(e) {
             self.chart.instance_of(e)
         } else {
@@ -52,13 +53,13 @@ impl Wiring<'_> {
         }
     }
 
-    /// The instance that takes the message of event `e`; of a local event its own.
+    /// The instance that takes the message of event `e`, or the instance of a local event.
     pub fn receiver(&self, e: Event) -> u32
         requires { e < size self.now }
         ensures value { result ≡ receiver_at self.now.chart.now.events e }
         ensures known { result < length self.now.chart.now.instances }
     {
-        self.chart.accepted();
+        self.chart.facts();
         if !self.chart.is_output(e) {
             self.chart.instance_of(e)
         } else {
@@ -84,7 +85,7 @@ impl Wiring<'_> {
             → queue (wired_by self.now) e < result }
         ensures few { result ≤ INSTANCE_LIMIT * INSTANCE_LIMIT }
     {
-        self.chart.accepted();
+        self.chart.facts();
         let instances = self.chart.instances();
         match self.queues {
             Queues::Pair => instances * instances,

@@ -1,12 +1,13 @@
--- All sequence diagrams of a Markdown text: what was printed of some first ones, and what of the next.
+-- All sequence diagrams of a Markdown text: what was printed of some first ones, and what of the
+-- next.
 use Rattle.std.proofs.Common.{◌≡◌, ◌<◌, ◌≤◌, ◌+◌, ℕ, true, false, List, [], ◌∷◌, ◌++◌, length, drop, get_or, Option, Result, Ok, Err, inl, inr, refl, sym, ap, subst, ◌∙◌}
 use Rattle.std.specs.Io.KnownBytes.{Appends}
 use Rattle.std.proofs.lemmas.List.{append-nil, append_assoc, drop_all, drop_more}
-use Rattle.msc_judge.proofs.KnownBytes.{Appends-append}
+use Rattle.msc_print.proofs.KnownBytes.{Appends-append}
 use Rattle.msc_report.specs.declared.fault.Fault.TheVariants.{Parse, Chart, NotStarted, Memory, Device}
-use Rattle.msc_command.proofs.Answered.{nothing_more}
+use Rattle.msc_print.proofs.PrintLemmas.{Appends-none as nothing_more}
 use Rattle.msc_command.specs.Answering.{AnswersWith, TellsBlock}
-use Rattle.msc_command.specs.Refused.{form_of, is_spent, IsToldIn, TellsIn}
+use Rattle.msc_command.specs.Refused.{format_of, is_spent, IsToldIn, TellsIn}
 use Rattle.msc_command.specs.Scenarios.{RefusesScenarios}
 use Rattle.msc_command.specs.Surveys.{at_block, behind, refused_text, worse, AreLinesIn, BeginsBlock, BeginsOne, BeginsSurvey, PrintsBlock, Surveys, SurveysOne}
 use Rattle.msc_command.specs.declared.ending.Refusal.{Refusal}
@@ -14,35 +15,35 @@ use Rattle.msc_command.specs.declared.ending.Refusal.TheVariants as refusals
 use Rattle.msc_command.specs.declared.ending.Status.{Status}
 use Rattle.msc_command.specs.declared.ending.Status.TheVariants.{Done, Refused}
 use Rattle.msc_command.specs.declared.scenarios.Surveyed.{Surveyed}
-use Rattle.msc_command.specs.declared.tasks.Form.{Form}
-use Rattle.msc_command.specs.declared.tasks.Form.TheVariants as forms
-use Rattle.msc_command.specs.declared.tasks.ScenarioWords.{ScenarioWords}
+use Rattle.msc_command.specs.declared.tasks.Format.{Format}
+use Rattle.msc_command.specs.declared.tasks.Format.TheVariants as formats
+use Rattle.msc_command.specs.declared.tasks.ScenarioArgs.{ScenarioArgs}
 use Rattle.msc_command.specs.declared.tasks.Task.TheVariants as tasks
 
 -- what a form has of a refusal are its lines
-lines_in : {W : Type 0} (contents : W → Option (List ℕ)) (form : Form) (file text : List ℕ) (refusal : Refusal) (old new : W)
-    → TellsIn contents form file text refusal old new
-    → (lines : List ℕ) × AreLinesIn form file text refusal lines × Appends (contents old) (contents new) lines
-lines_in contents forms.Lines file text refusal old new told = told
-lines_in contents forms.Text file text refusal old new same = ([], refl, rw same (nothing_more _))
-lines_in contents forms.Count file text refusal old new same = ([], refl, rw same (nothing_more _))
+lines_in : {W : Type 0} (contents : W → Option (List ℕ)) (format : Format) (file text : List ℕ) (refusal : Refusal) (old new : W)
+    → TellsIn contents format file text refusal old new
+    → (lines : List ℕ) × AreLinesIn format file text refusal lines × Appends (contents old) (contents new) lines
+lines_in contents formats.Lines file text refusal old new told = told
+lines_in contents formats.Text file text refusal old new same = ([], refl, rw same (nothing_more _))
+lines_in contents formats.Count file text refusal old new same = ([], refl, rw same (nothing_more _))
 
-module _ {W : Type 0} (contents : W → Option (List ℕ)) (x : ScenarioWords) (file text : List ℕ) where
+module _ {W : Type 0} (contents : W → Option (List ℕ)) (x : ScenarioArgs) (file text : List ℕ) where
   module _ (n : ℕ) where
     -- the text of a diagram that is refused went out, and its lines, or why not
-    pub told_block : (refusal : Refusal) (form : Form) → form ≡ form_of (tasks.Scenarios x) → (result : Result (Unit {0}) Refusal) (old mid new : W)
+    pub told_block : (refusal : Refusal) (format : Format) → format ≡ format_of (tasks.Scenarios x) → (result : Result (Unit {0}) Refusal) (old mid new : W)
         → Appends (contents old) (contents mid) (refused_text x file n)
-        → IsToldIn contents form file text refusal result mid new
+        → IsToldIn contents format file text refusal result mid new
         → TellsBlock contents x file text n refusal result old new
-    told_block refusal form is (Ok u) old mid new wrote told =
-        let lines = lines_in contents form file text refusal mid new told in (
+    told_block refusal format is (Ok u) old mid new wrote told =
+        let lines = lines_in contents format file text refusal mid new told in (
           lines.0,
-          subst (λ (f : Form). AreLinesIn f file text refusal lines.0) is lines.1,
+          subst (λ (f : Format). AreLinesIn f file text refusal lines.0) is lines.1,
           Appends-append (contents old) (contents mid) (contents new) (refused_text x file n) lines.0 wrote lines.2,
         )
-    told_block refusal form is (Err other) old mid new wrote (inl (memory, same)) =
+    told_block refusal format is (Err other) old mid new wrote (inl (memory, same)) =
         inl (memory, inr (rw same wrote))
-    told_block refusal form is (Err other) old mid new wrote (inr device) = inr device
+    told_block refusal format is (Err other) old mid new wrote (inr device) = inr device
 
     -- where nothing is refused, a diagram is left as that
     pub spent_block : (r : Refusal) (old new : W) → is_spent r ≡ true
@@ -103,20 +104,20 @@ module _ {W : Type 0} (contents : W → Option (List ℕ)) (x : ScenarioWords) (
 
   module _ (ns : List ℕ) where
     -- what is printed of the diagrams of these numbers follows what was printed
-    abbrev pub Follows : ScenarioWords → Status → List ℕ → List ℕ → Type 0
+    abbrev pub Follows : ScenarioArgs → Status → List ℕ → List ℕ → Type 0
     Follows now worst rest done =
         ((status : Status) (more : List ℕ) → Surveys now file text rest worst status more → Surveys x file text ns Done status (done ++ more))
         × ((more : List ℕ) → BeginsSurvey now file text rest more → BeginsSurvey x file text ns (done ++ more))
 
     -- that went behind the known bytes of a writer
-    abbrev pub SoFar : ScenarioWords → Status → List ℕ → W → W → Type 0
+    abbrev pub SoFar : ScenarioArgs → Status → List ℕ → W → W → Type 0
     SoFar now worst rest old new = (done : List ℕ) × Follows now worst rest done × Appends (contents old) (contents new) done
 
     -- nothing was printed yet
     pub none_so_far : (old : W) → SoFar x Done ns old old
     none_so_far old = ([], ((λ status more says. says), (λ more begins. begins)), nothing_more _)
 
-    module _ (now : ScenarioWords) (worst : Status) (n : ℕ) (rest : List ℕ) where
+    module _ (now : ScenarioArgs) (worst : Status) (n : ℕ) (rest : List ℕ) where
       -- what is printed of one and of those behind it is printed of all of them
       one_more : (one : Surveyed) (first : List ℕ) → SurveysOne now file text n one first → (status : Status) (more : List ℕ)
           → Surveys (behind now one.listed) file text rest (worse worst one.status) status more
@@ -182,12 +183,12 @@ module _ {W : Type 0} (contents : W → Option (List ℕ)) (x : ScenarioWords) (
       failed_so_far (refusals.Rounds f) old mid new so does = absurd does.0
       failed_so_far (refusals.Import e) old mid new so does = absurd does.0
 
-    ended : (now : ScenarioWords) (worst : Status) → Surveys now file text [] worst worst []
+    ended : (now : ScenarioArgs) (worst : Status) → Surveys now file text [] worst worst []
     unfolding Surveys
     ended now worst = (refl, refl)
 
     -- all were printed
-    pub all_so_far : (now : ScenarioWords) (worst : Status) (old new : W) → SoFar now worst [] old new
+    pub all_so_far : (now : ScenarioArgs) (worst : Status) (old new : W) → SoFar now worst [] old new
         → AnswersWith contents (Surveys x file text ns Done) (BeginsSurvey x file text ns) (λ r. ⊥) (Ok worst) old new
     all_so_far now worst old new (done, follows, wrote) = (
       done ++ [],
@@ -196,7 +197,7 @@ module _ {W : Type 0} (contents : W → Option (List ℕ)) (x : ScenarioWords) (
     )
 
     -- at a place of the numbers, and behind the last
-    module _ (now : ScenarioWords) (worst : Status) (i : ℕ) (old : W) where
+    module _ (now : ScenarioArgs) (worst : Status) (i : ℕ) (old : W) where
       pub at_place : (e : ℕ) → i < length ns → (mid : W) → SoFar now worst (drop i ns) old mid → SoFar now worst (get_or ns i e ∷ drop (i + 1) ns) old mid
       at_place e inside mid so = subst (λ (rest : List ℕ). SoFar now worst rest old mid) (drop_more ns i e inside) so
 

@@ -1,17 +1,18 @@
 -- What was answered of a chart is answered of its text, and a flush keeps it.
 use Rattle.std.proofs.lemmas.Bool.{false≢true}
 use Rattle.std.proofs.Common.{◌≡◌, ◌≢◌, ◌<◌, ℕ, Bool, true, false, List, [], is_some, length, Bor, Option, Some, None, option_map, Result, Ok, Err, inl, inr, refl, sym, subst, ◌∙◌}
-use Rattle.std.proofs.lemmas.List.{append-nil}
 use Rattle.std.specs.Io.KnownBytes.{Appends, Keeps}
 use Rattle.msc_chart.specs.declared.queue.Queues.{Queues}
-use Rattle.msc_chart.specs.declared.fault.TwiceFault.{TwiceFault}
-use Rattle.msc_chart.specs.declared.fault.TwiceFault.TheVariants as twice
+use Rattle.msc_chart.specs.declared.fault.UnrollFault.{UnrollFault}
+use Rattle.msc_chart.specs.declared.fault.UnrollFault.TheVariants as two_rounds
 use Rattle.msc_chart.specs.Drawings.{Drawing}
 use Rattle.msc_ending.specs.declared.fault.RunFault.{RunFault}
 use Rattle.msc_ending.specs.declared.fault.RunFault.TheVariants as runs
-use Rattle.msc_judge.specs.Pages as pages
-use Rattle.msc_judge.specs.declared.page.WriteFault.{WriteFault}
-use Rattle.msc_judge.specs.declared.page.WriteFault.TheVariants as writing
+use Rattle.msc_judge.specs.declared.options.CheckOptions.{CheckOptions}
+use Rattle.msc_print.specs.Pages as pages
+use Rattle.msc_print.specs.Pages.{Tells}
+use Rattle.msc_print.specs.declared.page.WriteFault.{WriteFault}
+use Rattle.msc_print.specs.declared.page.WriteFault.TheVariants as writing
 use Rattle.msc_mark.specs.declared.fault.MarkFault.{MarkFault}
 use Rattle.msc_mark.specs.declared.fault.MarkFault.TheVariants as marking
 use Rattle.msc_mark.specs.declared.mark.Mark.{Mark}
@@ -25,14 +26,15 @@ use Rattle.msc_source.specs.declared.fault.SourceFault.{SourceFault}
 use Rattle.msc_source.specs.declared.fault.SourceFault.TheVariants as sources
 use Rattle.msc_source.specs.declared.language.Language.{Language}
 use Rattle.msc_source.specs.declared.language.Language.TheVariants.{MscPr}
-use Rattle.msc_text.specs.Judging.{AreTwoRounds, JudgesChart}
-use Rattle.msc_text.specs.declared.judging.Format.{Format}
+use Rattle.msc_reason.specs.declared.kinds.KindSet.{KindSet}
+use Rattle.msc_text.specs.Judging.{AreItsRounds, JudgesChart, Passes}
+use Rattle.msc_text.specs.declared.judging.ChartFormat.{ChartFormat}
 use Rattle.msc_command.specs.declared.ending.Refusal.{Refusal}
 use Rattle.msc_command.specs.declared.ending.Refusal.TheVariants as refusals
 use Rattle.msc_command.specs.declared.ending.Status.{Status}
-use Rattle.msc_command.specs.declared.tasks.Ask.{Ask}
-use Rattle.msc_command.specs.declared.tasks.Ask.TheVariants as asks
-use Rattle.msc_command.specs.declared.tasks.Checking.{Checking}
+use Rattle.msc_command.specs.declared.tasks.ChartCommand.{ChartCommand}
+use Rattle.msc_command.specs.declared.tasks.ChartCommand.TheVariants as chart_commands
+use Rattle.msc_command.specs.declared.tasks.CheckArgs.{CheckArgs}
 use Rattle.msc_command.specs.declared.tasks.Task.{Task}
 use Rattle.msc_command.specs.declared.tasks.Task.TheVariants as tasks
 use Rattle.msc_command.specs.Answering.{Answers, AnswersOf, AnswersWith, Delivers, Does, EndsAs, IsPut, Performs, Prints, PrintsOf, Refuses, RefusesOf, TellsQuietly}
@@ -41,17 +43,13 @@ use Rattle.msc_command.specs.Formats.{IsFormat}
 use Rattle.msc_command.specs.Marked.{AreMarked, ReadsMarks}
 use Rattle.msc_command.specs.Readied.{names_of, AreReady}
 use Rattle.msc_command.specs.Rounds.{AreRounds, GivesRounds, HasRoom}
-use Rattle.msc_command.specs.declared.tasks.Quieting.{Quieting}
+use Rattle.msc_command.specs.declared.tasks.QuietArgs.{QuietArgs}
 use Rattle.msc_command.specs.Sited.{IsStyle}
-use Rattle.msc_command.specs.declared.tasks.Readying.{Readying}
+use Rattle.msc_command.specs.declared.tasks.ReadyArgs.{ReadyArgs}
 use Rattle.msc_report.specs.declared.style.Style.{Style}
 use Rattle.msc_text.specs.Readying.{PrintsReady}
-use Rattle.msc_command.specs.Refused.{form_of, is_spent, TellsIn, TellsThat, TellsUnread}
-
--- nothing more stands behind known bytes
-pub nothing_more : (now : Option (List ℕ)) → Appends now now []
-nothing_more None = tt
-nothing_more (Some xs) = sym (append-nil xs)
+use Rattle.msc_command.specs.Refused.{format_of, is_spent, TellsIn, TellsThat, TellsUnread}
+use Rattle.msc_print.proofs.PrintLemmas.{Appends-none as nothing_more}
 
 -- bytes that are kept were written
 pub kept : (before mid after : Option (List ℕ)) (bytes : List ℕ) → Appends before mid bytes → Keeps mid after → Appends before after bytes
@@ -61,31 +59,47 @@ kept (Some xs) (Some ys) None bytes wrote keeps = absurd keeps
 kept (Some xs) (Some ys) (Some zs) bytes wrote keeps = keeps ∙ wrote
 
 -- how marks that can't be read end what is told by the status alone
-pub quietly_marked : (x : Quieting) (s : SourceText) (f : MarkFault) → ReadsMarks x.accept s.text (Err f) → TellsQuietly x s (Err (of_marks f))
+pub quietly_marked : (x : QuietArgs) (s : SourceText) (f : MarkFault) → ReadsMarks x.accept s.text (Err f) → TellsQuietly x s (Err (of_marks f))
 quietly_marked x s (marking.Part at) faulty = faulty
 quietly_marked x s (marking.Reason at) faulty = faulty
 quietly_marked x s marking.Memory said = tt
 
 -- and how rounds that are no chart do
-pub quietly_long : (x : Quieting) (s : SourceText) (f : TwiceFault) → GivesRounds x.again s.chart (Err f) → TellsQuietly x s (Err (of_rounds f))
-quietly_long x s twice.TooManyMessages long = long
-quietly_long x s twice.TooManyActions long = long
-quietly_long x s twice.Memory said = tt
+pub quietly_long : (x : QuietArgs) (s : SourceText) (f : UnrollFault) → GivesRounds x.again s.chart (Err f) → TellsQuietly x s (Err (of_rounds f))
+quietly_long x s two_rounds.TooManyMessages long = long
+quietly_long x s two_rounds.TooManyActions long = long
+quietly_long x s two_rounds.Memory said = tt
 
 -- whether rounds are given is whether they are asked for
-pub rounds_given : (again : Bool) (d : Drawing) (two : Option (Bor Drawing)) → AreRounds again d (option_map (λ t. t.now) two) → is_some two ≡ again
+pub rounds_given : (again : Bool) (d : Drawing) (rounds : Option (Bor Drawing)) → AreRounds again d (option_map (λ u. u.now) rounds) → is_some rounds ≡ again
 rounds_given again d None same = sym same
 rounds_given again d (Some t) (same, is, short) = sym same
 
 -- and they are those of the chart
-pub rounds_are : (again : Bool) (d : Drawing) (two : Option (Bor Drawing)) → AreRounds again d (option_map (λ t. t.now) two) → AreTwoRounds d two
+pub rounds_are : (again : Bool) (d : Drawing) (rounds : Option (Bor Drawing)) → AreRounds again d (option_map (λ u. u.now) rounds) → AreItsRounds d rounds
 rounds_are again d None same = tt
 rounds_are again d (Some t) (same, is, short) = is
 
 -- and the chart is short enough for them
-pub has_room : (again : Bool) (d : Drawing) (two : Option (Bor Drawing)) → AreRounds again d (option_map (λ t. t.now) two) → HasRoom again d
+pub has_room : (again : Bool) (d : Drawing) (rounds : Option (Bor Drawing)) → AreRounds again d (option_map (λ u. u.now) rounds) → HasRoom again d
 has_room again d None same = λ asked. absurd (false≢true (sym same ∙ asked))
 has_room again d (Some t) (same, is, short) = λ asked. short
+
+-- what is printed of one input is printed of another with the same parts
+pub judged_alike : {W : Type 0} (contents : W → Option (List ℕ)) (q : CheckOptions) (f : ChartFormat) (r : Result Bool WriteFault) (old new : W)
+    (chart chart' : Bor Drawing) (queues queues' : Queues) (marks marks' : Option (Bor (List Mark))) (rounds rounds' : Option (Bor Drawing))
+    → chart ≡ chart' → queues ≡ queues' → marks ≡ marks' → rounds ≡ rounds'
+    → Tells contents (JudgesChart chart.now queues q (option_map (λ m. m.now) marks) (is_some rounds) f) r old new
+    → Tells contents (JudgesChart chart'.now queues' q (option_map (λ m. m.now) marks') (is_some rounds') f) r old new
+judged_alike contents q f r old new chart chart' queues queues' marks marks' rounds rounds' a b c d h = rw (a, b, c, d) at h
+
+-- and whether it passes is whether the other does
+pub passes_alike : (allowed : KindSet) (passed : Bool)
+    (chart chart' : Bor Drawing) (queues queues' : Queues) (marks marks' : Option (Bor (List Mark))) (rounds rounds' : Option (Bor Drawing))
+    → chart ≡ chart' → queues ≡ queues' → marks ≡ marks' → rounds ≡ rounds'
+    → Passes chart.now queues allowed (option_map (λ m. m.now) marks) (is_some rounds) passed
+    → Passes chart'.now queues' allowed (option_map (λ m. m.now) marks') (is_some rounds') passed
+passes_alike allowed passed chart chart' queues queues' marks marks' rounds rounds' a b c d h = rw (a, b, c, d) at h
 
 module _ {W : Type 0} (contents : W → Option (List ℕ)) where
   -- what one thing was refused with another was, where what begins the one begins the other
@@ -106,8 +120,8 @@ module _ {W : Type 0} (contents : W → Option (List ℕ)) where
   refused_so prints so begins begun refuses not_so starts wrong (refusals.Rounds f) old new (fails, same) = (wrong _ fails, same)
   refused_so prints so begins begun refuses not_so starts wrong (refusals.Import e) old new (fails, same) = (wrong _ fails, same)
 
-  -- what was answered of one thing was answered of another, where what is right of it is right there, and what
-  -- begins it begins that
+  -- what was answered of one thing was answered of another, where what is right of it is right
+  -- there, and what begins it begins that
   pub answers_with_so : {A : Type 0} (prints so : A → List ℕ → Type 0) (begins begun : List ℕ → Type 0) (refuses not_so : Refusal → Type 0)
       → ((a : A) (printed : List ℕ) → prints a printed → so a printed)
       → ((printed : List ℕ) → begins printed → begun printed) → ((r : Refusal) → refuses r → not_so r)
@@ -126,81 +140,81 @@ module _ {W : Type 0} (contents : W → Option (List ℕ)) where
       answers_with_so prints so _ _ refuses not_so right (λ printed begun. (begun.0, right begun.0 printed begun.1)) wrong answer old new said
 
   -- what is right to print was put
-  pub put_so : (prints : Status → List ℕ → Type 0) (refuses : Refusal → Type 0) (bytes : List ℕ) (status : Status) → prints status bytes
+  pub print_so : (prints : Status → List ℕ → Type 0) (refuses : Refusal → Type 0) (bytes : List ℕ) (status : Status) → prints status bytes
       → (answer : Result Status Refusal) (old new : W) → IsPut contents bytes status answer old new → Answers contents prints refuses answer old new
-  put_so prints refuses bytes status says (Ok s) old new (same, wrote) = (bytes, subst (λ (s : Status). prints s bytes) (sym same) says, wrote)
-  put_so prints refuses bytes status says (Err r) old new is = rw is tt
+  print_so prints refuses bytes status says (Ok s) old new (same, wrote) = (bytes, subst (λ (s : Status). prints s bytes) (sym same) says, wrote)
+  print_so prints refuses bytes status says (Err r) old new is = rw is tt
 
-  module _ (c : Checking) (file : List ℕ) (format : Format) (s : SourceText) (its : IsFormat c file s.text format)
+  module _ (c : CheckArgs) (file : List ℕ) (chart_format : ChartFormat) (s : SourceText) (its : IsFormat c file s.text chart_format)
       (marks : Option (List Mark)) (are : AreMarked c.accept s.text marks) (room : HasRoom c.again s.chart) where
     -- what is judged of a chart, with rounds of it where they are asked for
-    judges : (again : Bool) → again ≡ c.again → (passed : Bool) (printed : List ℕ) → JudgesChart s.chart c.queues c.question marks again format passed printed
-        → PrintsOf (asks.Check c) file s (ended_by passed) printed
+    judges : (again : Bool) → again ≡ c.again → (passed : Bool) (printed : List ℕ) → JudgesChart s.chart c.queues c.options marks again chart_format passed printed
+        → PrintsOf (chart_commands.Check c) file s (ended_by passed) printed
     judges again asked passed printed says =
-        (format, its, marks, are, room, passed, refl, subst (λ (a : Bool). JudgesChart s.chart c.queues c.question marks a format passed printed) asked says)
+        (chart_format, its, marks, are, room, passed, refl, subst (λ (a : Bool). JudgesChart s.chart c.queues c.options marks a chart_format passed printed) asked says)
 
     -- where it was told it was answered
     pub judged : (again : Bool) → again ≡ c.again → (passed : Bool) (old new : W)
-        → pages.Tells contents (JudgesChart s.chart c.queues c.question marks again format) (Ok passed) old new
-        → AnswersOf contents (asks.Check c) file s (Ok (ended_by passed)) old new
+        → pages.Tells contents (JudgesChart s.chart c.queues c.options marks again chart_format) (Ok passed) old new
+        → AnswersOf contents (chart_commands.Check c) file s (Ok (ended_by passed)) old new
     judged again asked passed old new (printed, says, wrote) = (printed, judges again asked passed printed says, wrote)
 
     -- and so it was where it was not written to its end
     pub not_judged : (again : Bool) → again ≡ c.again → (f : WriteFault) (old new : W)
-        → pages.Tells contents (JudgesChart s.chart c.queues c.question marks again format) (Err f) old new
-        → AnswersOf contents (asks.Check c) file s (Err (refusals.Fault (of_writing f))) old new
+        → pages.Tells contents (JudgesChart s.chart c.queues c.options marks again chart_format) (Err f) old new
+        → AnswersOf contents (chart_commands.Check c) file s (Err (refusals.Fault (of_writing f))) old new
     not_judged again asked writing.Memory old new (inl same) = inl same
     not_judged again asked writing.Memory old new (inr (passed, printed, says, begun)) =
         inr (printed, (ended_by passed, judges again asked passed printed says), begun)
     not_judged again asked writing.Device old new said = tt
 
-  module _ (x : Readying) (file : List ℕ) (s : SourceText) (only : Option (List Bool)) (are : AreReady s.chart (names_of x) only)
-      (style : Style) (its : IsStyle x.look file s.text style) (room : HasRoom x.again s.chart) where
+  module _ (x : ReadyArgs) (file : List ℕ) (s : SourceText) (only : Option (List Bool)) (are : AreReady s.chart (names_of x) only)
+      (style : Style) (its : IsStyle x.event_style file s.text style) (room : HasRoom x.again s.chart) where
     -- what is told of ready instances, with rounds of the chart where they are asked for
     readies : (again : Bool) → again ≡ x.again → (passed : Bool) (printed : List ℕ) → PrintsReady s.chart x.queues only again x.show style passed printed
-        → PrintsOf (asks.Ready x) file s (ended_by passed) printed
+        → PrintsOf (chart_commands.Ready x) file s (ended_by passed) printed
     readies again asked passed printed says =
         (only, are, style, its, room, passed, refl, subst (λ (a : Bool). PrintsReady s.chart x.queues only a x.show style passed printed) asked says)
 
     -- where it was told it was answered
     pub readied : (again : Bool) → again ≡ x.again → (passed : Bool) (old new : W)
         → pages.Tells contents (PrintsReady s.chart x.queues only again x.show style) (Ok passed) old new
-        → AnswersOf contents (asks.Ready x) file s (Ok (ended_by passed)) old new
+        → AnswersOf contents (chart_commands.Ready x) file s (Ok (ended_by passed)) old new
     readied again asked passed old new (printed, says, wrote) = (printed, readies again asked passed printed says, wrote)
 
     -- and so it was where it was not written to its end
     pub not_readied : (again : Bool) → again ≡ x.again → (f : WriteFault) (old new : W)
         → pages.Tells contents (PrintsReady s.chart x.queues only again x.show style) (Err f) old new
-        → AnswersOf contents (asks.Ready x) file s (Err (refusals.Fault (of_writing f))) old new
+        → AnswersOf contents (chart_commands.Ready x) file s (Err (refusals.Fault (of_writing f))) old new
     not_readied again asked writing.Memory old new (inl same) = inl same
     not_readied again asked writing.Memory old new (inr (passed, printed, says, begun)) =
         inr (printed, (ended_by passed, readies again asked passed printed says), begun)
     not_readied again asked writing.Device old new said = tt
 
   -- marks that can't be read are answered so
-  pub not_marked : (c : Checking) (file : List ℕ) (s : SourceText) (f : MarkFault) (now : W) → ReadsMarks c.accept s.text (Err f)
-      → AnswersOf contents (asks.Check c) file s (Err (of_marks f)) now now
+  pub not_marked : (c : CheckArgs) (file : List ℕ) (s : SourceText) (f : MarkFault) (now : W) → ReadsMarks c.accept s.text (Err f)
+      → AnswersOf contents (chart_commands.Check c) file s (Err (of_marks f)) now now
   not_marked c file s (marking.Part at) now faulty = (faulty, refl)
   not_marked c file s (marking.Reason at) now faulty = (faulty, refl)
   not_marked c file s marking.Memory now said = inl refl
 
   -- so are rounds that are no chart, of races
-  pub too_long : (c : Checking) (file : List ℕ) (s : SourceText) (f : TwiceFault) (now : W) → GivesRounds c.again s.chart (Err f)
-      → AnswersOf contents (asks.Check c) file s (Err (of_rounds f)) now now
-  too_long c file s twice.TooManyMessages now long = (long, refl)
-  too_long c file s twice.TooManyActions now long = (long, refl)
-  too_long c file s twice.Memory now said = inl refl
+  pub too_long : (c : CheckArgs) (file : List ℕ) (s : SourceText) (f : UnrollFault) (now : W) → GivesRounds c.again s.chart (Err f)
+      → AnswersOf contents (chart_commands.Check c) file s (Err (of_rounds f)) now now
+  too_long c file s two_rounds.TooManyMessages now long = (long, refl)
+  too_long c file s two_rounds.TooManyActions now long = (long, refl)
+  too_long c file s two_rounds.Memory now said = inl refl
 
   -- and of ready instances
-  pub too_long_ready : (x : Readying) (file : List ℕ) (s : SourceText) (f : TwiceFault) (now : W) → GivesRounds x.again s.chart (Err f)
-      → AnswersOf contents (asks.Ready x) file s (Err (of_rounds f)) now now
-  too_long_ready x file s twice.TooManyMessages now long = (long, refl)
-  too_long_ready x file s twice.TooManyActions now long = (long, refl)
-  too_long_ready x file s twice.Memory now said = inl refl
+  pub too_long_ready : (x : ReadyArgs) (file : List ℕ) (s : SourceText) (f : UnrollFault) (now : W) → GivesRounds x.again s.chart (Err f)
+      → AnswersOf contents (chart_commands.Ready x) file s (Err (of_rounds f)) now now
+  too_long_ready x file s two_rounds.TooManyMessages now long = (long, refl)
+  too_long_ready x file s two_rounds.TooManyActions now long = (long, refl)
+  too_long_ready x file s two_rounds.Memory now said = inl refl
 
   -- and so is what is told by the status alone
-  pub told_quietly : (x : Quieting) (file : List ℕ) (s : SourceText) (answer : Result Status Refusal) (now : W)
-      → TellsQuietly x s answer → AnswersOf contents (asks.Quiet x) file s answer now now
+  pub told_quietly : (x : QuietArgs) (file : List ℕ) (s : SourceText) (answer : Result Status Refusal) (now : W)
+      → TellsQuietly x s answer → AnswersOf contents (chart_commands.Quiet x) file s answer now now
   told_quietly x file s (Ok status) now says = ([], says, nothing_more _)
   told_quietly x file s (Err (refusals.Fault (Parse f))) now says = absurd says
   told_quietly x file s (Err (refusals.Fault (Chart f))) now says = absurd says
@@ -216,7 +230,7 @@ module _ {W : Type 0} (contents : W → Option (List ℕ)) where
   -- a chart that was not run is answered so
   pub not_run : (queues : Queues) (patience : ℕ) (file : List ℕ) (s : SourceText) (f : RunFault) (now : W)
       → ((i : ℕ) → f ≡ runs.NotStarted i → i < length s.chart.instances)
-      → AnswersOf contents (asks.Run queues patience) file s (Err (refusals.Fault (of_run f))) now now
+      → AnswersOf contents (chart_commands.Run queues patience) file s (Err (refusals.Fault (of_run f))) now now
   not_run queues patience file s (runs.NotStarted i) now known = (known i refl, refl)
   not_run queues patience file s runs.Memory now known = inl refl
 
@@ -229,7 +243,7 @@ module _ {W : Type 0} (contents : W → Option (List ℕ)) where
     no_draft sources.Memory now said = inl refl
 
     -- and one without a chart
-    pub no_chart : (ask : Ask) (f : SourceFault) (now : W) → reading.Refuses MscPr text f
+    pub no_chart : (ask : ChartCommand) (f : SourceFault) (now : W) → reading.Refuses MscPr text f
         → Does contents (tasks.Chart ask) file text (Err (refusals.Fault (of_source f))) now now
     no_chart ask (sources.Parse f) now has = (has, refl)
     no_chart ask (sources.Chart f) now has = (has, refl)
@@ -242,7 +256,7 @@ module _ {W : Type 0} (contents : W → Option (List ℕ)) where
     not_written writing.Device old new same = tt
 
     -- what is refused of a chart is refused of its text
-    refuses_so : (d : Drawing) → IsChartOf text d → (ask : Ask) (r : Refusal) → RefusesOf ask (source_text MscPr text d) r → Refuses (tasks.Chart ask) text r
+    refuses_so : (d : Drawing) → IsChartOf text d → (ask : ChartCommand) (r : Refusal) → RefusesOf ask (source_text MscPr text d) r → Refuses (tasks.Chart ask) text r
     refuses_so d of_text ask (refusals.Fault (Parse f)) fails = absurd fails
     refuses_so d of_text ask (refusals.Fault (Chart f)) fails = absurd fails
     refuses_so d of_text ask (refusals.Fault (NotStarted i)) fails = (d, of_text, fails)
@@ -255,7 +269,7 @@ module _ {W : Type 0} (contents : W → Option (List ℕ)) where
     refuses_so d of_text ask (refusals.Import e) fails = absurd fails
 
     -- what was answered of a chart was answered of its text
-    charted_at : (d : Drawing) → IsChartOf text d → (ask : Ask) (answer : Result Status Refusal) (old new : W)
+    charted_at : (d : Drawing) → IsChartOf text d → (ask : ChartCommand) (answer : Result Status Refusal) (old new : W)
         → AnswersOf contents ask file (source_text MscPr text d) answer old new → Does contents (tasks.Chart ask) file text answer old new
     charted_at d of_text ask answer old new said =
         answers_so (PrintsOf ask file (source_text MscPr text d)) (Prints (tasks.Chart ask) file text)
@@ -264,7 +278,7 @@ module _ {W : Type 0} (contents : W → Option (List ℕ)) where
 
     -- the same of a source of the text
     pub charted : (s : SourceText) → s.language ≡ MscPr → s.text ≡ text → IsChartOf text s.chart
-        → (ask : Ask) (answer : Result Status Refusal) (old new : W)
+        → (ask : ChartCommand) (answer : Result Status Refusal) (old new : W)
         → AnswersOf contents ask file s answer old new → Does contents (tasks.Chart ask) file text answer old new
     charted s language_is text_is of_text ask answer old new said =
         let same : s ≡ source_text MscPr text s.chart =
@@ -309,7 +323,7 @@ module _ {W : Type 0} (contents : W → Option (List ℕ)) where
 
     -- and then it is told
     told_so : (refusal : Refusal) (old mid new : W) → is_spent refusal ≡ false → Does contents task file text (Err refusal) old mid
-        → TellsIn contents (form_of task) file text refusal old new → Delivers contents task file text (Err refusal) old new
+        → TellsIn contents (format_of task) file text refusal old new → Delivers contents task file text (Err refusal) old new
     told_so (refusals.Fault (Parse f)) old mid new refused does tells = (does.0, tells)
     told_so (refusals.Fault (Chart f)) old mid new refused does tells = (does.0, tells)
     told_so (refusals.Fault (NotStarted i)) old mid new refused does tells = (does.0, tells)
@@ -323,12 +337,12 @@ module _ {W : Type 0} (contents : W → Option (List ℕ)) where
 
     -- so a task that is refused is left as it has to be
     pub delivered : (refusal told : Refusal) (old mid new : W) → Does contents task file text (Err refusal) old mid
-        → TellsThat contents (form_of task) file text refusal told mid new → Delivers contents task file text (Err told) old new
+        → TellsThat contents (format_of task) file text refusal told mid new → Delivers contents task file text (Err told) old new
     delivered refusal told old mid new does (inl (spent, same, stays)) =
         rw (same, stays) (spent_so refusal old mid spent does)
     delivered refusal told old mid new does (inr (refused, inl (same, tells))) =
         rw same (told_so refusal old mid new refused does
-        (subst (λ (w : W). TellsIn contents (form_of task) file text refusal w new) (untouched refusal old mid refused does) tells))
+        (subst (λ (w : W). TellsIn contents (format_of task) file text refusal w new) (untouched refusal old mid refused does) tells))
     delivered refusal told old mid new does (inr (refused, inr (inl (memory, stays)))) =
         rw memory (inl (stays ∙ untouched refusal old mid refused does))
     delivered refusal told old mid new does (inr (refused, inr (inr device))) = rw device tt

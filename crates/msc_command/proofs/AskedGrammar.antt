@@ -1,4 +1,5 @@
--- Of the command that words name `clap` is told alone: it takes the words as where it is told of all.
+-- Of the command that words name `clap` is told alone: it takes the words as where it is told of
+-- all.
 use Rattle.std.proofs.Common.{◌≡◌, refl, sym, subst, true, false, Bool, List, [], ◌∷◌, Option, Some, None, cond, find}
 use Rattle.std.proofs.lemmas.Option.{none-some}
 use Rattle.std.proofs.lemmas.Slice.Eq.{bytes_eq-Decides}
@@ -6,10 +7,10 @@ use Rattle.std.specs.Option.{option_map_or}
 use Rattle.std.specs.Str.{bytes_eq}
 use Rattle.clap.specs.Words.{App, IsAmong, Text, built, fault_of, is_simple, is_simple_and_free, subcommand_of}
 use Rattle.clap.specs.declared.error.kind.ErrorKind.{ErrorKind}
-use Rattle.msc_command.specs.Grammar.{bare_command, begun_by, verbs_for, whole_command, with_commands, AreAnswered, AreParsers, Parsers}
-use Rattle.msc_command.specs.Words.{verb_name, verb_of_word, verbs}
-use Rattle.msc_command.specs.declared.words.Verb.{Verb}
-use Rattle.msc_command.specs.declared.words.Verb.TheVariants.{Read}
+use Rattle.msc_command.specs.Grammar.{bare_command, begun_by, commands_for, whole_command, with_commands, AreAnswered, AreParsers, Parsers}
+use Rattle.msc_command.specs.Words.{command_word, command_of_word, command_names}
+use Rattle.msc_command.specs.declared.words.CommandName.{CommandName}
+use Rattle.msc_command.specs.declared.words.CommandName.TheVariants.{Read}
 use Rattle.msc_command.proofs.Begun.{same_fault, same_found, KnowAlike}
 
 -- what is found passes: the first, or what is found behind it
@@ -23,59 +24,59 @@ found_passes p [] x found = absurd (none-some _ found)
 found_passes p (y ∷ ys) x found = first_passes p y x (find p ys) (p y) refl (found_passes p ys x) found
 
 -- a word that names a command is its name
-is_name : (name : Text) (verb : Verb) → verb_of_word name ≡ Some verb → name ≡ verb_name verb
-unfolding verb_of_word
-is_name name verb found =
-    (bytes_eq-Decides name (verb_name verb)).0 (found_passes (λ verb. bytes_eq name (verb_name verb)) verbs verb found)
+is_name : (name : Text) (command_name : CommandName) → command_of_word name ≡ Some command_name → name ≡ command_word command_name
+unfolding command_of_word
+is_name name command_name found =
+    (bytes_eq-Decides name (command_word command_name)).0 (found_passes (λ command_name. bytes_eq name (command_word command_name)) command_names command_name found)
 
 -- the program with one command
-abbrev one_command : Parsers → Verb → App
-one_command p verb = with_commands p bare_command (verb ∷ [])
+abbrev one_command : Parsers → CommandName → App
+one_command p command_name = with_commands p bare_command (command_name ∷ [])
 
--- What is needed of a command: where `clap` is told of it alone, that is known as the same command as
--- where it is told of all, `clap` says all of it, and it is simple.
-record IsToldAlone (p : Parsers) (verb : Verb) : Type 0 where
-  alike : KnowAlike (built (one_command p verb)) (built (whole_command p)) (verb_name verb)
-  known : is_simple_and_free (one_command p verb) ≡ true
-  simple : is_simple (one_command p verb) ≡ true
+-- What is needed of a command: where `clap` is told of it alone, that is known as the same command
+-- as where it is told of all, `clap` says all of it, and it is simple.
+record IsToldAlone (p : Parsers) (command_name : CommandName) : Type 0 where
+  alike : KnowAlike (built (one_command p command_name)) (built (whole_command p)) (command_word command_name)
+  known : is_simple_and_free (one_command p command_name) ≡ true
+  simple : is_simple (one_command p command_name) ≡ true
 
 -- it is so of each command, by one proof: the second clause is checked for each of the others
-told_alone : (p : Parsers) (verb : Verb) → IsToldAlone p verb
+told_alone : (p : Parsers) (command_name : CommandName) → IsToldAlone p command_name
 told_alone p Read = record { alike = record { top = refl; one = refl; two = refl; other = refl; found = refl }; known = refl; simple = refl }
-told_alone p verb = record { alike = record { top = refl; one = refl; two = refl; other = refl; found = refl }; known = refl; simple = refl }
+told_alone p command_name = record { alike = record { top = refl; one = refl; two = refl; other = refl; found = refl }; known = refl; simple = refl }
 
 -- two programs take words alike
 abbrev pub TakeAlike : App → App → List Text → Type 0
 TakeAlike x y words = (fault_of x words ≡ fault_of y words) × (subcommand_of x words ≡ subcommand_of y words)
 
 -- and takes the words of it alike
-one_alike : (p : Parsers) (verb : Verb) (program : Text) (rest : List Text)
-    → TakeAlike (one_command p verb) (whole_command p) (program ∷ verb_name verb ∷ rest)
-one_alike p verb program rest = (
-  same_fault _ _ (verb_name verb) rest (told_alone p verb).alike,
-  same_found _ _ (verb_name verb) rest (told_alone p verb).alike,
+one_alike : (p : Parsers) (command_name : CommandName) (program : Text) (rest : List Text)
+    → TakeAlike (one_command p command_name) (whole_command p) (program ∷ command_word command_name ∷ rest)
+one_alike p command_name program rest = (
+  same_fault _ _ (command_word command_name) rest (told_alone p command_name).alike,
+  same_found _ _ (command_word command_name) rest (told_alone p command_name).alike,
 )
 
 -- what is told for words takes them as the whole program
 pub asked_alike : (p : Parsers) (words : List Text)
-    → TakeAlike (with_commands p bare_command (verbs_for words)) (whole_command p) words
+    → TakeAlike (with_commands p bare_command (commands_for words)) (whole_command p) words
 asked_alike p [] = (refl, refl)
 asked_alike p (program ∷ []) = (refl, refl)
-asked_alike p (program ∷ name ∷ rest) = go (verb_of_word name) refl
+asked_alike p (program ∷ name ∷ rest) = go (command_of_word name) refl
   where
-    go : (found : Option Verb) → verb_of_word name ≡ found
-        → TakeAlike (with_commands p bare_command (verbs_for (program ∷ name ∷ rest))) (whole_command p) (program ∷ name ∷ rest)
+    go : (found : Option CommandName) → command_of_word name ≡ found
+        → TakeAlike (with_commands p bare_command (commands_for (program ∷ name ∷ rest))) (whole_command p) (program ∷ name ∷ rest)
     go None none = rw none (refl, refl)
-    go (Some verb) is = rw (is, is_name name verb is) (one_alike p verb program rest)
+    go (Some command_name) is = rw (is, is_name name command_name is) (one_alike p command_name program rest)
 
 -- it is of the kind of which `clap` says all, and simple
-asked_kind : (p : Parsers) (found : Option Verb)
-    → (is_simple_and_free (with_commands p bare_command (option_map_or (λ verb. verb ∷ []) found verbs)) ≡ true)
-    × (is_simple (with_commands p bare_command (option_map_or (λ verb. verb ∷ []) found verbs)) ≡ true)
+asked_kind : (p : Parsers) (found : Option CommandName)
+    → (is_simple_and_free (with_commands p bare_command (option_map_or (λ command_name. command_name ∷ []) found command_names)) ≡ true)
+    × (is_simple (with_commands p bare_command (option_map_or (λ command_name. command_name ∷ []) found command_names)) ≡ true)
 asked_kind p None = (refl, refl)
-asked_kind p (Some verb) = ((told_alone p verb).known, (told_alone p verb).simple)
+asked_kind p (Some command_name) = ((told_alone p command_name).known, (told_alone p command_name).simple)
 
-module _ (p : Parsers) (words : List Text) (grammar : App) (is : grammar ≡ with_commands p bare_command (verbs_for words)) where
+module _ (p : Parsers) (words : List Text) (grammar : App) (is : grammar ≡ with_commands p bare_command (commands_for words)) where
   -- `clap` says all of it
   pub is_asked_known : is_simple_and_free grammar ≡ true
   is_asked_known = rw is (asked_kind p (begun_by words)).0

@@ -48,7 +48,7 @@ module _ {W : Type 0} (contents : W → Option (List ℕ)) (file text : List ℕ
   -- what is refused of a chart is refused of its text
   refuses_drawn : (d : Drawing) → IsChartOf text d → (drawn : Drawn) (r : Refusal)
       → RefusesDrawn drawn (source_text MscPr text d) r → Refuses (tasks.Draw drawn) text r
-  refuses_drawn d of_text (Chart queues form) r fails = absurd fails
+  refuses_drawn d of_text (Chart queues format) r fails = absurd fails
   refuses_drawn d of_text (Report queues) r fails = absurd fails
   refuses_drawn d of_text (Run x) (refusals.Fault f) fails = absurd fails
   refuses_drawn d of_text (Run x) (refusals.Pair f) fails = (d, of_text, fails)

@@ -6,8 +6,8 @@ use Rattle.msc_import.specs.declared.importing.Imported.{Imported}
 use Rattle.msc_import.specs.declared.importing.Refused.{Refused as NotImported}
 use Rattle.msc_import.specs.Drafting.{IsReadAgain}
 use Rattle.msc_import.specs.Importing.{Refusal as Said, RefusesSo, imported, seen}
-use Rattle.msc_import_laws.specs.Imports.{ImportsAreCharts, NoFaultIsFirst}
-use Rattle.msc_judge.specs.declared.page.Page.{Page}
+use Rattle.msc_import_laws.specs.Imports.{ImportsAreCharts}
+use Rattle.msc_print.specs.declared.page.Page.{Page}
 use Rattle.msc_report.specs.declared.fault.Fault.TheVariants.{Parse, Chart, NotStarted, Memory, Device}
 use Rattle.msc_report.specs.Refusals.{of_source}
 use Rattle.msc_source.specs.declared.fault.SourceFault.{SourceFault}
@@ -17,7 +17,7 @@ use Rattle.msc_command.specs.Ending.{of_import, of_import_fault}
 use Rattle.msc_command.specs.Importing.{IsChartOrFault, IsImport, IsImportedOn, IsNotImported, IsPageOf, PrintsImportPage, RefusesImport, wanted_of}
 use Rattle.msc_command.specs.declared.ending.Refusal.{Refusal}
 use Rattle.msc_command.specs.declared.ending.Refusal.TheVariants as refusals
-use Rattle.msc_command.specs.declared.tasks.ImportWords.{ImportWords}
+use Rattle.msc_command.specs.declared.tasks.ImportArgs.{ImportArgs}
 
 -- a fault that is not want of memory is the one of the definition
 is_said : {A : Type 0} (e : NotImported) (said : Result A Said) (f : ImportFault) → e.fault ≡ f → (f ≡ imports.Memory → ⊥) → RefusesSo e said → said ≡ Err (seen e)
@@ -49,7 +49,7 @@ module _ {A : Type 0} (said : Result A Said) where
   pub not_imported : (e : NotImported) → RefusesSo e said → IsNotImported said (of_import e)
   not_imported e h = by_fault e e.fault refl h
 
-module _ (x : ImportWords) (text file : List ℕ) where
+module _ (x : ImportArgs) (text file : List ℕ) where
   -- and there is no page of it
   pub not_on_page : (r : Refusal) → IsImport x text (Err r) → IsImportedOn x file text (Err r)
   not_on_page (refusals.Import e) said = said
@@ -64,18 +64,18 @@ module _ (x : ImportWords) (text file : List ℕ) where
   not_on_page (refusals.Rounds f) said = absurd said
 
   -- the page of what was imported
-  pub on_page : ImportsAreCharts → NoFaultIsFirst → (is : Imported) (r : Result Page Refusal) → (imported (wanted_of x) text ≡ Ok is) × IsReadAgain is.draft → IsPageOf x.list file is r → IsImportedOn x file text r
-  on_page charts none is (Ok page) of_text prints = (is, of_text.0, of_text.1, prints)
-  on_page charts none is (Err (refusals.Fault Memory)) of_text said = tt
-  on_page charts none is (Err (refusals.Fault (Chart f))) of_text said = absurd (none is.draft f (charts (wanted_of x) text is of_text.0) said.1)
-  on_page charts none is (Err (refusals.Fault Device)) of_text said = absurd said
-  on_page charts none is (Err (refusals.Fault (Parse f))) of_text said = absurd said
-  on_page charts none is (Err (refusals.Fault (NotStarted i))) of_text said = absurd said
-  on_page charts none is (Err (refusals.Import e)) of_text said = absurd said
-  on_page charts none is (Err (refusals.Pair f)) of_text said = absurd said
-  on_page charts none is (Err (refusals.Mark f)) of_text said = absurd said
-  on_page charts none is (Err (refusals.Instance name)) of_text said = absurd said
-  on_page charts none is (Err (refusals.Rounds f)) of_text said = absurd said
+  pub on_page : ImportsAreCharts → (is : Imported) (r : Result Page Refusal) → (imported (wanted_of x) text ≡ Ok is) × IsReadAgain is.draft → IsPageOf x.list file is r → IsImportedOn x file text r
+  on_page charts is (Ok page) of_text prints = (is, of_text.0, of_text.1, prints)
+  on_page charts is (Err (refusals.Fault Memory)) of_text said = tt
+  on_page charts is (Err (refusals.Fault (Chart f))) of_text said = absurd (charts (wanted_of x) text is of_text.0 f said.1.stands)
+  on_page charts is (Err (refusals.Fault Device)) of_text said = absurd said
+  on_page charts is (Err (refusals.Fault (Parse f))) of_text said = absurd said
+  on_page charts is (Err (refusals.Fault (NotStarted i))) of_text said = absurd said
+  on_page charts is (Err (refusals.Import e)) of_text said = absurd said
+  on_page charts is (Err (refusals.Pair f)) of_text said = absurd said
+  on_page charts is (Err (refusals.Mark f)) of_text said = absurd said
+  on_page charts is (Err (refusals.Instance name)) of_text said = absurd said
+  on_page charts is (Err (refusals.Rounds f)) of_text said = absurd said
 
   -- why there is no page is why the task is refused, or memory ran out
   pub unprinted : {W : Type 0} (contents : W → Option (List ℕ)) (r : Refusal) (now : W) → IsImportedOn x file text (Err r)

@@ -5,10 +5,10 @@ use Rattle.clap.specs.Matches.{first_value}
 use Rattle.clap.specs.declared.parser.matches.Found.{Found}
 use Rattle.msc_command.specs.Asking.{IsColonAnd, IsEventWord, IsNameText, IsNoName, IsNoNumber}
 use Rattle.msc_command.specs.Misuses.{IsEventMisuse}
-use Rattle.msc_command.specs.Words.{word_name}
+use Rattle.msc_command.specs.Words.{arg_word}
 use Rattle.msc_command.specs.declared.misuse.Misuse.{Misuse}
 use Rattle.msc_command.specs.declared.misuse.Misuse.TheVariants.{NoEvent}
-use Rattle.msc_command.specs.declared.words.Word.{Word}
+use Rattle.msc_command.specs.declared.words.ArgName.{ArgName}
 use Rattle.msc_report.specs.declared.pair.EventName.{EventName}
 use Rattle.msc_report.specs.declared.pair.EventName.TheVariants.{Number, Line}
 
@@ -24,7 +24,7 @@ named_so found id text (Ok name) word named = record { text = text; word = word;
 named_so found id text (Err misuse) word named = tt
 
 -- and one whose text names none is mistaken
-pub mistaken_so : (found : Found) (w : Word) (text : Bor (List ℕ)) (r : Result EventName Misuse) → first_value found (word_name w) ≡ Some text.now
+pub mistaken_so : (found : Found) (w : ArgName) (text : Bor (List ℕ)) (r : Result EventName Misuse) → first_value found (arg_word w) ≡ Some text.now
     → IfErr r (λ m. (m ≡ NoEvent w text) × IsNoName text.now) → IfErr r (IsEventMisuse found w)
 mistaken_so found w text (Ok name) given mistaken = tt
 mistaken_so found w text (Err misuse) given (is, none) = inr record { text = text; is = is; given = given; none = none }

@@ -1,28 +1,38 @@
 -- What is answered of all scenarios of a diagram.
-use Rattle.std.proofs.Common.{◌≡◌, ℕ, Bool, true, false, List, [], Option, Ok, Err, inl, inr, refl}
-use Rattle.msc_chart.specs.Lists.{Occurs}
-use Rattle.msc_import.specs.Whole.{imported_all}
-use Rattle.msc_import.specs.declared.whole.Scenario.{Scenario as Drawn}
+use Rattle.std.proofs.Common.{◌≡◌, ℕ, Bool, true, false, not, ◌&&◌, List, [], get_or, Option, Result, Ok, Err, is_ok, inl, inr, map, refl, sym, ap, subst, ◌∙◌}
+use Rattle.std.proofs.lemmas.Option.{slice_get-get_or}
+use Rattle.msc_import.specs.Drafting.{chart_name}
+use Rattle.msc_import.specs.Importing.{answered, diagram_from, found_as, told_of}
+use Rattle.msc_import.specs.Whole.{WantedAll, all_of, all_scenarios, draws_branches, imported_all, imported_all_from, may_draw, refusing}
+use Rattle.msc_import.specs.declared.drawings.Scenario.{Scenario as Drawn}
 use Rattle.msc_import.specs.declared.whole.Scenarios.{Scenarios}
-use Rattle.msc_import_laws.specs.Imports.{NoFaultIsFirst, ScenariosAreCharts}
+use Rattle.msc_import_laws.specs.Imports.{ScenariosAreCharts}
+use Rattle.msc_markdown.specs.Markdowns.{Found, markdown}
+use Rattle.msc_mermaid.specs.Gives.{◌>>=◌}
+use Rattle.msc_mermaid.specs.declared.fault.ImportFault.{ImportFault}
+use Rattle.msc_mermaid.specs.declared.statement.Diagram.{Diagram}
 use Rattle.msc_report.specs.declared.fault.Fault.TheVariants.{Parse, Chart, NotStarted, Memory, Device}
 use Rattle.msc_report.specs.Refusals.{of_source, of_writing}
 use Rattle.msc_source.specs.declared.fault.SourceFault.{SourceFault}
 use Rattle.msc_source.specs.declared.fault.SourceFault.TheVariants as sources
 use Rattle.msc_diagram.specs.Judging.{BeginsScenarios as BeginsOf, JudgesScenarios, PassesScenarios, TellsScenarios}
-use Rattle.msc_diagram.specs.declared.judging.Form.{Form as DiagramForm}
+use Rattle.msc_diagram.specs.declared.judging.DiagramFormat.{DiagramFormat as DiagramFormat}
 use Rattle.msc_diagram.specs.declared.scenario.Scenario.{Scenario}
-use Rattle.msc_judge.specs.declared.page.WriteFault.{WriteFault}
-use Rattle.msc_judge.specs.declared.page.WriteFault.TheVariants as writing
-use Rattle.msc_command.proofs.Answered.{nothing_more}
+use Rattle.msc_print.specs.declared.page.WriteFault.{WriteFault}
+use Rattle.msc_print.specs.declared.page.WriteFault.TheVariants as writing
+use Rattle.msc_command.proofs.Answered.{answers_with_so}
+use Rattle.msc_print.proofs.PrintLemmas.{Appends-none as nothing_more}
 use Rattle.msc_command.specs.Answering.{AnswersWith}
+use Rattle.msc_command.specs.Charting.{with_chart, AreCharts}
 use Rattle.msc_command.specs.Ending.{ended_by}
-use Rattle.msc_command.specs.declared.tasks.Checking.{Checking}
+use Rattle.msc_command.specs.declared.tasks.CheckArgs.{CheckArgs}
 use Rattle.msc_command.specs.Importing.{IsChartOrFault}
-use Rattle.msc_command.specs.Scenarios.{AreNotCharted, BeginsAll, IsCharted, IsFormOf, IsImportOfAll, PrintsCounted, RefusesScenarios, wanted_of}
+use Rattle.msc_command.specs.Scenarios.{BeginsAll, IsCharted, IsFormatOf, IsImportOfAll, OfScenarios, PrintsCounted, RefusesScenarios, wanted_of}
+use Rattle.msc_command.specs.Scenarios as of_words
 use Rattle.msc_command.specs.declared.ending.Refusal.{Refusal}
 use Rattle.msc_command.specs.declared.ending.Refusal.TheVariants as refusals
-use Rattle.msc_command.specs.declared.tasks.ScenarioWords.{ScenarioWords}
+use Rattle.msc_command.specs.declared.tasks.ScenarioArgs.{ScenarioArgs}
+use Rattle.msc_import_laws.proofs.Imports.{told_ok}
 
 -- a draft that is no chart is no scenario that is told
 pub no_scenario : (file : List ℕ) (s : Drawn) (fault : SourceFault) → IsChartOrFault s.draft (Err fault)
@@ -31,21 +41,76 @@ no_scenario file s (sources.Parse f) said = absurd said
 no_scenario file s (sources.Chart f) said = said
 no_scenario file s sources.Memory said = tt
 
--- nor are all of them, where one is none
-pub not_all : (file : List ℕ) (all : List Drawn) (s : Drawn) → Occurs all s → (r : Refusal) → IsCharted file s (Err r)
-    → AreNotCharted all r
-not_all file all s among (refusals.Fault (Parse f)) said = absurd said
-not_all file all s among (refusals.Fault (Chart f)) said = (s, among, said)
-not_all file all s among (refusals.Fault (NotStarted i)) said = absurd said
-not_all file all s among (refusals.Fault Memory) said = tt
-not_all file all s among (refusals.Fault Device) said = absurd said
-not_all file all s among (refusals.Pair f) said = absurd said
-not_all file all s among (refusals.Mark f) said = absurd said
-not_all file all s among (refusals.Instance name) said = absurd said
-not_all file all s among (refusals.Rounds f) said = absurd said
-not_all file all s among (refusals.Import e) said = absurd said
+-- each scenario of a text is a chart
+pub all_charts : ScenariosAreCharts → (x : ScenarioArgs) (text : List ℕ) (all : Scenarios) → imported_all (wanted_of x) text ≡ Ok all → AreCharts all.list
+all_charts charts x text all is i d within =
+    charts (wanted_of x) text all (get_or all.list i d) is (i, slice_get-get_or all.list i d within)
 
-module _ {W A : Type 0} (contents : W → Option (List ℕ)) (prints : A → List ℕ → Type 0) (begins : List ℕ → Type 0) (x : ScenarioWords) (text : List ℕ) (now : W) where
+-- these scenarios of a diagram, with what is told of all of them
+abbrev named : WantedAll → Diagram → List Drawn → Scenarios
+named x d list = record { name = chart_name x.name; list = list; drawn = draws_branches x d }
+
+-- whether parallel branches are drawn one below the other is known of the scenarios
+module _ (x : WantedAll) where
+  drawn_of : (d : Diagram) (all : Scenarios) → all_of x d ≡ Ok all → all.drawn ≡ (may_draw x.manner.par && not (is_ok (all_of (refusing x) d)))
+  unfolding all_of
+  drawn_of d all e = by (all_scenarios x d) refl e
+    where
+      with_name : (r : Result (List Drawn) ImportFault) (f : List Drawn → Scenarios) → Result Scenarios ImportFault
+      with_name r f = r >>= (λ list. Ok (f list))
+
+      ok_so : (r : Result (List Drawn) ImportFault) (f : List Drawn → Scenarios) → is_ok (with_name r f) ≡ is_ok r
+      ok_so (Ok list) f = refl
+      ok_so (Err fault) f = refl
+
+      by : (r : Result (List Drawn) ImportFault) → all_scenarios x d ≡ r → with_name r (named x d) ≡ Ok all
+          → all.drawn ≡ (may_draw x.manner.par && not (is_ok (with_name (all_scenarios (refusing x) d) (named (refusing x) d))))
+      by (Ok list) is k =
+          let same : draws_branches x d ≡ all.drawn = cc in
+          sym same ∙ ap (λ b. may_draw x.manner.par && not b) (sym (ok_so (all_scenarios (refusing x) d) (named (refusing x) d)))
+      by (Err fault) is k = cc
+
+  drawn_in : (f : Found) (all : Scenarios) (r : Result Diagram ImportFault) → answered f (all_of x) r ≡ Ok all
+      → all.drawn ≡ (may_draw x.manner.par && not (is_ok (answered f (all_of (refusing x)) r)))
+  unfolding answered
+  drawn_in f all (Ok d) e =
+      drawn_of d all (told_ok d.lines (all_of x d) all e) ∙ ap (λ b. may_draw x.manner.par && not b) (sym (told_so d.lines (all_of (refusing x) d)))
+    where
+      told_so : (lines : List (List ℕ)) (r : Result Scenarios ImportFault) → is_ok (told_of lines r) ≡ is_ok r
+      told_so lines (Ok y) = refl
+      told_so lines (Err fault) = refl
+  drawn_in f all (Err fault) e = cc
+
+  drawn_as : (all : Scenarios) (r : Result Found ImportFault) → found_as (imported_all_from x) r ≡ Ok all
+      → all.drawn ≡ (may_draw x.manner.par && not (is_ok (found_as (imported_all_from (refusing x)) r)))
+  unfolding found_as
+  drawn_as all (Ok f) e = drawn_in f all (diagram_from x.language x.cross x.fence f) e
+  drawn_as all (Err fault) e = cc
+
+pub drawn_so : (x : ScenarioArgs) (text : List ℕ) (all : Scenarios) → imported_all (wanted_of x) text ≡ Ok all → all.drawn ≡ of_words.draws_branches x text
+drawn_so x text all is = drawn_as (wanted_of x) all (markdown text) is
+
+module _ {W A : Type 0} (contents : W → Option (List ℕ)) (prints : List ℕ → Bool → List Scenario → A → List ℕ → Type 0)
+    (begins : List ℕ → Bool → List Scenario → List ℕ → Type 0) where
+  -- what was told of the scenarios of a text was told of the text
+  pub told_of_text : ScenariosAreCharts → (x : ScenarioArgs) (file text : List ℕ) (all : Scenarios) → imported_all (wanted_of x) text ≡ Ok all
+      → (answer : Result A Refusal) (old new : W)
+      → AnswersWith contents (prints all.name all.drawn (map (with_chart file) all.list)) (begins all.name all.drawn (map (with_chart file) all.list)) (λ refusal. ⊥) answer old new
+      → AnswersWith contents (λ a printed. OfScenarios x file text (λ name ss. prints name (of_words.draws_branches x text) ss a printed))
+      (λ printed. OfScenarios x file text (λ name ss. begins name (of_words.draws_branches x text) ss printed)) (RefusesScenarios x text) answer old new
+  told_of_text charts x file text all is answer old new told =
+      let are = all_charts charts x text all is in
+      let drawn = drawn_so x text all is in
+      answers_with_so contents (prints all.name all.drawn (map (with_chart file) all.list))
+      (λ a printed. OfScenarios x file text (λ name ss. prints name (of_words.draws_branches x text) ss a printed))
+      (begins all.name all.drawn (map (with_chart file) all.list))
+      (λ printed. OfScenarios x file text (λ name ss. begins name (of_words.draws_branches x text) ss printed))
+      (λ refusal. ⊥) (RefusesScenarios x text)
+      (λ a printed says. (all, is, are, subst (λ b. prints all.name b (map (with_chart file) all.list) a printed) drawn says))
+      (λ printed begun. (all, is, are, subst (λ b. begins all.name b (map (with_chart file) all.list) printed) drawn begun))
+      (λ refusal never. absurd never) answer old new told
+
+module _ {W A : Type 0} (contents : W → Option (List ℕ)) (prints : A → List ℕ → Type 0) (begins : List ℕ → Type 0) (x : ScenarioArgs) (text : List ℕ) (now : W) where
   -- where there are no scenarios, nothing is written
   pub none_drawn : (r : Refusal) → IsImportOfAll x text (Err r)
       → AnswersWith contents prints begins (RefusesScenarios x text) (Err r) now now
@@ -60,30 +125,16 @@ module _ {W A : Type 0} (contents : W → Option (List ℕ)) (prints : A → Lis
   none_drawn (refusals.Rounds f) said = absurd said
   none_drawn (refusals.Import e) said = (said, refl)
 
-  -- and where one is no chart
-  pub not_charted : ScenariosAreCharts → NoFaultIsFirst → (all : Scenarios) → imported_all (wanted_of x) text ≡ Ok all → (r : Refusal) → AreNotCharted all.list r
-      → AnswersWith contents prints begins (RefusesScenarios x text) (Err r) now now
-  not_charted charts none all is (refusals.Fault (Parse f)) said = absurd said
-  not_charted charts none all is (refusals.Fault (Chart f)) (s, among, said) = absurd (none s.draft f (charts (wanted_of x) text all s is among) said)
-  not_charted charts none all is (refusals.Fault (NotStarted i)) said = absurd said
-  not_charted charts none all is (refusals.Fault Memory) said = inl refl
-  not_charted charts none all is (refusals.Fault Device) said = absurd said
-  not_charted charts none all is (refusals.Pair f) said = absurd said
-  not_charted charts none all is (refusals.Mark f) said = absurd said
-  not_charted charts none all is (refusals.Instance name) said = absurd said
-  not_charted charts none all is (refusals.Rounds f) said = absurd said
-  not_charted charts none all is (refusals.Import e) said = absurd said
-
-module _ {W : Type 0} (contents : W → Option (List ℕ)) (c : Checking) (file name : List ℕ) (drawn : Bool) (ss : List Scenario) where
+module _ {W : Type 0} (contents : W → Option (List ℕ)) (c : CheckArgs) (file name : List ℕ) (drawn : Bool) (ss : List Scenario) where
   -- what is told by the status alone
-  pub passes_so : (quiet passed : Bool) (now : W) → quiet ≡ true → PassesScenarios ss c.queues c.question.allowed passed
+  pub passes_so : (quiet passed : Bool) (now : W) → quiet ≡ true → PassesScenarios ss c.queues c.options.allowed passed
       → AnswersWith contents (PrintsCounted quiet c file name drawn ss) (BeginsAll quiet c file name drawn ss) (λ refusal. ⊥) (Ok (record { status = ended_by passed; listed = 0 })) now now
   passes_so quiet passed now is says = rw is ([], (passed, refl, refl, says, refl), nothing_more _)
 
   -- what was not written to its end
-  pub not_told : (form : DiagramForm) → IsFormOf c file drawn form → (quiet : Bool) → quiet ≡ false → (f : WriteFault) (old new : W)
-      → TellsScenarios contents (JudgesScenarios name ss c.queues c.question form) (BeginsOf name ss c.queues c.question form) (Err f) old new
+  pub not_told : (format : DiagramFormat) → IsFormatOf c file drawn format → (quiet : Bool) → quiet ≡ false → (f : WriteFault) (old new : W)
+      → TellsScenarios contents (JudgesScenarios name ss c.queues c.options format) (BeginsOf name ss c.queues c.options format) (Err f) old new
       → AnswersWith contents (PrintsCounted quiet c file name drawn ss) (BeginsAll quiet c file name drawn ss) (λ refusal. ⊥) (Err (refusals.Fault (of_writing f))) old new
-  not_told form its quiet is writing.Memory old new (inl same) = inl same
-  not_told form its quiet is writing.Memory old new (inr (printed, says, begun)) = inr (printed, rw is (form, its, says), begun)
-  not_told form its quiet is writing.Device old new said = tt
+  not_told format its quiet is writing.Memory old new (inl same) = inl same
+  not_told format its quiet is writing.Memory old new (inr (printed, says, begun)) = inr (printed, rw is (format, its, says), begun)
+  not_told format its quiet is writing.Device old new said = tt

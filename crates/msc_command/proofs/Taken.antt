@@ -11,7 +11,7 @@ use Rattle.clap.specs.Walk.{Held, Names as CommandNames, settled as settled_rows
 use Rattle.clap.specs.declared.parser.matches.ArgMatches.{ArgMatches}
 use Rattle.clap.specs.declared.parser.matches.ArgMatches.TheViews.{out-SubCommand}
 use Rattle.clap.specs.declared.parser.matches.SubCommand.{SubCommand}
-use Rattle.msc_command.specs.Grammar.{AreParsers, AreTaken, IsGrammar, architecture_words, form_words, kind_words, parsers_of}
+use Rattle.msc_command.specs.Grammar.{AreParsers, AreTaken, IsGrammar, architecture_words, format_words, kind_words, parsers_of}
 use Rattle.msc_command.specs.declared.grammar.Choices.{Choices}
 use Rattle.msc_command.specs.Words.{cross_words, language_words, own_words, par_words}
 use Rattle.msc_command.specs.Program.{ObeysMatches, ObeysNamed}
@@ -21,13 +21,13 @@ use Rattle.msc_command.specs.declared.ending.Status.TheVariants.{Refused}
 -- the parsers take the words of which options take one
 pub are_parsers : (lent : Choices)
     → map (λ word. word.now) lent.architectures.words.now ≡ architecture_words → map (λ word. word.now) lent.kinds.words.now ≡ kind_words
-    → map (λ word. word.now) lent.forms.words.now ≡ form_words → map (λ word. word.now) lent.languages.words.now ≡ language_words
+    → map (λ word. word.now) lent.formats.words.now ≡ format_words → map (λ word. word.now) lent.languages.words.now ≡ language_words
     → map (λ word. word.now) lent.owns.words.now ≡ own_words → map (λ word. word.now) lent.crosses.words.now ≡ cross_words
     → map (λ word. word.now) lent.pars.words.now ≡ par_words → AreParsers (parsers_of lent)
 are_parsers lent one two three four five six seven = record {
   architectures = (_, refl, one);
   kinds = (_, refl, two);
-  forms = (_, refl, three);
+  formats = (_, refl, three);
   languages = (_, refl, four);
   owns = (_, refl, five);
   crosses = (_, refl, six);

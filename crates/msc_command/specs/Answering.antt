@@ -3,17 +3,17 @@ use Rattle.std.specs.Prelude.{◌≡◌, ◌<◌, ◌⊎◌, ◌++◌, ℕ, Bool
 use Rattle.std.specs.Io.KnownBytes.{Appends}
 use Rattle.msc_chart.specs.Drawings.{Drawing}
 use Rattle.msc_chart.specs.Faults.{IsFirstFault}
-use Rattle.msc_chart.specs.declared.fault.TwiceFault.{TwiceFault}
+use Rattle.msc_chart.specs.declared.fault.UnrollFault.{UnrollFault}
 use Rattle.msc_parser.specs.Canonical.{canonical}
 use Rattle.msc_parser.specs.Grammar.{Tree}
 use Rattle.msc_parser.specs.Parsing.{HasDraft, HasParseFault}
-use Rattle.msc_judge.specs.Pages.{WritesBeginning}
+use Rattle.msc_print.specs.Pages.{WritesBeginning}
 use Rattle.msc_mark.specs.declared.fault.MarkFault.{MarkFault}
 use Rattle.msc_mark.specs.declared.mark.Mark.{Mark}
 use Rattle.msc_markdown.specs.Markdowns.{Found}
 use Rattle.msc_report.specs.declared.fault.Fault.TheVariants.{Parse, NotStarted, Memory, Device}
 use Rattle.msc_report.specs.declared.fault.Fault.TheVariants as faults
-use Rattle.msc_place.specs.Sites.{SitesIn}
+use Rattle.msc_place.specs.EventPositions.{EventPositionsIn}
 use Rattle.msc_report.specs.Lists.{listed_text}
 use Rattle.msc_report.specs.declared.pair.NamedFault.{NamedFault}
 use Rattle.msc_report.specs.declared.style.Style.{Style}
@@ -22,7 +22,7 @@ use Rattle.msc_source.specs.declared.language.Language.TheVariants.{MscPr}
 use Rattle.msc_text.specs.Explaining.{PrintsReason}
 use Rattle.msc_text.specs.Judging.{JudgesChart, Passes}
 use Rattle.msc_text.specs.Readying.{PrintsReady}
-use Rattle.msc_text.specs.declared.judging.Format.{Format}
+use Rattle.msc_text.specs.declared.judging.ChartFormat.{ChartFormat}
 use Rattle.msc_tool.specs.Running.{PrintsExecution}
 use Rattle.msc_command.specs.Drawing.{PrintsPage, RefusesDrawn}
 use Rattle.msc_command.specs.Ending.{ended_by, ends_as, finished_by}
@@ -31,7 +31,7 @@ use Rattle.msc_command.specs.Importing.{PrintsImportPage, RefusesImport}
 use Rattle.msc_command.specs.Marked.{AreMarked, HasFaultyMark}
 use Rattle.msc_command.specs.Naming.{AreTwoNamed, IsNamedFault}
 use Rattle.msc_command.specs.Readied.{names_of, AreReady, IsFirstUnknown}
-use Rattle.msc_command.specs.Refused.{form_of, TellsRefusal, TellsUnread}
+use Rattle.msc_command.specs.Refused.{format_of, TellsRefusal, TellsUnread}
 use Rattle.msc_command.specs.Rounds.{HasRoom, LacksRounds}
 use Rattle.msc_command.specs.Scenarios.{BeginsScenarios, PrintsScenarios, RefusesScenarios}
 use Rattle.msc_command.specs.Sited.{AreSited, IsStyle}
@@ -40,64 +40,64 @@ use Rattle.msc_command.specs.declared.ending.Refusal.{Refusal}
 use Rattle.msc_command.specs.declared.ending.Refusal.TheVariants as refusals
 use Rattle.msc_command.specs.declared.ending.Status.{Status}
 use Rattle.msc_command.specs.declared.ending.Status.TheVariants.{Done}
-use Rattle.msc_command.specs.declared.tasks.Ask.{Ask}
-use Rattle.msc_command.specs.declared.tasks.Ask.TheVariants.{Check, Quiet, Explain, Run, List as Listing, Ready}
-use Rattle.msc_command.specs.declared.tasks.Quieting.{Quieting}
-use Rattle.msc_command.specs.declared.tasks.ScenarioWords.{ScenarioWords}
+use Rattle.msc_command.specs.declared.tasks.ChartCommand.{ChartCommand}
+use Rattle.msc_command.specs.declared.tasks.ChartCommand.TheVariants.{Check, Quiet, Explain, Run, List as Listing, Ready}
+use Rattle.msc_command.specs.declared.tasks.QuietArgs.{QuietArgs}
+use Rattle.msc_command.specs.declared.tasks.ScenarioArgs.{ScenarioArgs}
 use Rattle.msc_command.specs.declared.tasks.Task.{Task}
 use Rattle.msc_command.specs.declared.tasks.Task.TheVariants.{Read, Chart, Draw, Import, Scenarios}
 
--- What is printed of the chart of a text, of the file of this name, for what is asked of it, and how the
--- run ends. A chart is run with a gate that is known to be open.
-abbrev pub PrintsOf : Ask → List ℕ → SourceText → Status → List ℕ → Type 0
+-- What is printed of the chart of a text, of the file of this name, for what is asked of it, and
+-- how the run ends. A chart is run with a gate that is known to be open.
+abbrev pub PrintsOf : ChartCommand → List ℕ → SourceText → Status → List ℕ → Type 0
 PrintsOf (Check c) file s status printed =
-    (format : Format) × IsFormat c file s.text format
+    (chart_format : ChartFormat) × IsFormat c file s.text chart_format
     × (marks : Option (List Mark)) × AreMarked c.accept s.text marks × HasRoom c.again s.chart
-    × (passed : Bool) × (status ≡ ended_by passed) × JudgesChart s.chart c.queues c.question marks c.again format passed printed
+    × (passed : Bool) × (status ≡ ended_by passed) × JudgesChart s.chart c.queues c.options marks c.again chart_format passed printed
 PrintsOf (Quiet x) file s status printed =
     (marks : Option (List Mark)) × AreMarked x.accept s.text marks × HasRoom x.again s.chart
     × (passed : Bool) × (status ≡ ended_by passed) × Passes s.chart x.queues x.allowed marks x.again passed × (printed ≡ [])
 PrintsOf (Explain x) file s status printed =
-    (e f : ℕ) × AreTwoNamed s x.first x.second e f × (style : Style) × IsStyle x.look file s.text style
+    (e f : ℕ) × AreTwoNamed s x.first x.second e f × (style : Style) × IsStyle x.event_style file s.text style
     × (enforced : Bool) × (status ≡ ended_by enforced) × PrintsReason s.chart x.queues e f x.short style enforced printed
 PrintsOf (Run queues patience) file s status printed =
     (finished : Bool) × (status ≡ finished_by finished) × PrintsExecution s.chart queues true patience finished printed
 PrintsOf (Listing placed) file s status printed =
-    (sites : Option SitesIn) × AreSited placed file s.text sites × (status ≡ Done) × (printed ≡ listed_text s.chart sites)
+    (event_positions : Option EventPositionsIn) × AreSited placed file s.text event_positions × (status ≡ Done) × (printed ≡ listed_text s.chart event_positions)
 PrintsOf (Ready x) file s status printed =
-    (only : Option (List Bool)) × AreReady s.chart (names_of x) only × (style : Style) × IsStyle x.look file s.text style
+    (only : Option (List Bool)) × AreReady s.chart (names_of x) only × (style : Style) × IsStyle x.event_style file s.text style
     × HasRoom x.again s.chart × (passed : Bool) × (status ≡ ended_by passed) × PrintsReady s.chart x.queues only x.again x.show style passed printed
 
 -- the names of a pair that is asked for are those of no two events of the chart
-abbrev pub RefusesPair : Ask → SourceText → NamedFault → Type 0
+abbrev pub RefusesPair : ChartCommand → SourceText → NamedFault → Type 0
 RefusesPair (Explain x) s fault = IsNamedFault s x.first x.second fault
 RefusesPair ask s fault = ⊥
 
 -- the marks of the text are asked, and this is the first faulty one
-abbrev pub RefusesMark : Ask → SourceText → MarkFault → Type 0
+abbrev pub RefusesMark : ChartCommand → SourceText → MarkFault → Type 0
 RefusesMark (Check c) s fault = HasFaultyMark c.accept s.text fault
 RefusesMark (Quiet x) s fault = HasFaultyMark x.accept s.text fault
 RefusesMark ask s fault = ⊥
 
 -- a name that is asked for is that of no instance, and is the first such
-abbrev pub RefusesInstance : Ask → Drawing → List ℕ → Type 0
+abbrev pub RefusesInstance : ChartCommand → Drawing → List ℕ → Type 0
 RefusesInstance (Ready x) d name = IsFirstUnknown d (names_of x) name
 RefusesInstance ask d name = ⊥
 
 -- rounds of the chart are asked for, and this is why two are no chart
-abbrev pub RefusesRounds : Ask → Drawing → TwiceFault → Type 0
+abbrev pub RefusesRounds : ChartCommand → Drawing → UnrollFault → Type 0
 RefusesRounds (Check c) d fault = LacksRounds c.again d fault
 RefusesRounds (Quiet x) d fault = LacksRounds x.again d fault
 RefusesRounds (Ready x) d fault = LacksRounds x.again d fault
 RefusesRounds ask d fault = ⊥
 
 -- an instance of a chart that is to be run could not be started
-abbrev pub FailsToStart : Ask → Drawing → ℕ → Type 0
+abbrev pub FailsToStart : ChartCommand → Drawing → ℕ → Type 0
 FailsToStart (Run queues patience) d i = i < length d.instances
 FailsToStart ask d i = ⊥
 
 -- why there is nothing to print of a chart for what is asked of it
-abbrev pub RefusesOf : Ask → SourceText → Refusal → Type 0
+abbrev pub RefusesOf : ChartCommand → SourceText → Refusal → Type 0
 RefusesOf ask s (refusals.Pair fault) = RefusesPair ask s fault
 RefusesOf ask s (refusals.Mark fault) = RefusesMark ask s fault
 RefusesOf ask s (refusals.Instance name) = RefusesInstance ask s.chart name.now
@@ -105,19 +105,20 @@ RefusesOf ask s (refusals.Rounds fault) = RefusesRounds ask s.chart fault
 RefusesOf ask s (refusals.Fault (NotStarted i)) = FailsToStart ask s.chart i
 RefusesOf ask s refusal = ⊥
 
--- what is printed of the diagrams of a text: of all of them, if it holds such of which all are checked; else of
--- the one
-abbrev pub PrintsDiagrams : Option Found → ScenarioWords → List ℕ → List ℕ → Status → List ℕ → Type 0
+-- what is printed of the diagrams of a text: of all of them, if it holds such of which all are
+-- checked; else of the one
+abbrev pub PrintsDiagrams : Option Found → ScenarioArgs → List ℕ → List ℕ → Status → List ℕ → Type 0
 PrintsDiagrams None x file text status printed = PrintsScenarios x file text status printed
 PrintsDiagrams (Some f) x file text status printed = Surveys x file text f.numbers Done status printed
 
 -- what begins that, where memory ran out
-abbrev pub BeginsDiagrams : Option Found → ScenarioWords → List ℕ → List ℕ → List ℕ → Type 0
+abbrev pub BeginsDiagrams : Option Found → ScenarioArgs → List ℕ → List ℕ → List ℕ → Type 0
 BeginsDiagrams None x file text printed = BeginsScenarios x file text printed
 BeginsDiagrams (Some f) x file text printed = BeginsSurvey x file text f.numbers printed
 
--- why nothing is printed of them: where all are checked, one that is refused keeps none from being printed
-abbrev pub RefusesDiagrams : Option Found → ScenarioWords → List ℕ → Refusal → Type 0
+-- why nothing is printed of them: where all are checked, one that is refused keeps none from being
+-- printed
+abbrev pub RefusesDiagrams : Option Found → ScenarioArgs → List ℕ → Refusal → Type 0
 RefusesDiagrams None x text refusal = RefusesScenarios x text refusal
 RefusesDiagrams (Some f) x text refusal = ⊥
 
@@ -133,8 +134,8 @@ Prints (Draw drawn) file text status printed =
 Prints (Import x) file text status printed = PrintsImportPage x file text status printed
 Prints (Scenarios x) file text status printed = PrintsDiagrams (many_in x text) x file text status printed
 
--- why a text is refused for a task, with its first fault: it has no draft, or its draft is no chart,
--- or of its chart that is not to be had which is asked; nothing is imported of it
+-- why a text is refused for a task, with its first fault: it has no draft, or its draft is no
+-- chart, or of its chart that is not to be had which is asked; nothing is imported of it
 abbrev pub Refuses : Task → List ℕ → Refusal → Type 0
 Refuses (Import x) text refusal = RefusesImport x text refusal
 Refuses (Scenarios x) text refusal = RefusesDiagrams (many_in x text) x text refusal
@@ -145,10 +146,10 @@ Refuses (Draw drawn) text (refusals.Fault (faults.Chart f)) = (draft : Tree) × 
 Refuses (Draw drawn) text refusal = (d : Drawing) × IsChartOf text d × RefusesDrawn drawn (source_text MscPr text d) refusal
 Refuses Read text refusal = ⊥
 
--- A task was done, where it is known what is right to print, with how the run ends then, what begins
--- it, and when it is refused: such a text went behind the known bytes of a writer; or memory ran out,
--- and the writer has had no call or has a beginning of a text that begins it; or the writer failed; or
--- it is refused, and the writer has had no call.
+-- A task was done, where it is known what is right to print, with how the run ends then, what
+-- begins it, and when it is refused: such a text went behind the known bytes of a writer; or memory
+-- ran out, and the writer has had no call or has a beginning of a text that begins it; or the
+-- writer failed; or it is refused, and the writer has had no call.
 abbrev pub AnswersWith : {W A : Type 0} → (W → Option (List ℕ)) → (A → List ℕ → Type 0) → (List ℕ → Type 0) → (Refusal → Type 0)
     → Result A Refusal → W → W → Type 0
 AnswersWith contents prints begins refuses (Ok a) old new =
@@ -164,19 +165,19 @@ abbrev pub Answers : {W : Type 0} → (W → Option (List ℕ)) → (Status → 
 Answers contents prints refuses = AnswersWith contents prints (λ printed. (status : Status) × prints status printed) refuses
 
 -- what is asked of a chart was answered
-abbrev pub AnswersOf : {W : Type 0} → (W → Option (List ℕ)) → Ask → List ℕ → SourceText → Result Status Refusal → W → W → Type 0
+abbrev pub AnswersOf : {W : Type 0} → (W → Option (List ℕ)) → ChartCommand → List ℕ → SourceText → Result Status Refusal → W → W → Type 0
 AnswersOf contents ask file s = Answers contents (PrintsOf ask file s) (RefusesOf ask s)
 
 -- how a run ends that tells whether no race counts, without a text
-abbrev pub TellsQuietly : Quieting → SourceText → Result Status Refusal → Type 0
+abbrev pub TellsQuietly : QuietArgs → SourceText → Result Status Refusal → Type 0
 TellsQuietly x s (Ok status) = PrintsOf (Quiet x) [] s status []
 TellsQuietly x s (Err (refusals.Fault Memory)) = Unit {0}
 TellsQuietly x s (Err (refusals.Mark fault)) = HasFaultyMark x.accept s.text fault
 TellsQuietly x s (Err (refusals.Rounds fault)) = LacksRounds x.again s.chart fault
 TellsQuietly x s (Err refusal) = ⊥
 
--- what begins what is printed of the text of a file for a task: of scenarios what is printed of the first
--- of them, of diagrams what is of the first of these, else that itself
+-- what begins what is printed of the text of a file for a task: of scenarios what is printed of the
+-- first of them, of diagrams what is of the first of these, else that itself
 abbrev pub Begins : Task → List ℕ → List ℕ → List ℕ → Type 0
 Begins (Scenarios x) file text printed = BeginsDiagrams (many_in x text) x file text printed
 Begins task file text printed = (status : Status) × Prints task file text status printed
@@ -185,8 +186,8 @@ Begins task file text printed = (status : Status) × Prints task file text statu
 abbrev pub Does : {W : Type 0} → (W → Option (List ℕ)) → Task → List ℕ → List ℕ → Result Status Refusal → W → W → Type 0
 Does contents task file text = AnswersWith contents (Prints task file text) (Begins task file text) (Refuses task text)
 
--- A task was done for the text of a file, and where it was refused that was told: where memory ran out
--- or the writer failed, it is left as that.
+-- A task was done for the text of a file, and where it was refused that was told: where memory ran
+-- out or the writer failed, it is left as that.
 abbrev pub Delivers : {W : Type 0} → (W → Option (List ℕ)) → Task → List ℕ → List ℕ → Result Status Refusal → W → W → Type 0
 Delivers contents task file text (Ok status) old new = Does contents task file text (Ok status) old new
 Delivers contents task file text (Err (refusals.Fault Memory)) old new = Does contents task file text (Err (refusals.Fault Memory)) old new
@@ -220,12 +221,12 @@ abbrev pub IsPut : {W : Type 0} → (W → Option (List ℕ)) → List ℕ → S
 IsPut contents bytes status (Ok s) old new = (s ≡ status) × Appends (contents old) (contents new) bytes
 IsPut contents bytes status (Err refusal) old new = refusal ≡ refusals.Fault Device
 
--- A diagram of several that is refused was told so: its text and its lines went behind the known bytes of a writer;
--- or memory ran out, with nothing or its text behind them; or the writer failed.
-abbrev pub TellsBlock : {W : Type 0} → (W → Option (List ℕ)) → ScenarioWords → List ℕ → List ℕ → ℕ → Refusal
+-- A diagram of several that is refused was told so: its text and its lines went behind the known
+-- bytes of a writer; or memory ran out, with nothing or its text behind them; or the writer failed.
+abbrev pub TellsBlock : {W : Type 0} → (W → Option (List ℕ)) → ScenarioArgs → List ℕ → List ℕ → ℕ → Refusal
     → Result (Unit {0}) Refusal → W → W → Type 0
 TellsBlock contents x file text n refusal (Ok u) old new =
-    (lines : List ℕ) × AreLinesIn (form_of (Scenarios x)) file text refusal lines × Appends (contents old) (contents new) (refused_text x file n ++ lines)
+    (lines : List ℕ) × AreLinesIn (format_of (Scenarios x)) file text refusal lines × Appends (contents old) (contents new) (refused_text x file n ++ lines)
 TellsBlock contents x file text n refusal (Err other) old new =
     ((other ≡ refusals.Fault Memory) × ((new ≡ old) ⊎ Appends (contents old) (contents new) (refused_text x file n)))
     ⊎ (other ≡ refusals.Fault Device)

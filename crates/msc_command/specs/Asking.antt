@@ -8,11 +8,11 @@ use Rattle.clap.specs.Matches.{first_value, matched_of, one_text, raw_values}
 use Rattle.clap.specs.declared.parser.matches.Found.{Found}
 use Rattle.msc_chart.specs.Architectures.{queues_of_word}
 use Rattle.msc_chart.specs.declared.queue.Queues.{Queues}
-use Rattle.msc_reason.specs.Lacks.{kind_word}
-use Rattle.msc_reason.specs.declared.lack.RaceKind.{RaceKind}
+use Rattle.msc_reason.specs.Causes.{kind_word}
+use Rattle.msc_reason.specs.declared.cause.RaceKind.{RaceKind}
 use Rattle.msc_reason.specs.Kinds.{has_kind}
 use Rattle.msc_reason.specs.declared.kinds.KindSet.{KindSet}
-use Rattle.msc_judge.specs.declared.question.Question.{Question}
+use Rattle.msc_judge.specs.declared.options.CheckOptions.{CheckOptions}
 use Rattle.msc_report.specs.declared.pair.EventName.{EventName}
 use Rattle.msc_report.specs.declared.pair.EventName.TheVariants.{Number, Line}
 use Rattle.msc_import.specs.declared.importing.Language.{Language}
@@ -23,33 +23,33 @@ use Rattle.msc_import.specs.declared.plan.Par.{Par}
 use Rattle.msc_import.specs.declared.plan.Par.TheVariants as pars
 use Rattle.msc_mermaid.specs.declared.statement.Cross.{Cross}
 use Rattle.msc_mermaid.specs.declared.statement.Cross.TheVariants as crosses
-use Rattle.msc_draw.specs.declared.form.Form.{Form as PictureForm}
-use Rattle.msc_draw.specs.declared.form.Form.TheVariants as pictures
-use Rattle.msc_command.specs.declared.tasks.Checking.{Checking}
+use Rattle.msc_draw.specs.declared.picture_format.PictureFormat.{PictureFormat as PictureFormat}
+use Rattle.msc_draw.specs.declared.picture_format.PictureFormat.TheVariants as pictures
+use Rattle.msc_command.specs.declared.tasks.CheckArgs.{CheckArgs}
 use Rattle.msc_command.specs.declared.tasks.Drawn.TheVariants as drawn
-use Rattle.msc_command.specs.declared.tasks.Reversing.{Reversing}
-use Rattle.msc_command.specs.declared.tasks.Explaining.{Explaining}
-use Rattle.msc_command.specs.declared.tasks.DiagramWords.{DiagramWords}
-use Rattle.msc_command.specs.declared.tasks.ImportWords.{ImportWords}
-use Rattle.msc_command.specs.declared.tasks.Look.{Look}
-use Rattle.msc_command.specs.declared.tasks.Quieting.{Quieting}
-use Rattle.msc_command.specs.declared.tasks.Readying.{Readying}
-use Rattle.msc_command.specs.declared.tasks.ScenarioWords.{ScenarioWords}
-use Rattle.msc_command.specs.declared.tasks.Ask.TheVariants.{Check, Quiet, Explain, Run, List as Listing, Ready}
-use Rattle.msc_command.specs.declared.tasks.Form.{Form}
-use Rattle.msc_command.specs.declared.tasks.Form.TheVariants as forms
+use Rattle.msc_command.specs.declared.tasks.ReverseArgs.{ReverseArgs}
+use Rattle.msc_command.specs.declared.tasks.ExplainArgs.{ExplainArgs}
+use Rattle.msc_command.specs.declared.tasks.DiagramArgs.{DiagramArgs}
+use Rattle.msc_command.specs.declared.tasks.ImportArgs.{ImportArgs}
+use Rattle.msc_command.specs.declared.tasks.EventStyle.{EventStyle}
+use Rattle.msc_command.specs.declared.tasks.QuietArgs.{QuietArgs}
+use Rattle.msc_command.specs.declared.tasks.ReadyArgs.{ReadyArgs}
+use Rattle.msc_command.specs.declared.tasks.ScenarioArgs.{ScenarioArgs}
+use Rattle.msc_command.specs.declared.tasks.ChartCommand.TheVariants.{Check, Quiet, Explain, Run, List as Listing, Ready}
+use Rattle.msc_command.specs.declared.tasks.Format.{Format}
+use Rattle.msc_command.specs.declared.tasks.Format.TheVariants as formats
 use Rattle.msc_command.specs.declared.tasks.Task.{Task}
 use Rattle.msc_command.specs.declared.tasks.Task.TheVariants.{Read, Chart, Draw, Import, Scenarios}
-use Rattle.msc_command.specs.declared.words.Verb.{Verb}
-use Rattle.msc_command.specs.declared.words.Verb.TheVariants as verbs
-use Rattle.msc_command.specs.declared.words.Word.{Word}
-use Rattle.msc_command.specs.declared.words.Word.TheVariants as words
+use Rattle.msc_command.specs.declared.words.CommandName.{CommandName}
+use Rattle.msc_command.specs.declared.words.CommandName.TheVariants as command_names
+use Rattle.msc_command.specs.declared.words.ArgName.{ArgName}
+use Rattle.msc_command.specs.declared.words.ArgName.TheVariants as words
 use Rattle.msc_command.specs.Importing.{gives_choices, gives_rounds, title_of}
-use Rattle.msc_command.specs.Words.{form_of_word, word_name}
+use Rattle.msc_command.specs.Words.{format_of_word, arg_word}
 
 -- the architecture that the words name
 abbrev pub architecture : Found → Option Queues
-architecture found = option_and_then queues_of_word (first_value found (word_name words.Queues))
+architecture found = option_and_then queues_of_word (first_value found (arg_word words.Queues))
 
 -- whether a flag stands among the words
 pub record IsFlag (found : Found) (id : List ℕ) (given : Bool) : Type 0 where
@@ -101,12 +101,12 @@ pub record IsNumberGiven (found : Found) (id : List ℕ) (n : Option ℕ) : Type
       → n ≡ Some (digits_value 10 (without_leading_plus text))
 
 -- an option with a value stands
-abbrev pub stands : Found → Word → Bool
-stands found word = is_some (first_value found (word_name word))
+abbrev pub stands : Found → ArgName → Bool
+stands found word = is_some (first_value found (arg_word word))
 
 -- the values of an option, of all its uses
-abbrev pub words_of : Found → List ℕ → List (List ℕ)
-words_of found id = option_map_or raw_values (matched_of found id) []
+abbrev pub args_of : Found → List ℕ → List (List ℕ)
+args_of found id = option_map_or raw_values (matched_of found id) []
 
 -- a kind of races is among these words
 abbrev pub names_kind : List (List ℕ) → RaceKind → Bool
@@ -114,7 +114,7 @@ names_kind words kind = list_any (λ word. bytes_eq word (kind_word kind)) words
 
 -- the kinds of races that the words leave out
 abbrev pub AreAllowed : Found → KindSet → Type 0
-AreAllowed found set = (kind : RaceKind) → has_kind set kind ≡ names_kind (words_of found (word_name words.Allow)) kind
+AreAllowed found set = (kind : RaceKind) → has_kind set kind ≡ names_kind (args_of found (arg_word words.Allow)) kind
 
 -- how many races are listed and shown where no option says: more than any chart has
 abbrev pub unlimited : ℕ
@@ -125,43 +125,43 @@ abbrev pub default_patience : ℕ
 default_patience = 1000000000
 
 -- what the words ask of races, of which so many are shown by runs where no word says it
-pub record IsQuestion (found : Found) (shown : ℕ) (q : Question) : Type 0 where
-  pub closest : IsFlag found (word_name words.Closest) q.closest
-  pub why : IsFlag found (word_name words.Why) q.why
+pub record AreCheckOptions (found : Found) (shown : ℕ) (q : CheckOptions) : Type 0 where
+  pub closest : IsFlag found (arg_word words.Closest) q.closest
+  pub why : IsFlag found (arg_word words.Why) q.why
   pub allowed : AreAllowed found q.allowed
-  pub most : IsOptionNumber found (word_name words.Most) unlimited q.most
-  pub show : IsOptionNumber found (word_name words.Show) shown q.show
-  pub short : IsFlag found (word_name words.Short) q.short
+  pub most : IsOptionNumber found (arg_word words.Most) unlimited q.most
+  pub show : IsOptionNumber found (arg_word words.Show) shown q.show
+  pub short : IsFlag found (arg_word words.Short) q.short
 
 -- the form that a word names: text, where none does
-abbrev pub form_named : Option (List ℕ) → Form
-form_named None = forms.Text
-form_named (Some word) = unwrap_or (form_of_word word) forms.Text
+abbrev pub format_named : Option (List ℕ) → Format
+format_named None = formats.Text
+format_named (Some word) = unwrap_or (format_of_word word) formats.Text
 
 -- the form of the answer that the words name
-abbrev pub form : Found → Form
-form found = form_named (first_value found (word_name words.Format))
+abbrev pub format : Found → Format
+format found = format_named (first_value found (arg_word words.ChartFormat))
 
 -- how the words want an answer to speak
-pub record IsLook (found : Found) (look : Look) : Type 0 where
-  pub places : IsFlag found (word_name words.Places) look.places
-  pub words_wanted : IsFlag found (word_name words.Words) look.words
+pub record IsEventStyle (found : Found) (event_style : EventStyle) : Type 0 where
+  pub places : IsFlag found (arg_word words.Places) event_style.places
+  pub words_wanted : IsFlag found (arg_word words.Words) event_style.words
 
 -- what the words of `check` ask of the races under an architecture
-pub record IsChecking (found : Found) (shown : ℕ) (c : Checking) : Type 0 where
+pub record AreCheckArgs (found : Found) (shown : ℕ) (c : CheckArgs) : Type 0 where
   pub architecture_is : architecture found ≡ Some c.queues
-  pub question : IsQuestion found shown c.question
-  pub accept : IsFlag found (word_name words.Accept) c.accept
-  pub again : IsFlag found (word_name words.Again) c.again
-  pub form_is : c.form ≡ form found
-  pub look : IsLook found c.look
+  pub options : AreCheckOptions found shown c.options
+  pub accept : IsFlag found (arg_word words.Accept) c.accept
+  pub again : IsFlag found (arg_word words.Again) c.again
+  pub format_is : c.format ≡ format found
+  pub event_style : IsEventStyle found c.event_style
 
 -- what the words of `check` ask the status to tell alone
-pub record IsQuieting (found : Found) (x : Quieting) : Type 0 where
+pub record AreQuietArgs (found : Found) (x : QuietArgs) : Type 0 where
   pub architecture_is : architecture found ≡ Some x.queues
   pub allowed : AreAllowed found x.allowed
-  pub accept : IsFlag found (word_name words.Accept) x.accept
-  pub again : IsFlag found (word_name words.Again) x.again
+  pub accept : IsFlag found (arg_word words.Accept) x.accept
+  pub again : IsFlag found (arg_word words.Again) x.again
 
 -- the words of `check` are of a diagram
 abbrev pub is_of_scenarios : Found → Bool
@@ -188,20 +188,20 @@ abbrev pub is_limit : ℕ → Bool
 is_limit n = nat_le 1 n && nat_le n 4096
 
 -- what the words of `explain` ask of two events under an architecture
-pub record IsExplaining (found : Found) (x : Explaining) : Type 0 where
+pub record AreExplainArgs (found : Found) (x : ExplainArgs) : Type 0 where
   pub architecture_is : architecture found ≡ Some x.queues
-  pub first : IsEventWord found (word_name words.FirstEvent) x.first
-  pub second : IsEventWord found (word_name words.SecondEvent) x.second
-  pub short : IsFlag found (word_name words.Short) x.short
-  pub look : IsLook found x.look
+  pub first : IsEventWord found (arg_word words.FirstEvent) x.first
+  pub second : IsEventWord found (arg_word words.SecondEvent) x.second
+  pub short : IsFlag found (arg_word words.Short) x.short
+  pub event_style : IsEventStyle found x.event_style
 
 -- what the words of `ready` ask of ready instances under an architecture
-pub record IsReadying (found : Found) (x : Readying) : Type 0 where
+pub record AreReadyArgs (found : Found) (x : ReadyArgs) : Type 0 where
   pub architecture_is : architecture found ≡ Some x.queues
-  pub only : map (λ word. word.now) x.only.now ≡ words_of found (word_name words.Only)
-  pub show : IsOptionNumber found (word_name words.ShowSticks) unlimited x.show
-  pub again : IsFlag found (word_name words.Again) x.again
-  pub look : IsLook found x.look
+  pub only : map (λ word. word.now) x.only.now ≡ args_of found (arg_word words.Only)
+  pub show : IsOptionNumber found (arg_word words.ShowSticks) unlimited x.show
+  pub again : IsFlag found (arg_word words.Again) x.again
+  pub event_style : IsEventStyle found x.event_style
 
 -- the file that a word names: the input, where none does
 abbrev pub file_of_word : Option (List ℕ) → List ℕ
@@ -210,19 +210,19 @@ file_of_word (Some word) = word
 
 -- the file that the words name
 abbrev pub file_of : Found → List ℕ
-file_of found = file_of_word (first_value found (word_name words.File))
+file_of found = file_of_word (first_value found (arg_word words.File))
 
 -- the words ask for a picture in this form
-abbrev pub IsDrawnForm : Found → PictureForm → Type 0
-IsDrawnForm found pictures.Text = IsFlag found (word_name words.Svg) false
-IsDrawnForm found pictures.Svg = IsFlag found (word_name words.Svg) true
+abbrev pub IsDrawnFormat : Found → PictureFormat → Type 0
+IsDrawnFormat found pictures.Text = IsFlag found (arg_word words.Svg) false
+IsDrawnFormat found pictures.Svg = IsFlag found (arg_word words.Svg) true
 
 -- what the words of `reverse` ask for
-pub record IsReversing (found : Found) (r : Reversing) : Type 0 where
+pub record AreReverseArgs (found : Found) (r : ReverseArgs) : Type 0 where
   pub architecture_is : architecture found ≡ Some r.queues
-  pub first : IsEventWord found (word_name words.FirstEvent) r.first
-  pub second : IsEventWord found (word_name words.SecondEvent) r.second
-  pub form : IsDrawnForm found r.form
+  pub first : IsEventWord found (arg_word words.FirstEvent) r.first
+  pub second : IsEventWord found (arg_word words.SecondEvent) r.second
+  pub format : IsDrawnFormat found r.format
 
 -- the language that a word names: what the text tells, where none does
 abbrev pub language_named : Option (List ℕ) → Language
@@ -246,7 +246,7 @@ par_named (Some word) = pars.Drawn
 
 -- what the name of a chart is made of: a word, and where none stands the title of the file
 abbrev pub chart_named : Found → List ℕ
-chart_named found = unwrap_or (first_value found (word_name words.Name)) (title_of (file_of found))
+chart_named found = unwrap_or (first_value found (arg_word words.Name)) (title_of (file_of found))
 
 -- a word for choices gives none
 abbrev pub lacks_choices : Option (List ℕ) → Bool
@@ -254,74 +254,74 @@ lacks_choices None = false
 lacks_choices (Some word) = not (gives_choices word)
 
 -- what the words say of a diagram
-pub record IsDiagram (found : Found) (x : DiagramWords) : Type 0 where
-  pub language : x.language ≡ language_named (first_value found (word_name words.From))
-  pub fence : IsNumberGiven found (word_name words.Fence) x.fence
-  pub cross : x.cross ≡ cross_named (first_value found (word_name words.Cross))
-  pub own : x.manner.own ≡ own_named (first_value found (word_name words.Own))
-  pub par : x.manner.par ≡ par_named (first_value found (word_name words.Par))
+pub record IsDiagram (found : Found) (x : DiagramArgs) : Type 0 where
+  pub language : x.language ≡ language_named (first_value found (arg_word words.From))
+  pub fence : IsNumberGiven found (arg_word words.Fence) x.fence
+  pub cross : x.cross ≡ cross_named (first_value found (arg_word words.Cross))
+  pub own : x.manner.own ≡ own_named (first_value found (arg_word words.Own))
+  pub par : x.manner.par ≡ par_named (first_value found (arg_word words.Par))
   pub name : x.name.now ≡ chart_named found
 
 -- what the words of `import` ask for
-pub record IsImporting (found : Found) (x : ImportWords) : Type 0 where
+pub record IsImporting (found : Found) (x : ImportArgs) : Type 0 where
   pub diagram : IsDiagram found x.diagram
-  pub choose : option_map (λ c. c.now) x.choose ≡ first_value found (word_name words.Choose)
-  pub gives : lacks_choices (first_value found (word_name words.Choose)) ≡ false
-  pub list : IsFlag found (word_name words.Listed) x.list
+  pub choose : option_map (λ c. c.now) x.choose ≡ first_value found (arg_word words.Choose)
+  pub gives : lacks_choices (first_value found (arg_word words.Choose)) ≡ false
+  pub list : IsFlag found (arg_word words.Listed) x.list
 
--- how many races of a diagram are shown by runs, if no word gives a number: all if the words ask for a run in
--- words or for a short one, else none
+-- how many races of a diagram are shown by runs, if no word gives a number: all if the words ask
+-- for a run in words or for a short one, else none
 pub record AreRunsShown (found : Found) (shown : ℕ) : Type 0 where
   pub in_words : Bool
-  pub words_wanted : IsFlag found (word_name words.Words) in_words
+  pub words_wanted : IsFlag found (arg_word words.Words) in_words
   pub short : Bool
-  pub short_wanted : IsFlag found (word_name words.Short) short
+  pub short_wanted : IsFlag found (arg_word words.Short) short
   pub number : shown ≡ cond (in_words || short) unlimited 0
 
 -- what the words of `check` ask of the scenarios of a diagram
-pub record IsSurvey (found : Found) (x : ScenarioWords) : Type 0 where
+pub record IsSurvey (found : Found) (x : ScenarioArgs) : Type 0 where
   pub diagram : IsDiagram found x.diagram
-  pub rounds : option_map (λ r. r.now) x.rounds ≡ first_value found (word_name words.Rounds)
-  pub gives : lacks_rounds (first_value found (word_name words.Rounds)) ≡ false
-  pub limit : IsOptionNumber found (word_name words.Limit) default_limit x.limit
+  pub rounds : option_map (λ r. r.now) x.rounds ≡ first_value found (arg_word words.Rounds)
+  pub gives : lacks_rounds (first_value found (arg_word words.Rounds)) ≡ false
+  pub limit : IsOptionNumber found (arg_word words.Limit) default_limit x.limit
   pub within : is_limit x.limit ≡ true
   pub shown : ℕ
   pub runs : AreRunsShown found shown
-  pub checking : IsChecking found shown x.checking
-  pub unmarked : x.checking.accept ≡ false
-  pub once : x.checking.again ≡ false
-  pub quiet : IsFlag found (word_name words.Quiet) x.quiet
+  pub check_args : AreCheckArgs found shown x.check_args
+  pub unmarked : x.check_args.accept ≡ false
+  pub once : x.check_args.again ≡ false
+  pub quiet : IsFlag found (arg_word words.Quiet) x.quiet
 
 -- the words of `check` are of a chart: none of them is of diagrams
 abbrev pub IsOfChart : Found → Type 0
 IsOfChart found = (is_of_scenarios found ≡ false) × (lacks_from found ≡ false)
 
 -- What the words behind a command ask for. What is to be quiet is told by the status alone.
-abbrev pub AsksFor : Verb → Found → Task → Type 0
-AsksFor verbs.Read found Read = Unit {0}
-AsksFor verbs.Check found (Chart (Check c)) =
-    IsOfChart found × IsFlag found (word_name words.Quiet) false × IsChecking found unlimited c
-AsksFor verbs.Check found (Chart (Quiet x)) =
-    IsOfChart found × IsFlag found (word_name words.Quiet) true × IsQuieting found x
-AsksFor verbs.Check found (Scenarios x) = (is_of_scenarios found ≡ true) × IsSurvey found x
-AsksFor verbs.Explain found (Chart (Explain x)) = IsExplaining found x
-AsksFor verbs.Run found (Chart (Run queues patience)) =
-    IsOptionNumber found (word_name words.Patience) default_patience patience
+abbrev pub AsksFor : CommandName → Found → Task → Type 0
+AsksFor command_names.Read found Read = Unit {0}
+AsksFor command_names.Check found (Chart (Check c)) =
+    IsOfChart found × IsFlag found (arg_word words.Quiet) false × AreCheckArgs found unlimited c
+AsksFor command_names.Check found (Chart (Quiet x)) =
+    IsOfChart found × IsFlag found (arg_word words.Quiet) true × AreQuietArgs found x
+AsksFor command_names.Check found (Scenarios x) = (is_of_scenarios found ≡ true) × IsSurvey found x
+AsksFor command_names.Explain found (Chart (Explain x)) = AreExplainArgs found x
+AsksFor command_names.Run found (Chart (Run queues patience)) =
+    IsOptionNumber found (arg_word words.Patience) default_patience patience
     × (architecture found ≡ Some queues)
-AsksFor verbs.List found (Chart (Listing placed)) = IsFlag found (word_name words.Places) placed
-AsksFor verbs.Draw found (Draw (drawn.Chart queues form)) = (queues ≡ architecture found) × IsDrawnForm found form
-AsksFor verbs.Reverse found (Draw (drawn.Run r)) = IsReversing found r
-AsksFor verbs.Report found (Draw (drawn.Report queues)) = architecture found ≡ Some queues
-AsksFor verbs.Ready found (Chart (Ready x)) = IsReadying found x
-AsksFor verbs.Import found (Import x) = IsImporting found x
-AsksFor verb found task = ⊥
+AsksFor command_names.List found (Chart (Listing placed)) = IsFlag found (arg_word words.Places) placed
+AsksFor command_names.Draw found (Draw (drawn.Chart queues format)) = (queues ≡ architecture found) × IsDrawnFormat found format
+AsksFor command_names.Reverse found (Draw (drawn.Run r)) = AreReverseArgs found r
+AsksFor command_names.Report found (Draw (drawn.Report queues)) = architecture found ≡ Some queues
+AsksFor command_names.Ready found (Chart (Ready x)) = AreReadyArgs found x
+AsksFor command_names.Import found (Import x) = IsImporting found x
+AsksFor command_name found task = ⊥
 
 -- words stand that exclude each other: that places are told, and that no more than plain lines are
 pub record IsTwofold (found : Found) (twofold : Bool) : Type 0 where
   pub places : Bool
   pub plain : Bool
-  pub wants : IsFlag found (word_name words.Places) places
-  pub forbids : IsFlag found (word_name words.Plain) plain
+  pub wants : IsFlag found (arg_word words.Places) places
+  pub forbids : IsFlag found (arg_word words.Plain) plain
   pub both : twofold ≡ (places && plain)
 
 -- whether what is said of a refusal is told behind its line: where places are asked for, and on a
@@ -333,6 +333,6 @@ tells_notes places plain terminal = places || (terminal && not plain)
 pub record WantsNotes (found : Found) (terminal notes : Bool) : Type 0 where
   pub places : Bool
   pub plain : Bool
-  pub wants : IsFlag found (word_name words.Places) places
-  pub forbids : IsFlag found (word_name words.Plain) plain
+  pub wants : IsFlag found (arg_word words.Places) places
+  pub forbids : IsFlag found (arg_word words.Plain) plain
   pub is : notes ≡ tells_notes places plain terminal

@@ -2,7 +2,7 @@
 use Rattle.std.specs.Prelude.{◌≡◌, ℕ, List, Result, Ok, Err, codes}
 use Rattle.msc_draw.specs.Pictures.{IsNoRace, PrintsPicture, PrintsReversal}
 use Rattle.msc_html.specs.Findings.{PrintsReport}
-use Rattle.msc_judge.specs.declared.page.Page.{Page}
+use Rattle.msc_print.specs.declared.page.Page.{Page}
 use Rattle.msc_parser.specs.Grammar.{Tree}
 use Rattle.msc_report.specs.declared.fault.Fault.TheVariants.{Memory}
 use Rattle.msc_report.specs.declared.pair.NamedFault.TheVariants.{NoRace}
@@ -14,7 +14,7 @@ use Rattle.msc_command.specs.declared.ending.Status.{Status}
 use Rattle.msc_command.specs.declared.ending.Status.TheVariants.{Done}
 use Rattle.msc_command.specs.declared.tasks.Drawn.{Drawn}
 use Rattle.msc_command.specs.declared.tasks.Drawn.TheVariants.{Chart, Run, Report}
-use Rattle.msc_command.specs.declared.tasks.Reversing.{Reversing}
+use Rattle.msc_command.specs.declared.tasks.ReverseArgs.{ReverseArgs}
 
 -- the version of the program
 abbrev pub version : List ℕ
@@ -22,17 +22,17 @@ version = codes "0.2.0"
 
 -- what is drawn of the chart of a draft
 abbrev pub PrintsDrawn : Drawn → Tree → SourceText → List ℕ → Type 0
-PrintsDrawn (Chart queues form) draft s printed = PrintsPicture draft s.chart queues form printed
+PrintsDrawn (Chart queues format) draft s printed = PrintsPicture draft s.chart queues format printed
 PrintsDrawn (Run r) draft s printed =
-    (e f : ℕ) × AreTwoNamed s r.first r.second e f × PrintsReversal draft s.chart r.queues r.form e f printed
+    (e f : ℕ) × AreTwoNamed s r.first r.second e f × PrintsReversal draft s.chart r.queues r.format e f printed
 PrintsDrawn (Report queues) draft s printed = PrintsReport draft s.chart queues version printed
 
 -- the two events that are named are no race
-abbrev pub AreNoRace : Reversing → SourceText → Type 0
+abbrev pub AreNoRace : ReverseArgs → SourceText → Type 0
 AreNoRace r s = (e f : ℕ) × AreTwoNamed s r.first r.second e f × IsNoRace s.chart r.queues e f
 
 -- why a run can't be drawn: the names are those of no two events, or these are no race
-abbrev pub RefusesReversal : Reversing → SourceText → Refusal → Type 0
+abbrev pub RefusesReversal : ReverseArgs → SourceText → Refusal → Type 0
 RefusesReversal r s (refusals.Pair (NoRace a b)) = (a ≡ r.first) × (b ≡ r.second) × AreNoRace r s
 RefusesReversal r s (refusals.Pair fault) = IsNamedFault s r.first r.second fault
 RefusesReversal r s refusal = ⊥

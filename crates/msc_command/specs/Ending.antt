@@ -1,10 +1,10 @@
 -- How a run of the program ends.
 use Rattle.std.specs.Prelude.{ℕ, Bool, true, false, List}
-use Rattle.msc_chart.specs.declared.fault.TwiceFault.{TwiceFault}
-use Rattle.msc_chart.specs.declared.fault.TwiceFault.TheVariants as rounds
+use Rattle.msc_chart.specs.declared.fault.UnrollFault.{UnrollFault}
+use Rattle.msc_chart.specs.declared.fault.UnrollFault.TheVariants as rounds
 use Rattle.msc_report.specs.declared.fault.Fault.{Fault}
 use Rattle.msc_report.specs.declared.fault.Fault.TheVariants.{Parse, Chart, NotStarted, Memory, Device}
-use Rattle.msc_report.specs.Texts.{fault_line, instance_fault_line, mark_fault_line, pair_fault_line, twice_fault_line}
+use Rattle.msc_report.specs.Texts.{fault_line, instance_fault_line, mark_fault_line, pair_fault_line, unroll_fault_line}
 use Rattle.msc_diagram.specs.Faults.{import_refusal_line}
 use Rattle.msc_import.specs.Importing.{seen}
 use Rattle.msc_mermaid.specs.declared.fault.ImportFault.{ImportFault}
@@ -59,7 +59,7 @@ of_marks (marks.Reason at) = refusals.Mark (marks.Reason at)
 of_marks marks.Memory = refusals.Fault Memory
 
 -- how a chart ends of which two rounds are none
-abbrev pub of_rounds : TwiceFault → Refusal
+abbrev pub of_rounds : UnrollFault → Refusal
 of_rounds rounds.TooManyMessages = refusals.Rounds rounds.TooManyMessages
 of_rounds rounds.TooManyActions = refusals.Rounds rounds.TooManyActions
 of_rounds rounds.Memory = refusals.Fault Memory
@@ -78,5 +78,5 @@ refusal_line (refusals.Fault f) = fault_line f
 refusal_line (refusals.Pair f) = pair_fault_line f
 refusal_line (refusals.Mark f) = mark_fault_line f
 refusal_line (refusals.Instance name) = instance_fault_line name.now
-refusal_line (refusals.Rounds f) = twice_fault_line f
+refusal_line (refusals.Rounds f) = unroll_fault_line f
 refusal_line (refusals.Import e) = import_refusal_line (seen e)

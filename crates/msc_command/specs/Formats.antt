@@ -1,20 +1,20 @@
 -- In which format the races of a chart are told.
 use Rattle.std.specs.Prelude.{◌≡◌, ℕ, List}
-use Rattle.msc_text.specs.declared.judging.Format.{Format}
-use Rattle.msc_text.specs.declared.judging.Format.TheVariants as formats
-use Rattle.msc_command.specs.Sited.{HasSites, IsStyle}
-use Rattle.msc_command.specs.declared.tasks.Checking.{Checking}
-use Rattle.msc_command.specs.declared.tasks.Form.{Form}
-use Rattle.msc_command.specs.declared.tasks.Form.TheVariants as forms
-use Rattle.msc_command.specs.declared.tasks.Look.{Look}
+use Rattle.msc_text.specs.declared.judging.ChartFormat.{ChartFormat}
+use Rattle.msc_text.specs.declared.judging.ChartFormat.TheVariants as chart_formats
+use Rattle.msc_command.specs.Sited.{HasEventPositions, IsStyle}
+use Rattle.msc_command.specs.declared.tasks.CheckArgs.{CheckArgs}
+use Rattle.msc_command.specs.declared.tasks.Format.{Format}
+use Rattle.msc_command.specs.declared.tasks.Format.TheVariants as formats
+use Rattle.msc_command.specs.declared.tasks.EventStyle.{EventStyle}
 
 -- the format of a form, for the text of a file of this name
-abbrev pub IsFormatIn : Form → Look → List ℕ → List ℕ → Format → Type 0
-IsFormatIn forms.Text look file text (formats.Lines style) = IsStyle look file text style
-IsFormatIn forms.Count look file text (formats.Count name) = name.now ≡ file
-IsFormatIn forms.Lines look file text (formats.Editor sites) = HasSites file text sites.now
-IsFormatIn form look file text format = ⊥
+abbrev pub IsFormatIn : Format → EventStyle → List ℕ → List ℕ → ChartFormat → Type 0
+IsFormatIn formats.Text event_style file text (chart_formats.Lines style) = IsStyle event_style file text style
+IsFormatIn formats.Count event_style file text (chart_formats.Count name) = name.now ≡ file
+IsFormatIn formats.Lines event_style file text (chart_formats.Editor event_positions) = HasEventPositions file text event_positions.now
+IsFormatIn format event_style file text chart_format = ⊥
 
 -- the format that is asked for
-abbrev pub IsFormat : Checking → List ℕ → List ℕ → Format → Type 0
-IsFormat c file text format = IsFormatIn c.form c.look file text format
+abbrev pub IsFormat : CheckArgs → List ℕ → List ℕ → ChartFormat → Type 0
+IsFormat c file text chart_format = IsFormatIn c.format c.event_style file text chart_format

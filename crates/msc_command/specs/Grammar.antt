@@ -13,14 +13,14 @@ use Rattle.clap.specs.declared.error.kind.ErrorKind.{ErrorKind}
 use Rattle.msc_chart.specs.Architectures.{queues_word}
 use Rattle.msc_chart.specs.declared.queue.Queues.TheVariants.{Pair, Mailbox, Single}
 use Rattle.msc_command.specs.declared.grammar.Choices.{Choices}
-use Rattle.msc_command.specs.declared.tasks.Form.TheVariants as forms
-use Rattle.msc_command.specs.declared.words.Takes.{Takes}
-use Rattle.msc_command.specs.declared.words.Takes.TheVariants as takes
-use Rattle.msc_command.specs.declared.words.Verb.{Verb}
-use Rattle.msc_command.specs.declared.words.Word.{Word}
-use Rattle.msc_command.specs.Words.{form_word, takes_of, verb_name, verb_of_word, verbs, word_name, words_of, cross_words, language_words, own_words, par_words}
-use Rattle.msc_reason.specs.Lacks.{kind_word}
-use Rattle.msc_reason.specs.declared.lack.RaceKind.TheVariants.{Early, Queues, Unordered, Overtaken}
+use Rattle.msc_command.specs.declared.tasks.Format.TheVariants as formats
+use Rattle.msc_command.specs.declared.words.ValueKind.{ValueKind}
+use Rattle.msc_command.specs.declared.words.ValueKind.TheVariants as value_kind
+use Rattle.msc_command.specs.declared.words.CommandName.{CommandName}
+use Rattle.msc_command.specs.declared.words.ArgName.{ArgName}
+use Rattle.msc_command.specs.Words.{format_word, value_kind_of, command_word, command_of_word, command_names, arg_word, args_of, cross_words, language_words, own_words, par_words}
+use Rattle.msc_reason.specs.Causes.{kind_word}
+use Rattle.msc_reason.specs.declared.cause.RaceKind.TheVariants.{Early, Queues, Unordered, Overtaken}
 
 -- the words of the architectures
 abbrev pub architecture_words : List Text
@@ -31,8 +31,8 @@ abbrev pub kind_words : List Text
 kind_words = kind_word Early ∷ kind_word Queues ∷ kind_word Unordered ∷ kind_word Overtaken ∷ []
 
 -- the words of the forms of an answer
-abbrev pub form_words : List Text
-form_words = form_word forms.Text ∷ form_word forms.Count ∷ form_word forms.Lines ∷ []
+abbrev pub format_words : List Text
+format_words = format_word formats.Text ∷ format_word formats.Count ∷ format_word formats.Lines ∷ []
 
 -- an argument is read by a rule
 abbrev pub IsArgument : Rule → Arg → Type 0
@@ -98,7 +98,7 @@ names_rule name = record (new_rule name) {
 pub record Parsers : Type 0 where
   pub architectures : ValueParser
   pub kinds : ValueParser
-  pub forms : ValueParser
+  pub formats : ValueParser
   pub languages : ValueParser
   pub owns : ValueParser
   pub crosses : ValueParser
@@ -109,7 +109,7 @@ abbrev pub parsers_of : Choices → Parsers
 parsers_of lent = record {
   architectures = Names lent.architectures.words;
   kinds = Names lent.kinds.words;
-  forms = Names lent.forms.words;
+  formats = Names lent.formats.words;
   languages = Names lent.languages.words;
   owns = Names lent.owns.words;
   crosses = Names lent.crosses.words;
@@ -117,37 +117,37 @@ parsers_of lent = record {
 }
 
 -- how a word of this name that takes this is read
-abbrev pub rule_by : Parsers → Text → Takes → Rule
-rule_by p name takes.File = file_rule name
-rule_by p name takes.Event = file_rule name
-rule_by p name takes.Nothing = flag_rule name
-rule_by p name takes.NothingOrQ = letter_rule name
-rule_by p name takes.Number = number_rule name
-rule_by p name takes.Architecture = needed_rule name p.architectures
-rule_by p name takes.ArchitectureIfAny = choice_rule name p.architectures
-rule_by p name takes.Kinds = choices_rule name p.kinds
-rule_by p name takes.Form = choice_rule name p.forms
-rule_by p name takes.Names = names_rule name
-rule_by p name takes.Language = choice_rule name p.languages
-rule_by p name takes.Choices = text_rule name
-rule_by p name takes.Rounds = text_rule name
-rule_by p name takes.Name = text_rule name
-rule_by p name takes.Own = choice_rule name p.owns
-rule_by p name takes.Cross = choice_rule name p.crosses
-rule_by p name takes.Par = choice_rule name p.pars
+abbrev pub rule_by : Parsers → Text → ValueKind → Rule
+rule_by p name value_kind.File = file_rule name
+rule_by p name value_kind.Event = file_rule name
+rule_by p name value_kind.Nothing = flag_rule name
+rule_by p name value_kind.NothingOrQ = letter_rule name
+rule_by p name value_kind.Number = number_rule name
+rule_by p name value_kind.Architecture = needed_rule name p.architectures
+rule_by p name value_kind.ArchitectureIfAny = choice_rule name p.architectures
+rule_by p name value_kind.Kinds = choices_rule name p.kinds
+rule_by p name value_kind.Format = choice_rule name p.formats
+rule_by p name value_kind.Names = names_rule name
+rule_by p name value_kind.Language = choice_rule name p.languages
+rule_by p name value_kind.Choices = text_rule name
+rule_by p name value_kind.Rounds = text_rule name
+rule_by p name value_kind.Name = text_rule name
+rule_by p name value_kind.Own = choice_rule name p.owns
+rule_by p name value_kind.Cross = choice_rule name p.crosses
+rule_by p name value_kind.Par = choice_rule name p.pars
 
 -- how a word behind a command is read
-abbrev pub rule_of_word : Parsers → Word → Rule
-rule_of_word p word = rule_by p (word_name word) (takes_of word)
+abbrev pub rule_of_arg : Parsers → ArgName → Rule
+rule_of_arg p word = rule_by p (arg_word word) (value_kind_of word)
 
 -- a command with these words behind it
-abbrev pub with_words : Parsers → App → List Word → App
+abbrev pub with_words : Parsers → App → List ArgName → App
 with_words p app [] = app
-with_words p app (word ∷ words) = with_words p (with_rule app (rule_of_word p word)) words
+with_words p app (word ∷ words) = with_words p (with_rule app (rule_of_arg p word)) words
 
 -- a command of the program
-abbrev pub command_of : Parsers → Verb → App
-command_of p verb = with_words p (new_app (verb_name verb)) (words_of verb)
+abbrev pub command_of : Parsers → CommandName → App
+command_of p command_name = with_words p (new_app (command_word command_name)) (args_of command_name)
 
 -- `msc` alone, which has a version and wants one of its commands
 abbrev pub bare_command : App
@@ -156,33 +156,33 @@ bare_command = record (new_app (codes "msc")) {
 }
 
 -- a program with these commands
-abbrev pub with_commands : Parsers → App → List Verb → App
+abbrev pub with_commands : Parsers → App → List CommandName → App
 with_commands p app [] = app
-with_commands p app (verb ∷ rest) = with_commands p (with_subcommand app (command_of p verb).top) rest
+with_commands p app (command_name ∷ rest) = with_commands p (with_subcommand app (command_of p command_name).top) rest
 
 -- `msc` with its commands
 abbrev pub whole_command : Parsers → App
-whole_command p = with_commands p bare_command verbs
+whole_command p = with_commands p bare_command command_names
 
 -- the command that words name, behind the program's name
-abbrev pub begun_by : List Text → Option Verb
-begun_by words = option_and_then verb_of_word (slice_get words 1)
+abbrev pub begun_by : List Text → Option CommandName
+begun_by words = option_and_then command_of_word (slice_get words 1)
 
 -- the commands of which `clap` is told for words: the one that they name, and else all
-abbrev pub verbs_for : List Text → List Verb
-verbs_for words = option_map_or (λ verb. verb ∷ []) (begun_by words) verbs
+abbrev pub commands_for : List Text → List CommandName
+commands_for words = option_map_or (λ command_name. command_name ∷ []) (begun_by words) command_names
 
 -- a parser takes just these words
 abbrev pub IsOneOf : List Text → ValueParser → Type 0
 IsOneOf words parser = (names : Bor (List (Bor Text)))
     × (parser ≡ Names names) × (map (λ name. name.now) names.now ≡ words)
 
--- the parsers take the words of architectures, of kinds, of forms, of languages, and of what arrows and
--- parallel branches are
+-- the parsers take the words of architectures, of kinds, of forms, of languages, and of what arrows
+-- and parallel branches are
 pub record AreParsers (p : Parsers) : Type 0 where
   pub architectures : IsOneOf architecture_words p.architectures
   pub kinds : IsOneOf kind_words p.kinds
-  pub forms : IsOneOf form_words p.forms
+  pub formats : IsOneOf format_words p.formats
   pub languages : IsOneOf language_words p.languages
   pub owns : IsOneOf own_words p.owns
   pub crosses : IsOneOf cross_words p.crosses

@@ -9,11 +9,11 @@ use Rattle.msc_scenarios.specs.declared.TheConstants.{ROUND_LIMIT}
 use Rattle.msc_import.specs.declared.importing.Imported.{Imported}
 use Rattle.msc_import.specs.Drafting.{IsReadAgain}
 use Rattle.msc_import.specs.Importing.{Refusal as Said, Wanted, imported, seen}
-use Rattle.msc_judge.specs.declared.page.Page.{Page}
+use Rattle.msc_print.specs.declared.page.Page.{Page}
 use Rattle.msc_parser.specs.Canonical.{canonical}
 use Rattle.msc_parser.specs.Grammar.{Tree}
 use Rattle.msc_report.specs.declared.fault.Fault.TheVariants.{Chart, Memory}
-use Rattle.msc_place.specs.Sites.{sites_in}
+use Rattle.msc_place.specs.EventPositions.{event_positions_in}
 use Rattle.msc_report.specs.Lists.{listed_text}
 use Rattle.msc_source.specs.declared.fault.SourceFault.{SourceFault}
 use Rattle.msc_source.specs.declared.fault.SourceFault.TheVariants as sources
@@ -21,8 +21,8 @@ use Rattle.msc_command.specs.declared.ending.Refusal.{Refusal}
 use Rattle.msc_command.specs.declared.ending.Refusal.TheVariants as refusals
 use Rattle.msc_command.specs.declared.ending.Status.{Status}
 use Rattle.msc_command.specs.declared.ending.Status.TheVariants.{Done}
-use Rattle.msc_command.specs.declared.tasks.DiagramWords.{DiagramWords}
-use Rattle.msc_command.specs.declared.tasks.ImportWords.{ImportWords}
+use Rattle.msc_command.specs.declared.tasks.DiagramArgs.{DiagramArgs}
+use Rattle.msc_command.specs.declared.tasks.ImportArgs.{ImportArgs}
 
 -- a decimal digit
 abbrev pub is_digit : ℕ → Bool
@@ -112,13 +112,13 @@ abbrev pub before_ending : List ℕ → List ℕ
 before_ending name =
     cond (nat_le (length name) (behind_dot name)) name (take (length name - behind_dot name - 1) name)
 
--- what the name of a chart is made of where no word says it: the name of the file, without its folder and
--- its last ending
+-- what the name of a chart is made of where no word says it: the name of the file, without its
+-- folder and its last ending
 abbrev pub title_of : List ℕ → List ℕ
 title_of file = before_ending (behind_folder file)
 
 -- what is wanted of a text, with these choices
-abbrev pub wanted_with : DiagramWords → Option (List ℕ) → Wanted
+abbrev pub wanted_with : DiagramArgs → Option (List ℕ) → Wanted
 wanted_with x choices = record {
   language = x.language;
   fence = x.fence;
@@ -129,15 +129,15 @@ wanted_with x choices = record {
 }
 
 -- what is wanted of a text
-abbrev pub wanted_of : ImportWords → Wanted
+abbrev pub wanted_of : ImportArgs → Wanted
 wanted_of x = wanted_with x.diagram (option_map (λ c. choices_in c.now) x.choose)
 
--- What is printed of what was imported: its canonical text, or of its chart the list of its events, with
--- the places of their arrows in the file.
+-- What is printed of what was imported: its canonical text, or of its chart the list of its events,
+-- with the places of their arrows in the file.
 abbrev pub PrintsImported : Bool → List ℕ → Imported → List ℕ → Type 0
 PrintsImported false file is printed = printed ≡ canonical is.draft
 PrintsImported true file is printed =
-    IsFaultless is.draft × (printed ≡ listed_text (chart_of is.draft) (Some (sites_in file is.places)))
+    IsFaultless is.draft × (printed ≡ listed_text (chart_of is.draft) (Some (event_positions_in file is.places)))
 
 -- the chart of a draft, or its first fault, or memory ran out
 abbrev pub IsChartOrFault : Tree → Result Drawing SourceFault → Type 0
@@ -164,25 +164,26 @@ abbrev pub IsImportAs : Wanted → List ℕ → Result Imported Refusal → Type
 IsImportAs x text (Ok is) = (imported x text ≡ Ok is) × IsReadAgain is.draft
 IsImportAs x text (Err refusal) = IsNotImported (imported x text) refusal
 
-abbrev pub IsImport : ImportWords → List ℕ → Result Imported Refusal → Type 0
+abbrev pub IsImport : ImportArgs → List ℕ → Result Imported Refusal → Type 0
 IsImport x text answer = IsImportAs (wanted_of x) text answer
 
--- what is printed of the text of a file: what is imported of it, whose text is read again as that draft
-abbrev pub PrintsImport : ImportWords → List ℕ → List ℕ → List ℕ → Type 0
+-- what is printed of the text of a file: what is imported of it, whose text is read again as that
+-- draft
+abbrev pub PrintsImport : ImportArgs → List ℕ → List ℕ → List ℕ → Type 0
 PrintsImport x file text printed =
     (is : Imported) × (imported (wanted_of x) text ≡ Ok is) × IsReadAgain is.draft × PrintsImported x.list file is printed
 
 -- why nothing is printed: nothing is imported. What is imported is a chart
-abbrev pub RefusesImport : ImportWords → List ℕ → Refusal → Type 0
+abbrev pub RefusesImport : ImportArgs → List ℕ → Refusal → Type 0
 RefusesImport x text (refusals.Import e) = imported (wanted_of x) text ≡ Err (seen e)
 RefusesImport x text refusal = ⊥
 
 -- the page with what is imported, or why there is none
-abbrev pub IsImportedOn : ImportWords → List ℕ → List ℕ → Result Page Refusal → Type 0
+abbrev pub IsImportedOn : ImportArgs → List ℕ → List ℕ → Result Page Refusal → Type 0
 IsImportedOn x file text (Ok page) = PrintsImport x file text page.bytes.items
 IsImportedOn x file text (Err (refusals.Fault Memory)) = Unit {0}
 IsImportedOn x file text (Err refusal) = RefusesImport x text refusal
 
 -- what is printed, and how the run ends
-abbrev pub PrintsImportPage : ImportWords → List ℕ → List ℕ → Status → List ℕ → Type 0
+abbrev pub PrintsImportPage : ImportArgs → List ℕ → List ℕ → Status → List ℕ → Type 0
 PrintsImportPage x file text status printed = (status ≡ Done) × PrintsImport x file text printed

@@ -14,13 +14,13 @@ use Rattle.msc_command.specs.Grammar.{AreAnswered, AreTaken}
 use Rattle.msc_command.specs.Misuses.{IsNoCommand}
 use Rattle.msc_command.specs.Refused.{IsRefusalText}
 use Rattle.msc_command.specs.Surveys.{many_in, Surveys}
-use Rattle.msc_command.specs.Words.{verb_of_word}
+use Rattle.msc_command.specs.Words.{command_of_word}
 use Rattle.msc_command.specs.declared.ending.Refusal.{Refusal}
 use Rattle.msc_command.specs.declared.ending.Status.{Status}
 use Rattle.msc_command.specs.declared.ending.Status.TheVariants.{Done, Races, Refused, Unfinished, Failed}
-use Rattle.msc_command.specs.declared.tasks.ScenarioWords.{ScenarioWords}
+use Rattle.msc_command.specs.declared.tasks.ScenarioArgs.{ScenarioArgs}
 use Rattle.msc_command.specs.declared.tasks.Task.{Task}
-use Rattle.msc_command.specs.declared.words.Verb.{Verb}
+use Rattle.msc_command.specs.declared.words.CommandName.{CommandName}
 
 -- a text is all bytes of the input where FILE is `-`
 abbrev pub IsFileText : Found → Option (List ℕ) → Option (List ℕ) → List ℕ → Type 0
@@ -28,12 +28,12 @@ IsFileText found rest left text = file_of found ≡ codes "-" → IsReadFrom res
 
 -- no command has this name, or the words behind it are none
 abbrev pub IsNamedVainly : List ℕ → Found → Type 0
-IsNamedVainly name found = MatchOption (verb_of_word name) (Unit {0}) (λ verb. IsNoCommand verb found)
+IsNamedVainly name found = MatchOption (command_of_word name) (Unit {0}) (λ command_name. IsNoCommand command_name found)
 
 -- the words behind a command of this name ask for a task
 abbrev pub IsNamed : List ℕ → Found → Task → Type 0
 IsNamed name found task =
-    (verb : Verb) × (verb_of_word name ≡ Some verb) × AsksFor verb found task × IsTwofold found false
+    (command_name : CommandName) × (command_of_word name ≡ Some command_name) × AsksFor command_name found task × IsTwofold found false
 
 -- nothing is done for words that name no task
 pub record AsksNothing {W : Type 0} (name : List ℕ) (found : Found) (status : Status) (old new : W) : Type 0 where
@@ -57,8 +57,8 @@ Obeys contents name found status reads old new =
 abbrev pub LeavesInput : {R : Type 0} → Found → R → R → Type 0
 LeavesInput found input_old input_new = file_of found ≢ codes "-" → input_new ≡ input_old
 
--- A command that the words name is obeyed, by what was found of the words behind it. What is known of
--- the bytes that the input has left, and of those of the output, is given by functions.
+-- A command that the words name is obeyed, by what was found of the words behind it. What is known
+-- of the bytes that the input has left, and of those of the output, is given by functions.
 abbrev pub ObeysNamed : {R W : Type 0} → (R → Option (List ℕ)) → (W → Option (List ℕ)) → Text × List Row → Status → R → R → W → W → Type 0
 ObeysNamed remaining contents named status rest left old new =
     (found : Found) × (named.1 ≡ rows_of found)
@@ -92,15 +92,15 @@ Tells contents status old new =
     (task : Task) × (file : List ℕ) × (text : List ℕ) × (printed : List ℕ)
     × Prints task file text status printed × Appends (contents old) (contents new) printed
 
--- what is printed of all sequence diagrams of a Markdown text went behind the known bytes of a writer, if one of
--- them is refused
+-- what is printed of all sequence diagrams of a Markdown text went behind the known bytes of a
+-- writer, if one of them is refused
 abbrev pub TellsRefusedDiagram : {W : Type 0} → (W → Option (List ℕ)) → W → W → Type 0
 TellsRefusedDiagram contents old new =
-    (x : ScenarioWords) × (file : List ℕ) × (text : List ℕ) × (f : Markdown) × (many_in x text ≡ Some f) × (printed : List ℕ)
+    (x : ScenarioArgs) × (file : List ℕ) × (text : List ℕ) × (f : Markdown) × (many_in x text ≡ Some f) × (printed : List ℕ)
     × Surveys x file text f.numbers Done Refused printed × Appends (contents old) (contents new) printed
 
--- where a task is refused the writer has had no call, or has the lines of a refusal behind its known
--- bytes; where one of several diagrams is, it has what is printed of all of them there
+-- where a task is refused the writer has had no call, or has the lines of a refusal behind its
+-- known bytes; where one of several diagrams is, it has what is printed of all of them there
 abbrev pub TellsRefused : {W : Type 0} → (W → Option (List ℕ)) → W → W → Type 0
 TellsRefused contents old new =
     (new ≡ old) ⊎ (((file : List ℕ) × (text : List ℕ) × (refusal : Refusal) × (printed : List ℕ)

@@ -2,10 +2,10 @@
 use Rattle.std.specs.Prelude.{◌≡◌, ◌≢◌, ◌↔◌, ◌<◌, ℕ, Bool, false, List, [], Option, None, Some, IsTrue, get_or, length, map}
 use Rattle.msc_chart.specs.Drawings.{Drawing}
 use Rattle.msc_chart.specs.Lists.{Occurs, StandsAt}
-use Rattle.msc_command.specs.declared.tasks.Readying.{Readying}
+use Rattle.msc_command.specs.declared.tasks.ReadyArgs.{ReadyArgs}
 
 -- the names of the instances that are ready
-abbrev pub names_of : Readying → List (List ℕ)
+abbrev pub names_of : ReadyArgs → List (List ℕ)
 names_of x = map (λ name. name.now) x.only.now
 
 -- this is the first of the names that no instance has

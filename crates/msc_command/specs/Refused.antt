@@ -13,9 +13,9 @@ use Rattle.msc_report.specs.declared.fault.Fault.TheVariants.{Parse, Chart, Memo
 use Rattle.msc_command.specs.Ending.{refusal_line}
 use Rattle.msc_command.specs.declared.ending.Refusal.{Refusal}
 use Rattle.msc_command.specs.declared.ending.Refusal.TheVariants as refusals
-use Rattle.msc_command.specs.declared.tasks.Ask.TheVariants.{Check}
-use Rattle.msc_command.specs.declared.tasks.Form.{Form}
-use Rattle.msc_command.specs.declared.tasks.Form.TheVariants as forms
+use Rattle.msc_command.specs.declared.tasks.ChartCommand.TheVariants.{Check}
+use Rattle.msc_command.specs.declared.tasks.Format.{Format}
+use Rattle.msc_command.specs.declared.tasks.Format.TheVariants as formats
 use Rattle.msc_command.specs.declared.tasks.Task.{Task}
 use Rattle.msc_command.specs.declared.tasks.Task.TheVariants as tasks
 
@@ -32,14 +32,14 @@ IsPlaceOf text (refusals.Fault (Chart f)) place = (t : Tree) → HasDraft text t
 IsPlaceOf text (refusals.Mark f) place = place ≡ mark_place f
 IsPlaceOf text refusal place = place ≡ None
 
--- this is the position of a refusal of the text: of a fault of an import one on its line; else that of its
--- place, or the beginning of the text where it has none
+-- this is the position of a refusal of the text: of a fault of an import one on its line; else that
+-- of its place, or the beginning of the text where it has none
 abbrev pub IsRefusalPosition : List ℕ → Refusal → Position → Type 0
 IsRefusalPosition text (refusals.Import e) p = p.line ≡ fault_line e.fault
 IsRefusalPosition text refusal p = (place : Option ℕ) × IsPlaceOf text refusal place × IsFaultPosition text place p
 
--- The lines of a refusal of the text of a file: the first is its fixed line behind its position; notes and
--- further faults follow.
+-- The lines of a refusal of the text of a file: the first is its fixed line behind its position;
+-- notes and further faults follow.
 pub record IsRefusalText (file text : List ℕ) (refusal : Refusal) (printed : List ℕ) : Type 0 where
   pub position : Position
   pub stands : IsRefusalPosition text refusal position
@@ -47,29 +47,29 @@ pub record IsRefusalText (file text : List ℕ) (refusal : Refusal) (printed : L
   pub printed_is : printed ≡ error_text file position ++ (refusal_line refusal ++ more)
 
 -- what the output gets of a refusal in a form: its lines where these are for editors, else nothing
-abbrev pub TellsIn : {W : Type 0} → (W → Option (List ℕ)) → Form → List ℕ → List ℕ → Refusal → W → W → Type 0
-TellsIn contents forms.Lines file text refusal old new =
+abbrev pub TellsIn : {W : Type 0} → (W → Option (List ℕ)) → Format → List ℕ → List ℕ → Refusal → W → W → Type 0
+TellsIn contents formats.Lines file text refusal old new =
     (printed : List ℕ) × IsRefusalText file text refusal printed × Appends (contents old) (contents new) printed
-TellsIn contents form file text refusal old new = new ≡ old
+TellsIn contents format file text refusal old new = new ≡ old
 
--- the form of a task's answer
-abbrev pub form_of : Task → Form
-form_of (tasks.Chart (Check c)) = c.form
-form_of (tasks.Scenarios x) = cond x.quiet forms.Text x.checking.form
-form_of task = forms.Text
+-- the format of a task's answer
+abbrev pub format_of : Task → Format
+format_of (tasks.Chart (Check c)) = c.format
+format_of (tasks.Scenarios x) = cond x.quiet formats.Text x.check_args.format
+format_of task = formats.Text
 
 -- what the output gets of a refusal of a task
 abbrev pub TellsRefusal : {W : Type 0} → (W → Option (List ℕ)) → Task → List ℕ → List ℕ → Refusal → W → W → Type 0
-TellsRefusal contents task file text refusal old new = TellsIn contents (form_of task) file text refusal old new
+TellsRefusal contents task file text refusal old new = TellsIn contents (format_of task) file text refusal old new
 
--- of a file that could not be read the output gets nothing, but in lines for editors as much of them as
--- it took
-abbrev pub TellsUnreadIn : {W : Type 0} → Form → W → W → Type 0
-TellsUnreadIn forms.Lines old new = Unit {0}
-TellsUnreadIn form old new = new ≡ old
+-- of a file that could not be read the output gets nothing, but in lines for editors as much of
+-- them as it took
+abbrev pub TellsUnreadIn : {W : Type 0} → Format → W → W → Type 0
+TellsUnreadIn formats.Lines old new = Unit {0}
+TellsUnreadIn format old new = new ≡ old
 
 abbrev pub TellsUnread : {W : Type 0} → Task → W → W → Type 0
-TellsUnread task old new = TellsUnreadIn (form_of task) old new
+TellsUnread task old new = TellsUnreadIn (format_of task) old new
 
 -- memory ran out, or a device failed: nothing is refused
 abbrev pub is_spent : Refusal → Bool
@@ -78,20 +78,20 @@ is_spent (refusals.Fault Device) = true
 is_spent refusal = false
 
 -- what telling it answers: it was told, or memory ran out before that, or the output failed
-abbrev pub IsToldIn : {W : Type 0} → (W → Option (List ℕ)) → Form → List ℕ → List ℕ → Refusal → Result (Unit {0}) Refusal → W → W → Type 0
-IsToldIn contents form file text refusal (Ok u) old new = TellsIn contents form file text refusal old new
-IsToldIn contents form file text refusal (Err other) old new =
+abbrev pub IsToldIn : {W : Type 0} → (W → Option (List ℕ)) → Format → List ℕ → List ℕ → Refusal → Result (Unit {0}) Refusal → W → W → Type 0
+IsToldIn contents format file text refusal (Ok u) old new = TellsIn contents format file text refusal old new
+IsToldIn contents format file text refusal (Err other) old new =
     ((other ≡ refusals.Fault Memory) × (new ≡ old)) ⊎ (other ≡ refusals.Fault Device)
 
--- A refusal was told in a form, or memory ran out before that or the output failed, which is answered
--- then.
-abbrev pub TellsOr : {W : Type 0} → (W → Option (List ℕ)) → Form → List ℕ → List ℕ → Refusal → Refusal → W → W → Type 0
-TellsOr contents form file text refusal told old new =
-    ((told ≡ refusal) × TellsIn contents form file text refusal old new)
+-- A refusal was told in a form, or memory ran out before that or the output failed, which is
+-- answered then.
+abbrev pub TellsOr : {W : Type 0} → (W → Option (List ℕ)) → Format → List ℕ → List ℕ → Refusal → Refusal → W → W → Type 0
+TellsOr contents format file text refusal told old new =
+    ((told ≡ refusal) × TellsIn contents format file text refusal old new)
     ⊎ (((told ≡ refusals.Fault Memory) × (new ≡ old)) ⊎ (told ≡ refusals.Fault Device))
 
 -- what is answered where a task is refused: where nothing is, it is left as that
-abbrev pub TellsThat : {W : Type 0} → (W → Option (List ℕ)) → Form → List ℕ → List ℕ → Refusal → Refusal → W → W → Type 0
-TellsThat contents form file text refusal told old new =
+abbrev pub TellsThat : {W : Type 0} → (W → Option (List ℕ)) → Format → List ℕ → List ℕ → Refusal → Refusal → W → W → Type 0
+TellsThat contents format file text refusal told old new =
     ((is_spent refusal ≡ true) × (told ≡ refusal) × (new ≡ old))
-    ⊎ ((is_spent refusal ≡ false) × TellsOr contents form file text refusal told old new)
+    ⊎ ((is_spent refusal ≡ false) × TellsOr contents format file text refusal told old new)

@@ -1,22 +1,23 @@
--- What is answered of all sequence diagrams of a Markdown text: one after the other, in the order of their numbers.
+-- What is answered of all sequence diagrams of a Markdown text: one after the other, in the order
+-- of their numbers.
 use Rattle.std.specs.Prelude.{◌≡◌, ◌⊎◌, ◌-◌, ◌++◌, ◌||◌, ℕ, cond, nat_eq, nat_le, List, [], ◌∷◌, length, map, Option, None, Some, Result, Ok, Err, codes}
 use Rattle.std.specs.Fmt.{decimal}
 use Rattle.msc_import.specs.Drafting.{chart_name}
-use Rattle.msc_judge.specs.declared.question.Question.{Question}
+use Rattle.msc_judge.specs.declared.options.CheckOptions.{CheckOptions}
 use Rattle.msc_markdown.specs.Markdowns.{Found, markdown}
 use Rattle.msc_mermaid.specs.declared.fault.ImportFault.{ImportFault}
 use Rattle.msc_place.specs.Texts.{shown_byte}
 use Rattle.msc_report.specs.Texts.{text_line}
 use Rattle.msc_command.specs.Ending.{status_code}
-use Rattle.msc_command.specs.Refused.{form_of, IsRefusalText}
+use Rattle.msc_command.specs.Refused.{format_of, IsRefusalText}
 use Rattle.msc_command.specs.Scenarios.{draws_branches, BeginsAll, OfScenarios, PrintsCounted, RefusesScenarios}
 use Rattle.msc_command.specs.declared.ending.Refusal.{Refusal}
 use Rattle.msc_command.specs.declared.ending.Status.{Status}
 use Rattle.msc_command.specs.declared.ending.Status.TheVariants.{Refused}
 use Rattle.msc_command.specs.declared.scenarios.Surveyed.{Surveyed}
-use Rattle.msc_command.specs.declared.tasks.Form.{Form}
-use Rattle.msc_command.specs.declared.tasks.Form.TheVariants as forms
-use Rattle.msc_command.specs.declared.tasks.ScenarioWords.{ScenarioWords}
+use Rattle.msc_command.specs.declared.tasks.Format.{Format}
+use Rattle.msc_command.specs.declared.tasks.Format.TheVariants as formats
+use Rattle.msc_command.specs.declared.tasks.ScenarioArgs.{ScenarioArgs}
 use Rattle.msc_command.specs.declared.tasks.Task.TheVariants as tasks
 
 -- what a text holds that has sequence diagrams and is none itself
@@ -30,67 +31,68 @@ many_found None (Err fault) = None
 many_found (Some n) found = None
 
 -- what a text holds of which all sequence diagrams are checked, if they are
-abbrev pub many_in : ScenarioWords → List ℕ → Option Found
+abbrev pub many_in : ScenarioArgs → List ℕ → Option Found
 many_in x text = many_found x.diagram.fence (markdown text)
 
 -- the words for the diagram of this number
-abbrev pub at_block : ScenarioWords → ℕ → ScenarioWords
+abbrev pub at_block : ScenarioArgs → ℕ → ScenarioArgs
 at_block x n = record x { diagram = record x.diagram { fence = Some n } }
 
--- the words for the diagrams that follow so many listed races: `--most` and `--show` count over all diagrams
-abbrev pub question_behind : Question → ℕ → Question
-question_behind q listed = record q { most = q.most - listed; show = q.show - listed }
+-- the words for the diagrams that follow so many listed races: `--most` and `--show` count over all
+-- diagrams
+abbrev pub options_after : CheckOptions → ℕ → CheckOptions
+options_after q listed = record q { most = q.most - listed; show = q.show - listed }
 
-abbrev pub behind : ScenarioWords → ℕ → ScenarioWords
-behind x listed = record x { checking = record x.checking { question = question_behind x.checking.question listed } }
+abbrev pub behind : ScenarioArgs → ℕ → ScenarioArgs
+behind x listed = record x { check_args = record x.check_args { options = options_after x.check_args.options listed } }
 
 -- a name with the number of a diagram
 abbrev pub numbered : List ℕ → ℕ → List ℕ
 numbered name n = name ++ (codes "#" ++ decimal n)
 
 -- what is printed of the diagram of this number: as of the text with this number, but for the names
-abbrev pub PrintsBlock : ScenarioWords → List ℕ → List ℕ → ℕ → Surveyed → List ℕ → Type 0
+abbrev pub PrintsBlock : ScenarioArgs → List ℕ → List ℕ → ℕ → Surveyed → List ℕ → Type 0
 PrintsBlock x file text n one printed =
     OfScenarios (at_block x n) file text (λ name scenarios.
-    PrintsCounted x.quiet x.checking (numbered file n) (numbered name n) (draws_branches (at_block x n) text) scenarios one printed)
+    PrintsCounted x.quiet x.check_args (numbered file n) (numbered name n) (draws_branches (at_block x n) text) scenarios one printed)
 
 -- what that begins with, where memory ran out
-abbrev pub BeginsBlock : ScenarioWords → List ℕ → List ℕ → ℕ → List ℕ → Type 0
+abbrev pub BeginsBlock : ScenarioArgs → List ℕ → List ℕ → ℕ → List ℕ → Type 0
 BeginsBlock x file text n printed =
     OfScenarios (at_block x n) file text (λ name scenarios.
-    BeginsAll x.quiet x.checking (numbered file n) (numbered name n) (draws_branches (at_block x n) text) scenarios printed)
+    BeginsAll x.quiet x.check_args (numbered file n) (numbered name n) (draws_branches (at_block x n) text) scenarios printed)
 
 -- what is printed of a diagram of this name that is refused, in the file of this one
-abbrev pub refused_in : Form → List ℕ → List ℕ → List ℕ
-refused_in forms.Text name file = codes "diagram " ++ (name ++ codes "\nrefused\n")
-refused_in forms.Count name file = codes "refused " ++ text_line (map shown_byte file)
-refused_in forms.Lines name file = []
+abbrev pub refused_in : Format → List ℕ → List ℕ → List ℕ
+refused_in formats.Text name file = codes "diagram " ++ (name ++ codes "\nrefused\n")
+refused_in formats.Count name file = codes "refused " ++ text_line (map shown_byte file)
+refused_in formats.Lines name file = []
 
-abbrev pub refused_text : ScenarioWords → List ℕ → ℕ → List ℕ
+abbrev pub refused_text : ScenarioArgs → List ℕ → ℕ → List ℕ
 refused_text x file n =
-    cond x.quiet [] (refused_in x.checking.form (numbered (chart_name x.diagram.name.now) n) (numbered file n))
+    cond x.quiet [] (refused_in x.check_args.format (numbered (chart_name x.diagram.name.now) n) (numbered file n))
 
 -- behind that stand the lines of the refusal, where these are for editors
-abbrev pub AreLinesIn : Form → List ℕ → List ℕ → Refusal → List ℕ → Type 0
-AreLinesIn forms.Lines file text refusal lines = IsRefusalText file text refusal lines
-AreLinesIn form file text refusal lines = lines ≡ []
+abbrev pub AreLinesIn : Format → List ℕ → List ℕ → Refusal → List ℕ → Type 0
+AreLinesIn formats.Lines file text refusal lines = IsRefusalText file text refusal lines
+AreLinesIn format file text refusal lines = lines ≡ []
 
 -- the diagram of this number is refused, which is told so
-pub record TellsRefusedBlock (x : ScenarioWords) (file text : List ℕ) (n : ℕ) (one : Surveyed) (printed : List ℕ) : Type 0 where
+pub record TellsRefusedBlock (x : ScenarioArgs) (file text : List ℕ) (n : ℕ) (one : Surveyed) (printed : List ℕ) : Type 0 where
   pub refusal : Refusal
   pub refused : RefusesScenarios (at_block x n) text refusal
   pub ends : one ≡ record { status = Refused; listed = 0 }
   pub lines : List ℕ
-  pub are : AreLinesIn (form_of (tasks.Scenarios x)) file text refusal lines
+  pub are : AreLinesIn (format_of (tasks.Scenarios x)) file text refusal lines
   pub text_is : printed ≡ refused_text x file n ++ lines
 
 -- what is printed of the diagram of this number, refused or not, and how its check ends
-abbrev pub SurveysOne : ScenarioWords → List ℕ → List ℕ → ℕ → Surveyed → List ℕ → Type 0
+abbrev pub SurveysOne : ScenarioArgs → List ℕ → List ℕ → ℕ → Surveyed → List ℕ → Type 0
 SurveysOne x file text n one printed =
     PrintsBlock x file text n one printed ⊎ TellsRefusedBlock x file text n one printed
 
 -- what that begins with, where memory ran out
-abbrev pub BeginsOne : ScenarioWords → List ℕ → List ℕ → ℕ → List ℕ → Type 0
+abbrev pub BeginsOne : ScenarioArgs → List ℕ → List ℕ → ℕ → List ℕ → Type 0
 BeginsOne x file text n printed =
     BeginsBlock x file text n printed
     ⊎ (((refusal : Refusal) × RefusesScenarios (at_block x n) text refusal) × (printed ≡ refused_text x file n))
@@ -99,17 +101,17 @@ BeginsOne x file text n printed =
 abbrev pub worse : Status → Status → Status
 worse one other = cond (nat_le (status_code other) (status_code one)) one other
 
--- What is printed of the diagrams of these numbers, one after the other, and how the run ends, if the worst end
--- before them is this one.
-unfoldable pub Surveys : ScenarioWords → List ℕ → List ℕ → List ℕ → Status → Status → List ℕ → Type 0
+-- What is printed of the diagrams of these numbers, one after the other, and how the run ends, if
+-- the worst end before them is this one.
+unfoldable pub Surveys : ScenarioArgs → List ℕ → List ℕ → List ℕ → Status → Status → List ℕ → Type 0
 Surveys x file text [] worst status printed = (status ≡ worst) × (printed ≡ [])
 Surveys x file text (n ∷ ns) worst status printed =
     (one : Surveyed) × (first rest : List ℕ) × SurveysOne x file text n one first
     × Surveys (behind x one.listed) file text ns (worse worst one.status) status rest × (printed ≡ first ++ rest)
 
--- what that begins with, where memory ran out: all of some first diagrams, and then nothing or what begins what
--- is printed of the next
-unfoldable pub BeginsSurvey : ScenarioWords → List ℕ → List ℕ → List ℕ → List ℕ → Type 0
+-- what that begins with, where memory ran out: all of some first diagrams, and then nothing or what
+-- begins what is printed of the next
+unfoldable pub BeginsSurvey : ScenarioArgs → List ℕ → List ℕ → List ℕ → List ℕ → Type 0
 BeginsSurvey x file text [] printed = printed ≡ []
 BeginsSurvey x file text (n ∷ ns) printed =
     (printed ≡ []) ⊎ (BeginsOne x file text n printed

@@ -1,137 +1,137 @@
 -- The commands of the program and the words behind them.
 use Rattle.std.specs.Prelude.{ℕ, List, [], ◌∷◌, Option, codes, find}
 use Rattle.std.specs.Str.{bytes_eq}
-use Rattle.msc_command.specs.declared.tasks.Form.{Form}
-use Rattle.msc_command.specs.declared.tasks.Form.TheVariants as forms
-use Rattle.msc_command.specs.declared.words.Takes.{Takes}
-use Rattle.msc_command.specs.declared.words.Takes.TheVariants as takes
-use Rattle.msc_command.specs.declared.words.Verb.{Verb}
-use Rattle.msc_command.specs.declared.words.Verb.TheVariants.{Read, Check, Explain, Run, List as Listing, Draw, Reverse, Report, Ready, Import}
-use Rattle.msc_command.specs.declared.words.Word.{Word}
-use Rattle.msc_command.specs.declared.words.Word.TheVariants.{File, Queues, QueuesIfAny, Closest, Why, Most, Show, ShowSticks, Only, Allow, Format, Quiet, Words, Short, Accept, Again, Patience, Places, Plain, Svg, FirstEvent, SecondEvent, From, Choose, Listed, Name, Own, Cross, Par, ScenariosFrom, Rounds, Limit, Fence}
+use Rattle.msc_command.specs.declared.tasks.Format.{Format}
+use Rattle.msc_command.specs.declared.tasks.Format.TheVariants as formats
+use Rattle.msc_command.specs.declared.words.ValueKind.{ValueKind}
+use Rattle.msc_command.specs.declared.words.ValueKind.TheVariants as value_kind
+use Rattle.msc_command.specs.declared.words.CommandName.{CommandName}
+use Rattle.msc_command.specs.declared.words.CommandName.TheVariants.{Read, Check, Explain, Run, List as Listing, Draw, Reverse, Report, Ready, Import}
+use Rattle.msc_command.specs.declared.words.ArgName.{ArgName}
+use Rattle.msc_command.specs.declared.words.ArgName.TheVariants.{File, Queues, QueuesIfAny, Closest, Why, Most, Show, ShowSticks, Only, Allow, ChartFormat, Quiet, Words, Short, Accept, Again, Patience, Places, Plain, Svg, FirstEvent, SecondEvent, From, Choose, Listed, Name, Own, Cross, Par, ScenariosFrom, Rounds, Limit, Fence}
 
 -- the name of a word behind a command
-abbrev pub word_name : Word → List ℕ
-word_name File = codes "FILE"
-word_name Queues = codes "queues"
-word_name QueuesIfAny = codes "queues"
-word_name Closest = codes "closest"
-word_name Why = codes "why"
-word_name Most = codes "most"
-word_name Show = codes "show"
-word_name ShowSticks = codes "show"
-word_name Only = codes "only"
-word_name Allow = codes "allow"
-word_name Format = codes "format"
-word_name Quiet = codes "quiet"
-word_name Words = codes "words"
-word_name Short = codes "short"
-word_name Accept = codes "accept"
-word_name Again = codes "again"
-word_name Patience = codes "patience"
-word_name Places = codes "places"
-word_name Plain = codes "plain"
-word_name Svg = codes "svg"
-word_name From = codes "from"
-word_name Choose = codes "choose"
-word_name Listed = codes "list"
-word_name Name = codes "name"
-word_name Own = codes "self"
-word_name Cross = codes "cross"
-word_name Par = codes "par"
-word_name ScenariosFrom = codes "from"
-word_name Rounds = codes "rounds"
-word_name Limit = codes "limit"
-word_name Fence = codes "fence"
-word_name FirstEvent = codes "E"
-word_name SecondEvent = codes "F"
+abbrev pub arg_word : ArgName → List ℕ
+arg_word File = codes "FILE"
+arg_word Queues = codes "queues"
+arg_word QueuesIfAny = codes "queues"
+arg_word Closest = codes "closest"
+arg_word Why = codes "why"
+arg_word Most = codes "most"
+arg_word Show = codes "show"
+arg_word ShowSticks = codes "show"
+arg_word Only = codes "only"
+arg_word Allow = codes "allow"
+arg_word ChartFormat = codes "format"
+arg_word Quiet = codes "quiet"
+arg_word Words = codes "words"
+arg_word Short = codes "short"
+arg_word Accept = codes "accept"
+arg_word Again = codes "again"
+arg_word Patience = codes "patience"
+arg_word Places = codes "places"
+arg_word Plain = codes "plain"
+arg_word Svg = codes "svg"
+arg_word From = codes "from"
+arg_word Choose = codes "choose"
+arg_word Listed = codes "list"
+arg_word Name = codes "name"
+arg_word Own = codes "self"
+arg_word Cross = codes "cross"
+arg_word Par = codes "par"
+arg_word ScenariosFrom = codes "from"
+arg_word Rounds = codes "rounds"
+arg_word Limit = codes "limit"
+arg_word Fence = codes "fence"
+arg_word FirstEvent = codes "E"
+arg_word SecondEvent = codes "F"
 
 -- what it is, and takes
-abbrev pub takes_of : Word → Takes
-takes_of File = takes.File
-takes_of Queues = takes.Architecture
-takes_of QueuesIfAny = takes.ArchitectureIfAny
-takes_of Closest = takes.Nothing
-takes_of Why = takes.Nothing
-takes_of Most = takes.Number
-takes_of Show = takes.Number
-takes_of ShowSticks = takes.Number
-takes_of Only = takes.Names
-takes_of Allow = takes.Kinds
-takes_of Format = takes.Form
-takes_of Quiet = takes.NothingOrQ
-takes_of Words = takes.Nothing
-takes_of Short = takes.Nothing
-takes_of Accept = takes.Nothing
-takes_of Again = takes.Nothing
-takes_of Patience = takes.Number
-takes_of Places = takes.Nothing
-takes_of Plain = takes.Nothing
-takes_of Svg = takes.Nothing
-takes_of From = takes.Language
-takes_of Choose = takes.Choices
-takes_of Listed = takes.Nothing
-takes_of Name = takes.Name
-takes_of Own = takes.Own
-takes_of Cross = takes.Cross
-takes_of Par = takes.Par
-takes_of ScenariosFrom = takes.Language
-takes_of Rounds = takes.Rounds
-takes_of Limit = takes.Number
-takes_of Fence = takes.Number
-takes_of FirstEvent = takes.Event
-takes_of SecondEvent = takes.Event
+abbrev pub value_kind_of : ArgName → ValueKind
+value_kind_of File = value_kind.File
+value_kind_of Queues = value_kind.Architecture
+value_kind_of QueuesIfAny = value_kind.ArchitectureIfAny
+value_kind_of Closest = value_kind.Nothing
+value_kind_of Why = value_kind.Nothing
+value_kind_of Most = value_kind.Number
+value_kind_of Show = value_kind.Number
+value_kind_of ShowSticks = value_kind.Number
+value_kind_of Only = value_kind.Names
+value_kind_of Allow = value_kind.Kinds
+value_kind_of ChartFormat = value_kind.Format
+value_kind_of Quiet = value_kind.NothingOrQ
+value_kind_of Words = value_kind.Nothing
+value_kind_of Short = value_kind.Nothing
+value_kind_of Accept = value_kind.Nothing
+value_kind_of Again = value_kind.Nothing
+value_kind_of Patience = value_kind.Number
+value_kind_of Places = value_kind.Nothing
+value_kind_of Plain = value_kind.Nothing
+value_kind_of Svg = value_kind.Nothing
+value_kind_of From = value_kind.Language
+value_kind_of Choose = value_kind.Choices
+value_kind_of Listed = value_kind.Nothing
+value_kind_of Name = value_kind.Name
+value_kind_of Own = value_kind.Own
+value_kind_of Cross = value_kind.Cross
+value_kind_of Par = value_kind.Par
+value_kind_of ScenariosFrom = value_kind.Language
+value_kind_of Rounds = value_kind.Rounds
+value_kind_of Limit = value_kind.Number
+value_kind_of Fence = value_kind.Number
+value_kind_of FirstEvent = value_kind.Event
+value_kind_of SecondEvent = value_kind.Event
 
 -- the name of a command
-abbrev pub verb_name : Verb → List ℕ
-verb_name Read = codes "read"
-verb_name Check = codes "check"
-verb_name Explain = codes "explain"
-verb_name Run = codes "run"
-verb_name Listing = codes "list"
-verb_name Draw = codes "draw"
-verb_name Reverse = codes "reverse"
-verb_name Report = codes "report"
-verb_name Ready = codes "ready"
-verb_name Import = codes "import"
+abbrev pub command_word : CommandName → List ℕ
+command_word Read = codes "read"
+command_word Check = codes "check"
+command_word Explain = codes "explain"
+command_word Run = codes "run"
+command_word Listing = codes "list"
+command_word Draw = codes "draw"
+command_word Reverse = codes "reverse"
+command_word Report = codes "report"
+command_word Ready = codes "ready"
+command_word Import = codes "import"
 
 -- all commands
-abbrev pub verbs : List Verb
-verbs = Read ∷ Check ∷ Explain ∷ Run ∷ Listing ∷ Draw ∷ Reverse ∷ Report ∷ Ready ∷ Import ∷ []
+abbrev pub command_names : List CommandName
+command_names = Read ∷ Check ∷ Explain ∷ Run ∷ Listing ∷ Draw ∷ Reverse ∷ Report ∷ Ready ∷ Import ∷ []
 
 -- the command of a name
-unfoldable pub verb_of_word : List ℕ → Option Verb
-verb_of_word name = find (λ verb. bytes_eq name (verb_name verb)) verbs
+unfoldable pub command_of_word : List ℕ → Option CommandName
+command_of_word name = find (λ command_name. bytes_eq name (command_word command_name)) command_names
 
 -- the words behind a command
-abbrev pub words_of : Verb → List Word
-words_of Read = Places ∷ Plain ∷ File ∷ []
-words_of Check =
-    Queues ∷ Closest ∷ Why ∷ Most ∷ Show ∷ Allow ∷ Accept ∷ Again ∷ Format ∷ Quiet ∷ Words ∷ Short
+abbrev pub args_of : CommandName → List ArgName
+args_of Read = Places ∷ Plain ∷ File ∷ []
+args_of Check =
+    Queues ∷ Closest ∷ Why ∷ Most ∷ Show ∷ Allow ∷ Accept ∷ Again ∷ ChartFormat ∷ Quiet ∷ Words ∷ Short
     ∷ ScenariosFrom ∷ Rounds ∷ Limit ∷ Fence ∷ Name ∷ Own ∷ Cross ∷ Par ∷ Places ∷ Plain ∷ File ∷ []
-words_of Explain = Queues ∷ Words ∷ Short ∷ Places ∷ Plain ∷ File ∷ FirstEvent ∷ SecondEvent ∷ []
-words_of Run = Queues ∷ Patience ∷ Places ∷ Plain ∷ File ∷ []
-words_of Listing = Places ∷ Plain ∷ File ∷ []
-words_of Draw = QueuesIfAny ∷ Svg ∷ Places ∷ Plain ∷ File ∷ []
-words_of Reverse = Queues ∷ Svg ∷ Places ∷ Plain ∷ File ∷ FirstEvent ∷ SecondEvent ∷ []
-words_of Report = Queues ∷ Places ∷ Plain ∷ File ∷ []
-words_of Ready = Queues ∷ Only ∷ ShowSticks ∷ Again ∷ Words ∷ Places ∷ Plain ∷ File ∷ []
-words_of Import =
+args_of Explain = Queues ∷ Words ∷ Short ∷ Places ∷ Plain ∷ File ∷ FirstEvent ∷ SecondEvent ∷ []
+args_of Run = Queues ∷ Patience ∷ Places ∷ Plain ∷ File ∷ []
+args_of Listing = Places ∷ Plain ∷ File ∷ []
+args_of Draw = QueuesIfAny ∷ Svg ∷ Places ∷ Plain ∷ File ∷ []
+args_of Reverse = Queues ∷ Svg ∷ Places ∷ Plain ∷ File ∷ FirstEvent ∷ SecondEvent ∷ []
+args_of Report = Queues ∷ Places ∷ Plain ∷ File ∷ []
+args_of Ready = Queues ∷ Only ∷ ShowSticks ∷ Again ∷ Words ∷ Places ∷ Plain ∷ File ∷ []
+args_of Import =
     From ∷ Fence ∷ Choose ∷ Listed ∷ Name ∷ Own ∷ Cross ∷ Par ∷ Places ∷ Plain ∷ File ∷ []
 
--- the word for the form of an answer
-abbrev pub form_word : Form → List ℕ
-form_word forms.Text = codes "text"
-form_word forms.Count = codes "count"
-form_word forms.Lines = codes "lines"
+-- the word for the format of an answer
+abbrev pub format_word : Format → List ℕ
+format_word formats.Text = codes "text"
+format_word formats.Count = codes "count"
+format_word formats.Lines = codes "lines"
 
 -- all forms
-abbrev pub forms_all : List Form
-forms_all = forms.Text ∷ forms.Count ∷ forms.Lines ∷ []
+abbrev pub formats_all : List Format
+formats_all = formats.Text ∷ formats.Count ∷ formats.Lines ∷ []
 
 -- the form of a word
-unfoldable pub form_of_word : List ℕ → Option Form
-form_of_word word = find (λ form. bytes_eq word (form_word form)) forms_all
+unfoldable pub format_of_word : List ℕ → Option Format
+format_of_word word = find (λ format. bytes_eq word (format_word format)) formats_all
 
 -- the words for the languages of texts
 abbrev pub language_words : List (List ℕ)

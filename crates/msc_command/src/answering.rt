@@ -1,5 +1,4 @@
-//! The answers of tasks: each reads the text once, makes its chart, and prints what the task
-//! computes of it.
+//! The answers to tasks: each reads the text once, makes its chart, and prints the answer.
 
 ghost use Rattle.std.specs.Prelude.{◌≡◌, ℕ, List, option_map, IfErr, Ok, OnOk};
 ghost use Rattle.std.specs.Io.KnownBytes.{Keeps};
@@ -12,7 +11,7 @@ ghost use Rattle.msc_command.specs.Formats.{IsFormat};
 ghost use Rattle.msc_command.specs.Importing.{PrintsImportPage, RefusesImport};
 ghost use Rattle.msc_command.specs.Marked.{AreMarked};
 ghost use Rattle.msc_command.specs.Rounds.{AreRounds};
-ghost use Rattle.msc_command.specs.Refused.{form_of, IsToldIn, TellsThat, TellsUnread};
+ghost use Rattle.msc_command.specs.Refused.{format_of, IsToldIn, TellsThat, TellsUnread};
 ghost use Rattle.msc_command.specs.Refused.{TellsUnreadIn};
 ghost use Rattle.msc_command.specs.Surveys.{BeginsOne, BeginsSurvey, Surveys, SurveysOne};
 ghost use Rattle.msc_markdown.specs.Markdowns.{markdown};
@@ -30,24 +29,25 @@ use crate::recorded::TellsFailure;
 use crate::refused::refusal_lines;
 use crate::rounds::rounds_of;
 use crate::scenarios::{Surveyed, check_scenarios};
-use crate::sited::{sites_of, style_of};
+use crate::sited::{event_positions_of, style_of};
 use crate::surveying::{behind, blocks_of, check_block, of_block, refused_page, worse};
 use crate::tasks::{
-    Ask, Checking, Drawn, Explaining, Form, ImportWords, Quieting, Readying, Request,
-    ScenarioWords, Task, form_of,
+    ChartCommand, CheckArgs, Drawn, ExplainArgs, Format, ImportArgs, QuietArgs, ReadyArgs, Request,
+    ScenarioArgs, Task, format_of,
 };
-use msc_chart::Chart;
+use msc_chart::Unrolled;
 use msc_instance::AlwaysOpen;
-use msc_judge::Page;
 use msc_mark::Marks;
 use msc_markdown::Markdown;
 use msc_parser::Draft;
-use msc_place::Sites;
+use msc_place::EventPositions;
 use msc_place::writing::write_file;
+use msc_print::Page;
 use msc_report::Fault;
 use msc_source::{Language, ReadFault, Reading, Source, read_all};
 use msc_text::{
-    Format, explain_pair, judge_chart, list_chart, passes_chart, write_reading, write_ready,
+    ChartFormat, CheckInput, ReadyQuery, explain_pair, judge_chart, list_chart, passes_chart,
+    write_reading, write_ready,
 };
 use msc_tool::print_execution;
 use std::alloc::Global;
@@ -56,7 +56,7 @@ use std::io::{Read, Write};
 use std::sync::Wait;
 use std::thread::Threads;
 
-/// Lets a page go out, and tells how the run ends then.
+/// Writes a page, and returns this status if that succeeds.
 fn put<O: Write>(output: &mut O, page: &Page, status: Status) -> Result<Status, Refusal<'static>>
     ensures { IsPut O.contents page.now.bytes.items status result output.old output.new }
 {
@@ -66,7 +66,7 @@ fn put<O: Write>(output: &mut O, page: &Page, status: Status) -> Result<Status, 
     }
 }
 
-/// Lets all that was written go out.
+/// Flushes the output.
 fn flush<O: Write>(output: &mut O) -> Result<(), Refusal<'static>>
     ensures kept { OnOk result (Keeps (O.contents output.old) (O.contents output.new)) }
     ensures failed { IfErr result (λ refusal. refusal ≡ Refusal.Fault Fault.Device) }
@@ -80,104 +80,129 @@ fn flush<O: Write>(output: &mut O) -> Result<(), Refusal<'static>>
 /// Prints the verdict on a text's chart in a format, with these marks and rounds.
 fn check_in<O: Write>(
     alloc: Global,
-    checking: Checking,
+    check_args: CheckArgs,
     marks: Option<&Marks>,
-    two: Option<&Chart>,
-    format: Format<'_>,
+    rounds: Option<&Unrolled<'_>>,
+    chart_format: ChartFormat<'_>,
     source: &Source,
     output: &mut O,
 ) -> Result<Status, Refusal<'static>>
-    requires marks { AreMarked checking.accept source.now.text (option_map (λ m. m.now) marks) }
-    requires two { AreRounds checking.again source.now.chart (option_map (λ c. c.now) two) }
-    ensures { (file : List ℕ) → IsFormat checking file source.now.text format.entry
-        → AnswersOf O.contents (Ask.Check checking) file source.now result output.old output.new }
+    requires marks { AreMarked check_args.accept source.now.text (option_map (λ m. m.now) marks) }
+    requires rounds { AreRounds check_args.again source.now.chart (option_map (λ u. u.now) rounds) }
+    ensures { (file : List ℕ) → IsFormat check_args file source.now.text chart_format.entry
+        → AnswersOf O.contents (ChartCommand.Check check_args) file source.now result output.old output.new }
 {
-    let (queues, question) = (checking.queues, checking.question);
-    let passed = judge_chart(
-        alloc,
-        source.chart(),
-        queues,
-        question,
-        marks,
-        two,
-        format,
-        output,
-    )?;
+    let input = CheckInput::of(source.chart(), check_args.queues, marks, rounds);
+    let passed = judge_chart(alloc, input, check_args.options, chart_format, output)?;
     Ok(ended_by(passed))
 }
 
-/// Prints the verdict on the chart of a text, which the file of this name holds.
+/// Prints the verdict on the chart of a text in the file of this name.
 fn check<O: Write>(
     alloc: Global,
-    checking: Checking,
+    check_args: CheckArgs,
     file: &str,
     source: &Source,
     output: &mut O,
 ) -> Result<Status, Refusal<'static>>
-    ensures { AnswersOf O.contents (Ask.Check checking) file.now source.now result
+    ensures { AnswersOf O.contents (ChartCommand.Check check_args) file.now source.now result
         output.old output.new }
 {
-    let marks = marks_of(alloc, checking.accept, source.text())?;
-    let two = rounds_of(alloc, checking.again, source.chart())?;
-    let (marks, two) = (marks.as_ref(), two.as_ref());
-    match checking.form {
-        Form::Text => {
-            let look = checking.look;
-            let sites = sites_of(alloc, look.places, file, source.text())?;
-            let style = style_of(look, sites.as_ref());
-            let format = Format::Lines(style);
-            check_in(alloc, checking, marks, two, format, source, output)
+    let marks = marks_of(alloc, check_args.accept, source.text())?;
+    let rounds = rounds_of(alloc, check_args.again, source.chart())?;
+    let (marks, rounds) = (marks.as_ref(), rounds.as_ref());
+    match check_args.format {
+        Format::Text => {
+            let event_style = check_args.event_style;
+            let event_positions = event_positions_of(
+                alloc,
+                event_style.places,
+                file,
+                source.text(),
+            )?;
+            let style = style_of(event_style, event_positions.as_ref());
+            let chart_format = ChartFormat::Lines(style);
+            check_in(
+                alloc,
+                check_args,
+                marks,
+                rounds,
+                chart_format,
+                source,
+                output,
+            )
         }
-        Form::Count => {
-            let format = Format::Count(file.as_bytes());
-            check_in(alloc, checking, marks, two, format, source, output)
+        Format::Count => {
+            let chart_format = ChartFormat::Count(file.as_bytes());
+            check_in(
+                alloc,
+                check_args,
+                marks,
+                rounds,
+                chart_format,
+                source,
+                output,
+            )
         }
-        Form::Lines => {
-            let sites = Sites::of(alloc, file.as_bytes(), source.text())?;
-            let format = Format::Editor(&sites);
-            check_in(alloc, checking, marks, two, format, source, output)
+        Format::Lines => {
+            let event_positions = EventPositions::of(alloc, file.as_bytes(), source.text())?;
+            let chart_format = ChartFormat::Editor(&event_positions);
+            check_in(
+                alloc,
+                check_args,
+                marks,
+                rounds,
+                chart_format,
+                source,
+                output,
+            )
         }
     }
 }
 
-/// Whether no race of a text's chart counts, nor one between its rounds where these are asked for,
-/// and no mark accepts none.
-fn quiet(alloc: Global, quieting: Quieting, source: &Source) -> Result<Status, Refusal<'static>>
+/// Whether no race of a text's chart counts, none is between its rounds if these are included, and
+/// each mark accepts a race.
+fn quiet(alloc: Global, quieting: QuietArgs, source: &Source) -> Result<Status, Refusal<'static>>
     ensures { TellsQuietly quieting source.now result }
 {
     let chart = source.chart();
     let marks = marks_of(alloc, quieting.accept, source.text())?;
-    let two = rounds_of(alloc, quieting.again, chart)?;
-    let (queues, allowed) = (quieting.queues, quieting.allowed);
-    let passes = passes_chart(alloc, chart, queues, allowed, marks.as_ref(), two.as_ref())?;
+    let rounds = rounds_of(alloc, quieting.again, chart)?;
+    let input = CheckInput::of(chart, quieting.queues, marks.as_ref(), rounds.as_ref());
+    let passes = passes_chart(alloc, input, quieting.allowed)?;
     Ok(ended_by(passes))
 }
 
-/// Writes why the first of two events of the chart of a text, of the file of this name, comes
-/// before the second, or how it need not.
+/// Writes why one event of the chart of a text in the file of this name comes before another, or a
+/// run in which it does not.
 fn explain<O: Write>(
     alloc: Global,
-    explaining: Explaining,
+    explaining: ExplainArgs,
     file: &str,
     source: &Source,
     output: &mut O,
 ) -> Result<Status, Refusal<'static>>
-    ensures { AnswersOf O.contents (Ask.Explain explaining) file.now source.now result
+    ensures { AnswersOf O.contents (ChartCommand.Explain explaining) file.now source.now result
         output.old output.new }
 {
     let (e, f) = match pair_named(alloc, source, explaining.first, explaining.second)? {
         Ok(pair) => pair,
         Err(fault) => return Err(Refusal::Pair(fault)),
     };
-    let sites = sites_of(alloc, explaining.look.places, file, source.text())?;
-    let style = style_of(explaining.look, sites.as_ref());
+    let event_positions = event_positions_of(
+        alloc,
+        explaining.event_style.places,
+        file,
+        source.text(),
+    )?;
+    let style = style_of(explaining.event_style, event_positions.as_ref());
     let (queues, short) = (explaining.queues, explaining.short);
     let (page, enforced) = explain_pair(alloc, source.chart(), queues, e, f, short, style)?;
     put(output, &page, ended_by(enforced))
 }
 
-/// Writes the events of the chart of a text, of the file of this name, with their places where that
-/// is wanted.
+/// Writes the events of the chart of a text in the file of this name, with their places if
+/// requested.
 fn list<O: Write>(
     alloc: Global,
     placed: bool,
@@ -185,24 +210,24 @@ fn list<O: Write>(
     source: &Source,
     output: &mut O,
 ) -> Result<Status, Refusal<'static>>
-    ensures { AnswersOf O.contents (Ask.List placed) file.now source.now result
+    ensures { AnswersOf O.contents (ChartCommand.List placed) file.now source.now result
         output.old output.new }
 {
-    let sites = sites_of(alloc, placed, file, source.text())?;
-    let page = list_chart(alloc, source.chart(), sites.as_ref())?;
+    let event_positions = event_positions_of(alloc, placed, file, source.text())?;
+    let page = list_chart(alloc, source.chart(), event_positions.as_ref())?;
     put(output, &page, Status::Done)
 }
 
-/// Writes whether a system of ready instances can stick, of the chart of a text, of the file of
+/// Writes whether a system of ready instances can stick, for the chart of a text in the file of
 /// this name.
 fn ready<'w, O: Write>(
     alloc: Global,
-    readying: Readying<'w>,
+    readying: ReadyArgs<'w>,
     file: &str,
     source: &Source,
     output: &mut O,
 ) -> Result<Status, Refusal<'w>>
-    ensures { AnswersOf O.contents (Ask.Ready readying.entry) file.now source.now result
+    ensures { AnswersOf O.contents (ChartCommand.Ready readying.entry) file.now source.now result
         output.old output.new }
 {
     let chart = source.chart();
@@ -211,20 +236,25 @@ fn ready<'w, O: Write>(
     }
     let lines = lines_named(alloc, chart, readying.only)?;
     let only = lent(&lines);
-    let two = rounds_of(alloc, readying.again, chart)?;
-    let two = two.as_ref();
-    let sites = sites_of(alloc, readying.look.places, file, source.text())?;
-    let style = style_of(readying.look, sites.as_ref());
-    let (queues, show) = (readying.queues, readying.show);
-    let finishes = write_ready(alloc, chart, two, queues, only, show, style, output)?;
+    let rounds = rounds_of(alloc, readying.again, chart)?;
+    let rounds = rounds.as_ref();
+    let event_positions = event_positions_of(
+        alloc,
+        readying.event_style.places,
+        file,
+        source.text(),
+    )?;
+    let style = style_of(readying.event_style, event_positions.as_ref());
+    let query = ReadyQuery::of(readying.queues, only, readying.show, style);
+    let finishes = write_ready(alloc, chart, rounds, query, output)?;
     Ok(ended_by(finishes))
 }
 
-/// Prints the answer to a task on the chart of a text, which the file of this name holds.
+/// Prints the answer to a task on the chart of a text in the file of this name.
 fn answer_chart<'w, R: Threads + Wait + Sync, O: Write>(
     rt: &R,
     alloc: Global,
-    ask: Ask<'w>,
+    ask: ChartCommand<'w>,
     file: &str,
     source: &Source,
     output: &mut O,
@@ -233,10 +263,10 @@ fn answer_chart<'w, R: Threads + Wait + Sync, O: Write>(
 {
     let chart = source.chart();
     match ask {
-        Ask::Check(checking) => check(alloc, checking, file, source, output),
-        Ask::Quiet(quieting) => quiet(alloc, quieting, source),
-        Ask::Explain(explaining) => explain(alloc, explaining, file, source, output),
-        Ask::Run(queues, patience) => {
+        ChartCommand::Check(check_args) => check(alloc, check_args, file, source, output),
+        ChartCommand::Quiet(quieting) => quiet(alloc, quieting, source),
+        ChartCommand::Explain(explaining) => explain(alloc, explaining, file, source, output),
+        ChartCommand::Run(queues, patience) => {
             let (page, finished) = print_execution(
                 rt,
                 alloc,
@@ -247,12 +277,12 @@ fn answer_chart<'w, R: Threads + Wait + Sync, O: Write>(
             )?;
             put(output, &page, finished_by(finished))
         }
-        Ask::List(placed) => list(alloc, placed, file, source, output),
-        Ask::Ready(readying) => ready(alloc, readying, file, source, output),
+        ChartCommand::List(placed) => list(alloc, placed, file, source, output),
+        ChartCommand::Ready(readying) => ready(alloc, readying, file, source, output),
     }
 }
 
-/// Lets what is drawn of a draft's chart go out.
+/// Writes a picture of a draft's chart, or its report.
 fn draw<O: Write>(
     alloc: Global,
     drawn: Drawn,
@@ -268,10 +298,10 @@ fn draw<O: Write>(
     put(output, &page, Status::Done)
 }
 
-/// Lets what is imported of the text of a file of this name go out.
+/// Writes the import of the text of a file of this name.
 fn import<O: Write>(
     alloc: Global,
-    words: ImportWords<'_>,
+    words: ImportArgs<'_>,
     file: &str,
     text: &[u8],
     output: &mut O,
@@ -283,7 +313,7 @@ fn import<O: Write>(
     put(output, &page, Status::Done)
 }
 
-/// Lets the lines of a refusal for editors go out.
+/// Writes the lines of a refusal for editors.
 fn tell_lines<O: Write>(
     alloc: Global,
     task: Task<'_>,
@@ -292,7 +322,7 @@ fn tell_lines<O: Write>(
     refusal: Refusal<'_>,
     output: &mut O,
 ) -> Result<(), Refusal<'static>>
-    ensures { IsToldIn O.contents Form.Lines file.now text.now refusal.entry result
+    ensures { IsToldIn O.contents Format.Lines file.now text.now refusal.entry result
         output.old output.new }
 {
     let page = refusal_lines(alloc, task, file, text, refusal)?;
@@ -300,7 +330,7 @@ fn tell_lines<O: Write>(
     flush(output)
 }
 
-/// Tells a refusal on the output, where its form has it there.
+/// Writes a refusal to the output, if its form requires it.
 fn tell_in<O: Write>(
     alloc: Global,
     task: Task<'_>,
@@ -309,17 +339,17 @@ fn tell_in<O: Write>(
     refusal: Refusal<'_>,
     output: &mut O,
 ) -> Result<(), Refusal<'static>>
-    ensures { IsToldIn O.contents (form_of task.entry) file.now text.now refusal.entry result
+    ensures { IsToldIn O.contents (format_of task.entry) file.now text.now refusal.entry result
         output.old output.new }
 {
-    match form_of(task) {
-        Form::Lines => tell_lines(alloc, task, file, text, refusal, output),
-        Form::Text | Form::Count => Ok(()),
+    match format_of(task) {
+        Format::Lines => tell_lines(alloc, task, file, text, refusal, output),
+        Format::Text | Format::Count => Ok(()),
     }
 }
 
-/// Tells a refusal on the output, where its form has it there; answers it, or what went wrong with
-/// that.
+/// Writes a refusal to the output, if its form requires it. Returns the refusal, or the failure of
+/// that writing.
 fn tell_refusal<'w, O: Write>(
     alloc: Global,
     task: Task<'_>,
@@ -328,7 +358,7 @@ fn tell_refusal<'w, O: Write>(
     refusal: Refusal<'w>,
     output: &mut O,
 ) -> Refusal<'w>
-    ensures { TellsThat O.contents (form_of task.entry) file.now text.now refusal.entry result
+    ensures { TellsThat O.contents (format_of task.entry) file.now text.now refusal.entry result
         output.old output.new }
 {
     if is_spent(refusal) {
@@ -340,7 +370,7 @@ fn tell_refusal<'w, O: Write>(
     }
 }
 
-/// Writes why the output failed, where that is what went wrong.
+/// Writes why the output failed, if the refusal is that failure.
 fn tell_failure<O: TellsFailure, E: Write>(faults: &mut E, refusal: Refusal<'_>, output: &O) {
     if let Refusal::Fault(Fault::Device) = refusal
         && let Some(error) = output.failure()
@@ -349,8 +379,7 @@ fn tell_failure<O: TellsFailure, E: Write>(faults: &mut E, refusal: Refusal<'_>,
     }
 }
 
-/// Writes the line of a refusal, with its notes if they are requested, and answers how the run
-/// ended.
+/// Writes the line of a refusal, with its notes if they are requested, and returns the status.
 fn end_told<O: TellsFailure, E: Write>(
     alloc: Global,
     request: Request<'_>,
@@ -379,21 +408,21 @@ fn write_unread<O: Write>(output: &mut O, file: &str, error: &io::Error) -> io::
     output.flush()
 }
 
-/// Tells on the output that a file could not be read, where its form has it there.
-fn tell_unread<O: Write>(form: Form, file: &str, fault: &ReadFault, output: &mut O)
-    ensures { TellsUnreadIn form output.old output.new }
+/// Writes to the output that a file could not be read, if the form requires it.
+fn tell_unread<O: Write>(format: Format, file: &str, fault: &ReadFault, output: &mut O)
+    ensures { TellsUnreadIn format output.old output.new }
 {
-    match form {
-        Form::Lines => {
+    match format {
+        Format::Lines => {
             if let ReadFault::Device(error) = fault {
                 let _ = write_unread(output, file, error);
             }
         }
-        Form::Text | Form::Count => {}
+        Format::Text | Format::Count => {}
     }
 }
 
-/// Tells why a file could not be read, and how the run ended.
+/// Writes why a file could not be read, and returns the status.
 pub(crate) fn end_unread_task<O: Write, E: Write>(
     request: Request<'_>,
     fault: ReadFault,
@@ -403,14 +432,14 @@ pub(crate) fn end_unread_task<O: Write, E: Write>(
     ensures status { result ≡ ends_as (Refusal.Fault (of_reading fault)) }
     ensures told { TellsUnread request.entry.task output.old output.new }
 {
-    tell_unread(form_of(request.task), request.file, &fault, output);
+    tell_unread(format_of(request.task), request.file, &fault, output);
     end_unread(faults, request.file, fault, request.notes)
 }
 
-/// Tells on the output that the diagram of this number is refused.
+/// Writes to the output that the diagram with this number is refused.
 fn tell_block<O: Write>(
     alloc: Global,
-    words: ScenarioWords<'_>,
+    words: ScenarioArgs<'_>,
     file: &str,
     text: &[u8],
     number: usize,
@@ -426,11 +455,11 @@ fn tell_block<O: Write>(
     tell_in(alloc, task, file, text, refusal, output)
 }
 
-/// Tells in `faults` that the diagram of this number is refused.
+/// Writes to `faults` why the diagram with this number is refused.
 fn end_block<O: TellsFailure, E: Write>(
     alloc: Global,
     request: Request<'_>,
-    words: ScenarioWords<'_>,
+    words: ScenarioArgs<'_>,
     text: &[u8],
     refusal: Refusal<'_>,
     output: &O,
@@ -444,11 +473,11 @@ fn end_block<O: TellsFailure, E: Write>(
     let _ = end_told(alloc, request, text, refusal, output, faults);
 }
 
-/// Checks the diagram of this number, and tells so if it is refused.
+/// Checks the diagram with this number, and writes the refusal if it is refused.
 fn survey_block<O: TellsFailure, E: Write>(
     alloc: Global,
     request: Request<'_>,
-    words: ScenarioWords<'_>,
+    words: ScenarioArgs<'_>,
     found: &Markdown<'_>,
     number: usize,
     output: &mut O,
@@ -484,11 +513,11 @@ fn survey_block<O: TellsFailure, E: Write>(
     })
 }
 
-/// Checks all sequence diagrams of a text of Markdown; answers the worst of their ends.
+/// Checks all sequence diagrams of a text of Markdown; returns the worst of their statuses.
 fn survey<O: TellsFailure, E: Write>(
     alloc: Global,
     request: Request<'_>,
-    words: ScenarioWords<'_>,
+    words: ScenarioArgs<'_>,
     found: &Markdown<'_>,
     output: &mut O,
     faults: &mut E,
@@ -510,12 +539,12 @@ fn survey<O: TellsFailure, E: Write>(
     Ok(worst)
 }
 
-/// Prints the verdicts on the diagrams of a text: on all those of Markdown if no block is named,
-/// else on the one.
+/// Prints the verdicts on the diagrams of a text: on all of a Markdown text if no block is named,
+/// otherwise on one.
 fn check_diagrams<O: TellsFailure, E: Write>(
     alloc: Global,
     request: Request<'_>,
-    words: ScenarioWords<'_>,
+    words: ScenarioArgs<'_>,
     text: &[u8],
     output: &mut O,
     faults: &mut E,
@@ -530,7 +559,7 @@ fn check_diagrams<O: TellsFailure, E: Write>(
     }
 }
 
-/// Writes the answer of what is requested of a text.
+/// Writes the answer to a request on a text.
 fn answer<'w, R: Threads + Wait + Sync, O: TellsFailure, E: Write>(
     rt: &R,
     alloc: Global,
@@ -563,8 +592,8 @@ fn answer<'w, R: Threads + Wait + Sync, O: TellsFailure, E: Write>(
     }
 }
 
-/// Lets the answer of what is requested of a text go out, or tells why it is refused, before it is
-/// told how the run ends.
+/// Writes the answer to a request on a text, or the refusal, and flushes the output. Returns the
+/// status.
 fn deliver<'w, R: Threads + Wait + Sync, O: TellsFailure, E: Write>(
     rt: &R,
     alloc: Global,
@@ -588,8 +617,8 @@ fn deliver<'w, R: Threads + Wait + Sync, O: TellsFailure, E: Write>(
     }
 }
 
-/// Does what is requested over an input, which is read once, and tells how the run ended. What went
-/// wrong goes to `faults`.
+/// Reads the input once, and answers the request on it. Refusals go to `faults`. Returns the
+/// status.
 pub(crate) fn perform<R: Threads + Wait + Sync, I: Read, O: TellsFailure, E: Write>(
     rt: &R,
     alloc: Global,

@@ -1,4 +1,4 @@
-//! The choices and the numbers of rounds that words of a command line give, and the title of a file.
+//! Choices and numbers of rounds in words of a command line, and the title of a file.
 
 ghost use Rattle.std.specs.Prelude.{◌≡◌, ◌≤◌, ◌+◌, ◌==◌, IfOk, IfSome, false, length, map, option_map};
 ghost use Rattle.std.specs.Option.{option_map_or};
@@ -15,7 +15,7 @@ use std::alloc::{AllocError, Global};
 /// The greatest number of a choice.
 const GREATEST_CHOICE: usize = 4_294_967_295;
 
-/// A number with one digit more, where the byte is one and no greater number comes of it.
+/// The number with one more digit, if the byte is a digit and the number is not too large then.
 fn with_digit(number: usize, byte: u8) -> Option<usize>
     requires { number ≤ greatest_choice }
     ensures value { result ≡ with_digit number byte }
@@ -31,7 +31,7 @@ fn with_digit(number: usize, byte: u8) -> Option<usize>
     Some(next)
 }
 
-/// The number of a text: digits, at least one.
+/// The number that a text is: one or more digits.
 fn number_of(bytes: &[u8]) -> Option<usize>
     ensures { result ≡ number_of bytes.now }
 {
@@ -45,7 +45,7 @@ fn number_of(bytes: &[u8]) -> Option<usize>
     Some(number)
 }
 
-/// Whether the parts of a word, with commas between, are numbers.
+/// Whether the parts of a word, between commas, are numbers.
 fn are_numbers(bytes: &[u8]) -> bool
     ensures { result ≡ are_numbers bytes.now }
 {
@@ -54,21 +54,21 @@ fn are_numbers(bytes: &[u8]) -> bool
         .all(|part| number_of(part).is_some())
 }
 
-/// Whether a word gives choices: it is `main`, or numbers with commas between.
+/// Whether a word is `main`, or numbers with commas between them.
 pub(crate) fn gives_choices(word: &str) -> bool
     ensures { result ≡ gives_choices word.now }
 {
     word == "main" || are_numbers(word.as_bytes())
 }
 
-/// The parts of a word, with commas between.
+/// The parts of a word, between commas.
 fn parts_of(alloc: Global, bytes: &[u8]) -> Result<Vec<&[u8]>, AllocError>
     ensures { IfOk result (λ v. map (λ x. x.now) v.items ≡ slice_split is_comma bytes.now) }
 {
     bytes.split(|byte| *byte == b',').collect(alloc)
 }
 
-/// The choices that these parts are.
+/// The choices in these parts.
 fn choices_of(alloc: Global, parts: &[&[u8]]) -> Result<Vec<usize>, AllocError>
     ensures { IfOk result (λ v. v.items ≡ map (λ part. choice_in part.now) parts.now) }
 {
@@ -79,7 +79,7 @@ fn choices_of(alloc: Global, parts: &[&[u8]]) -> Result<Vec<usize>, AllocError>
     Ok(choices)
 }
 
-/// The choices that a word gives: of `main` none, so that all are the main ones.
+/// The choices in a word. `main` has none, so all choices are the main ones.
 pub(crate) fn choices_in(alloc: Global, word: &str) -> Result<Vec<usize>, AllocError>
     ensures { IfOk result (λ v. v.items ≡ choices_in word.now) }
 {
@@ -91,7 +91,7 @@ pub(crate) fn choices_in(alloc: Global, word: &str) -> Result<Vec<usize>, AllocE
     Ok(choices)
 }
 
-/// Whether a part of a word is a number of rounds that a loop may go.
+/// Whether a part of a word is a number of rounds of a loop.
 fn are_rounds(part: &[u8]) -> bool
     ensures { result ≡ are_rounds (number_of part.now) }
 {
@@ -101,7 +101,7 @@ fn are_rounds(part: &[u8]) -> bool
     }
 }
 
-/// Whether a word gives numbers of rounds: they have commas between.
+/// Whether a word is a list of numbers of rounds, with commas between them.
 pub(crate) fn gives_rounds(bytes: &[u8]) -> bool
     ensures { result ≡ gives_rounds bytes.now }
 {
@@ -120,7 +120,7 @@ fn is_number(part: &[u8], number: usize) -> bool
     }
 }
 
-/// Whether this number is one that a word gives.
+/// Whether a word has this number.
 fn gives_round(bytes: &[u8], number: usize) -> bool
     ensures { result ≡ gives_round bytes.now number }
 {
@@ -129,7 +129,7 @@ fn gives_round(bytes: &[u8], number: usize) -> bool
         .any(|part| is_number(part, number))
 }
 
-/// The numbers of rounds that a word gives, each once, ascending.
+/// The numbers of rounds in a word, each once, ascending.
 #[tactic(auto, using(crate::proofs::ChoiceNumbers::no_rounds, crate::proofs::ChoiceNumbers::next_rounds))]
 fn rounds_in(alloc: Global, bytes: &[u8]) -> Result<Vec<usize>, AllocError>
     ensures { IfOk result (λ v. v.items ≡ rounds_below bytes.now (ROUND_LIMIT + 1)) }
@@ -143,7 +143,7 @@ fn rounds_in(alloc: Global, bytes: &[u8]) -> Result<Vec<usize>, AllocError>
     Ok(rounds)
 }
 
-/// The numbers of rounds that a word gives: 0 and 2, where none stands.
+/// The numbers of rounds in a word, or 0 and 2 without a word.
 pub(crate) fn rounds_of(alloc: Global, word: Option<&str>) -> Result<Vec<usize>, AllocError>
     ensures { IfOk result (λ v. v.items ≡ rounds_of (option_map (λ w. w.now) word.entry)) }
 {
@@ -170,7 +170,7 @@ fn is_dot(byte: u8) -> bool
     byte == b'.'
 }
 
-/// How many bytes stand behind the last folder.
+/// The number of bytes after the last folder.
 fn behind_slash(file: &[u8]) -> usize
     ensures value { result ≡ behind_slash file.now }
     ensures within { result ≤ length file.now }
@@ -181,7 +181,7 @@ fn behind_slash(file: &[u8]) -> usize
         .count()
 }
 
-/// How many bytes stand behind the last `.`.
+/// The number of bytes after the last `.`.
 fn behind_dot(name: &[u8]) -> usize
     ensures value { result ≡ behind_dot name.now }
     ensures within { result ≤ length name.now }

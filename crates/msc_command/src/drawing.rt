@@ -7,11 +7,11 @@ ghost use Rattle.msc_command.specs.Drawing.{IsDrawnOn};
 use crate::ending::Refusal;
 use crate::grammar::VERSION;
 use crate::naming::pair_named;
-use crate::tasks::{Drawn, Reversing};
+use crate::tasks::{Drawn, ReverseArgs};
 use msc_draw::{draw_chart, draw_reversal};
 use msc_html::report_chart;
-use msc_judge::Page;
 use msc_parser::Draft;
+use msc_print::Page;
 use msc_report::NamedFault;
 use msc_source::Source;
 use std::alloc::Global;
@@ -21,7 +21,7 @@ fn reversal(
     alloc: Global,
     draft: &Draft,
     source: &Source,
-    reversing: Reversing,
+    reversing: ReverseArgs,
 ) -> Result<Page, Refusal<'static>>
     requires { source.now.chart ≡ chart_of draft.now }
     ensures { IsDrawnOn (Drawn.Run reversing) draft.now source.now result }
@@ -32,13 +32,13 @@ fn reversal(
         Err(fault) => return Err(Refusal::Pair(fault)),
     };
     let (chart, queues) = (source.chart(), reversing.queues);
-    match draw_reversal(alloc, draft, chart, queues, reversing.form, e, f)? {
+    match draw_reversal(alloc, draft, chart, queues, reversing.format, e, f)? {
         Some(page) => Ok(page),
         None => Err(Refusal::Pair(NamedFault::NoRace(first, second))),
     }
 }
 
-/// What is drawn of a draft's chart.
+/// The page of a picture of a draft's chart, or of its report.
 pub(crate) fn page_of(
     alloc: Global,
     drawn: Drawn,
@@ -50,7 +50,7 @@ pub(crate) fn page_of(
 {
     let chart = source.chart();
     match drawn {
-        Drawn::Chart(queues, form) => Ok(draw_chart(alloc, draft, chart, queues, form)?),
+        Drawn::Chart(queues, format) => Ok(draw_chart(alloc, draft, chart, queues, format)?),
         Drawn::Run(reversing) => reversal(alloc, draft, source, reversing),
         Drawn::Report(queues) => {
             Ok(report_chart(alloc, draft, chart, queues, VERSION.as_bytes())?)

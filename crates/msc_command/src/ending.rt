@@ -1,43 +1,44 @@
-//! How a run of the program ends: statuses, and why a task has no answer.
+//! How a run of the program ends: statuses, and why a task is refused.
 
 ghost use Rattle.std.specs.Prelude.{◌≡◌, OnOk};
 ghost use Rattle.std.specs.Io.KnownBytes.{Appends};
-ghost use Rattle.msc_command.specs.Ending.{ended_by, ends_as, finished_by, refusal_line, status_code};
+ghost use Rattle.msc_command.specs.Ending.{ended_by, ends_as, finished_by, refusal_line};
+ghost use Rattle.msc_command.specs.Ending.{status_code};
 ghost use Rattle.msc_command.specs.Ending.{status_of};
 ghost use Rattle.msc_command.specs.Refused.{is_spent};
 ghost use Rattle.msc_report.specs.Refusals.{of_reading};
 ghost use Rattle.msc_report.specs.Texts.{fault_line};
 
 use crate::notes::write_cause;
-use msc_chart::TwiceFault;
+use msc_chart::UnrollFault;
 use msc_diagram::write_import_fault;
 use msc_ending::RunFault;
 use msc_import::Refused;
-use msc_judge::WriteFault;
 use msc_mark::MarkFault;
 use msc_mermaid::ImportFault;
+use msc_print::WriteFault;
 use msc_report::{
     Fault, NamedFault, write_fault, write_instance_fault, write_mark_fault, write_pair_fault,
-    write_twice_fault,
+    write_unroll_fault,
 };
 use msc_source::{ReadFault, SourceFault};
 use std::alloc::AllocError;
 use std::io;
 use std::io::Write;
 
-/// How a run of the program ended.
+/// How a run of the program ended: its exit status.
 #[derive(Clone, Copy)]
 pub(crate) enum Status {
-    /// The chart has no race that counts, or the pair is enforced, or each instance that was run
-    /// has finished, or a system of ready instances does, and the answer was written, where one is
-    /// wanted.
+    /// The answer was written, if one is requested. The chart has no race that counts, the pair is
+    /// enforced, all instances that were run have finished, or a system of ready instances
+    /// finishes.
     Done,
-    /// The chart has races that count or are left, or the pair is not enforced, or the system can
-    /// stick, and the answer was written, where one is wanted.
+    /// The answer was written, if one is requested. The chart has races that count or are left, the
+    /// pair is not enforced, or the system can stick.
     Races,
-    /// The text or the pair was refused, or the words are no command.
+    /// The text, a name or the pair was refused, or the words are no command.
     Refused,
-    /// The answer was written: some instance has not finished.
+    /// The answer was written, and some instance has not finished.
     Unfinished,
     /// Memory, a device or the start of a thread failed.
     Failed,
@@ -58,14 +59,14 @@ impl Status {
     }
 }
 
-/// How a run ends that tells whether something holds.
+/// The status of an answer that holds or not.
 pub(crate) fn ended_by(holds: bool) -> Status
     ensures { result ≡ ended_by holds }
 {
     if holds { Status::Done } else { Status::Races }
 }
 
-/// How a run ends of a chart whose instances have all finished, or not.
+/// The status of an execution in which all instances have finished, or not.
 pub(crate) fn finished_by(finished: bool) -> Status
     ensures { result ≡ finished_by finished }
 {
@@ -76,20 +77,20 @@ pub(crate) fn finished_by(finished: bool) -> Status
     }
 }
 
-/// Why a task has no answer: a fault of any phase, or of what was asked.
+/// Why a task has no answer: a fault of some phase, or a refusal of the request.
 #[derive(Clone, Copy)]
 pub(crate) enum Refusal<'w> {
-    /// A fault was met.
+    /// A fault of some phase.
     Fault(Fault),
-    /// The names are those of no two events of the chart.
+    /// The names are not two events of the chart, or not a race.
     Pair(NamedFault),
-    /// A comment of the text is to be a mark, and is none.
+    /// A comment of the text begins like a mark, and is none.
     Mark(MarkFault),
-    /// This name is that of no instance: the first such.
+    /// No instance has this name. It is the first such name.
     Instance(&'w str),
-    /// Two rounds of the chart are none.
-    Rounds(TwiceFault),
-    /// Nothing is imported of the text.
+    /// Two rounds of the chart are no chart.
+    Rounds(UnrollFault),
+    /// The text is not imported.
     Import(Refused),
 }
 
@@ -139,15 +140,15 @@ impl<'w> From<MarkFault> for Refusal<'w> {
     }
 }
 
-impl<'w> From<TwiceFault> for Refusal<'w> {
+impl<'w> From<UnrollFault> for Refusal<'w> {
     ghost use Rattle.msc_command.specs.Ending.{of_rounds};
 
     ghost from_gives = { λ fault refusal. refusal ≡ of_rounds fault };
 
-    fn from(fault: TwiceFault) -> Refusal<'w> {
+    fn from(fault: UnrollFault) -> Refusal<'w> {
         match fault {
-            TwiceFault::Memory => Refusal::Fault(Fault::Memory),
-            TwiceFault::TooManyMessages | TwiceFault::TooManyActions => Refusal::Rounds(fault),
+            UnrollFault::Memory => Refusal::Fault(Fault::Memory),
+            UnrollFault::TooManyMessages | UnrollFault::TooManyActions => Refusal::Rounds(fault),
         }
     }
 }
@@ -187,7 +188,7 @@ impl<'w> From<WriteFault> for Refusal<'w> {
     }
 }
 
-/// How a run ends that meets a fault.
+/// The status of a fault.
 pub(crate) fn status_of(fault: Fault) -> Status
     ensures { result ≡ status_of fault }
 {
@@ -208,7 +209,7 @@ pub(crate) fn is_spent(refusal: Refusal<'_>) -> bool
     }
 }
 
-/// How a run ends that is refused.
+/// The status of a refusal.
 fn ends_as(refusal: Refusal<'_>) -> Status
     ensures { result ≡ ends_as refusal.entry }
 {
@@ -219,7 +220,7 @@ fn ends_as(refusal: Refusal<'_>) -> Status
     }
 }
 
-/// Writes a fault's line, and tells how the run ended, and whether the line went out.
+/// Writes the line of a fault. Returns the status, and whether the line was written.
 pub(crate) fn end_with<E: Write>(faults: &mut E, fault: Fault) -> (Status, io::Result<()>)
     ensures status { result.0 ≡ status_of fault }
     ensures line { OnOk result.1
@@ -239,12 +240,12 @@ pub(crate) fn write_refusal<W: Write>(writer: &mut W, refusal: Refusal<'_>) -> i
         Refusal::Pair(fault) => write_pair_fault(writer, fault),
         Refusal::Mark(fault) => write_mark_fault(writer, fault),
         Refusal::Instance(name) => write_instance_fault(writer, name.as_bytes()),
-        Refusal::Rounds(fault) => write_twice_fault(writer, fault),
+        Refusal::Rounds(fault) => write_unroll_fault(writer, fault),
         Refusal::Import(refused) => write_import_fault(writer, &refused),
     }
 }
 
-/// Writes the line of a refusal, and tells how the run ended, and whether the line went out.
+/// Writes the line of a refusal. Returns the status, and whether the line was written.
 pub(crate) fn end_refused<E: Write>(
     faults: &mut E,
     refusal: Refusal<'_>,
@@ -257,8 +258,8 @@ pub(crate) fn end_refused<E: Write>(
     (ends_as(refusal), told)
 }
 
-/// Writes the line of a read that failed, and why where that is wanted, of the file of this name;
-/// and tells how the run ended.
+/// Writes the line of a read of the file of this name that failed, and why if notes are requested.
+/// Returns the status.
 pub(crate) fn end_unread<E: Write>(
     faults: &mut E,
     file: &str,

@@ -1,25 +1,26 @@
-//! The grammar of command lines, as `clap` is told of it.
+//! The grammar of command lines, for `clap`.
 
 ghost use Rattle.std.specs.Prelude.{◌≡◌, IfOk, map};
 ghost use Rattle.std.specs.String.{string_bytes};
-ghost use Rattle.msc_command.specs.Grammar.{architecture_words, bare_command, begun_by, choice_rule};
+ghost use Rattle.msc_command.specs.Grammar.{architecture_words, bare_command, begun_by};
+ghost use Rattle.msc_command.specs.Grammar.{choice_rule};
 ghost use Rattle.msc_command.specs.Grammar.{choices_rule, command_of, file_rule};
-ghost use Rattle.msc_command.specs.Grammar.{flag_rule, form_words, kind_words, letter_rule};
+ghost use Rattle.msc_command.specs.Grammar.{flag_rule, format_words, kind_words, letter_rule};
 ghost use Rattle.msc_command.specs.Grammar.{names_rule, needed_rule, number_rule, parsers_of};
-ghost use Rattle.msc_command.specs.Grammar.{rule_of_word, text_rule, verbs_for, with_commands};
+ghost use Rattle.msc_command.specs.Grammar.{rule_of_arg, text_rule, commands_for, with_commands};
 ghost use Rattle.msc_command.specs.Grammar.{IsArgument, IsCommand};
 ghost use Rattle.msc_command.specs.Words.{cross_words, language_words, own_words, par_words};
 ghost use Rattle.clap.specs.Words.{App, Rule, new_app, with_rule, with_subcommand};
 ghost use Rattle.clap.specs.declared.builder.value_parser.ValueParser.TheVariants.{Names};
 
-use crate::tasks::Form;
-use crate::words::{Takes, Verb, Word};
+use crate::tasks::Format;
+use crate::words::{ArgName, CommandName, ValueKind};
 use clap::{Arg, ArgAction, Command, value_parser};
 use msc_chart::Queues;
 use msc_reason::RaceKind;
 use std::alloc::{AllocError, Global};
 
-/// The words of which an argument takes one, and what the help shows for it.
+/// The words that an option takes one of, and what the help shows for it.
 #[derive(Clone, Copy)]
 struct Alternatives<'a> {
     words: &'a [&'a str],
@@ -42,7 +43,7 @@ impl Choice {
         Ok(Choice { words, shown })
     }
 
-    /// These words, lent.
+    /// The same words, borrowed.
     fn alternatives(&self) -> Alternatives<'_>
         ensures { result.words.now ≡ self.now.words.items }
     {
@@ -76,7 +77,7 @@ fn architecture_words(alloc: Global) -> Result<Vec<&'static str>, AllocError>
     Ok(words)
 }
 
-/// The words for the kinds of races.
+/// The words of the kinds of races.
 fn kind_words(alloc: Global) -> Result<Vec<&'static str>, AllocError>
     ensures { IfOk result (λ words. map (λ word. word.now) words.items ≡ kind_words) }
 {
@@ -87,18 +88,18 @@ fn kind_words(alloc: Global) -> Result<Vec<&'static str>, AllocError>
     Ok(words)
 }
 
-/// The words for the forms of an answer.
-fn form_words(alloc: Global) -> Result<Vec<&'static str>, AllocError>
-    ensures { IfOk result (λ words. map (λ word. word.now) words.items ≡ form_words) }
+/// The words of the forms of an answer.
+fn format_words(alloc: Global) -> Result<Vec<&'static str>, AllocError>
+    ensures { IfOk result (λ words. map (λ word. word.now) words.items ≡ format_words) }
 {
     let mut words = Vec::new(alloc);
-    for form in Form::ALL {
-        words.push(form.word())?;
+    for format in Format::ALL {
+        words.push(format.word())?;
     }
     Ok(words)
 }
 
-/// The words for the languages of texts.
+/// The words of the languages of texts.
 fn language_words() -> Alternatives<'static>
     ensures { map (λ word. word.now) result.words.now ≡ language_words }
 {
@@ -108,7 +109,7 @@ fn language_words() -> Alternatives<'static>
     }
 }
 
-/// The words for what arrows to oneself are.
+/// The words for arrows to oneself.
 fn own_words() -> Alternatives<'static>
     ensures { map (λ word. word.now) result.words.now ≡ own_words }
 {
@@ -118,7 +119,7 @@ fn own_words() -> Alternatives<'static>
     }
 }
 
-/// The words for what arrows with a cross are.
+/// The words for arrows with a cross.
 fn cross_words() -> Alternatives<'static>
     ensures { map (λ word. word.now) result.words.now ≡ cross_words }
 {
@@ -138,20 +139,20 @@ fn par_words() -> Alternatives<'static>
     }
 }
 
-/// The words of which options take one, each list made once.
+/// The words that options take one of, each list made once.
 #[derive(Drop)]
 pub(crate) struct Lists {
     architectures: Choice,
     kinds: Choice,
-    forms: Choice,
+    formats: Choice,
 }
 
-/// These words, lent.
+/// The same words, borrowed.
 #[derive(Clone, Copy)]
 pub(crate) struct Choices<'a> {
     architectures: Alternatives<'a>,
     kinds: Alternatives<'a>,
-    forms: Alternatives<'a>,
+    formats: Alternatives<'a>,
     languages: Alternatives<'a>,
     owns: Alternatives<'a>,
     crosses: Alternatives<'a>,
@@ -159,30 +160,30 @@ pub(crate) struct Choices<'a> {
 }
 
 impl Lists {
-    /// All words of which options take one. An error is a growth of memory that was refused.
+    /// All words that options take one of. An error is a growth of memory that was refused.
     pub fn of(alloc: Global) -> Result<Lists, AllocError>
         ensures architectures { IfOk result (λ lists.
             map (λ word. word.now) lists.architectures.words.items ≡ architecture_words) }
         ensures kinds { IfOk result (λ lists.
             map (λ word. word.now) lists.kinds.words.items ≡ kind_words) }
-        ensures forms { IfOk result (λ lists.
-            map (λ word. word.now) lists.forms.words.items ≡ form_words) }
+        ensures formats { IfOk result (λ lists.
+            map (λ word. word.now) lists.formats.words.items ≡ format_words) }
     {
         let architectures = Choice::of(alloc, architecture_words(alloc)?)?;
         let kinds = Choice::of(alloc, kind_words(alloc)?)?;
-        let forms = Choice::of(alloc, form_words(alloc)?)?;
+        let formats = Choice::of(alloc, format_words(alloc)?)?;
         Ok(Lists {
             architectures,
             kinds,
-            forms,
+            formats,
         })
     }
 
-    /// These words, lent.
+    /// The same words, borrowed.
     pub fn choices(&self) -> Choices<'_>
         ensures architectures { result.architectures.words.now ≡ self.now.architectures.words.items }
         ensures kinds { result.kinds.words.now ≡ self.now.kinds.words.items }
-        ensures forms { result.forms.words.now ≡ self.now.forms.words.items }
+        ensures formats { result.formats.words.now ≡ self.now.formats.words.items }
         ensures languages { map (λ word. word.now) result.languages.words.now ≡ language_words }
         ensures owns { map (λ word. word.now) result.owns.words.now ≡ own_words }
         ensures crosses { map (λ word. word.now) result.crosses.words.now ≡ cross_words }
@@ -191,7 +192,7 @@ impl Lists {
         Choices {
             architectures: self.architectures.alternatives(),
             kinds: self.kinds.alternatives(),
-            forms: self.forms.alternatives(),
+            formats: self.formats.alternatives(),
             languages: language_words(),
             owns: own_words(),
             crosses: cross_words(),
@@ -200,10 +201,10 @@ impl Lists {
     }
 }
 
-/// What `msc --version` prints behind the program's name.
+/// What `msc --version` prints after the program's name.
 pub(crate) const VERSION: &str = "0.2.0";
 
-/// What stands below the help of all commands.
+/// The text below the help of all commands.
 const NOTES: &str = "\
 Exit status:
   0  the answer was written; `check` found no races that count, `explain` that E is enforced
@@ -226,7 +227,7 @@ fn named_by<'a>(alloc: Global, name: &'static str, help: &'static str) -> Arg<'a
     Arg::new(alloc, name).help(help).required(true)
 }
 
-/// An option that stands alone.
+/// An option without a value.
 fn flag<'a>(alloc: Global, name: &'static str, help: &'static str) -> Arg<'a>
     ensures { IsArgument (flag_rule name.now) result }
 {
@@ -236,7 +237,7 @@ fn flag<'a>(alloc: Global, name: &'static str, help: &'static str) -> Arg<'a>
         .action(ArgAction::SetTrue)
 }
 
-/// An option that stands alone, also as the letter `q`.
+/// An option without a value, which has the letter `q` too.
 fn letter<'a>(alloc: Global, name: &'static str, help: &'static str) -> Arg<'a>
     ensures { IsArgument (letter_rule name.now) result }
 {
@@ -258,7 +259,7 @@ fn number<'a>(alloc: Global, name: &'static str, help: &'static str) -> Arg<'a>
         .value_parser(value_parser!(u32))
 }
 
-/// An option with any text, shown as this one.
+/// An option with any text, for which the help shows this one.
 fn text<'a>(alloc: Global, name: &'static str, help: &'static str, shown: &'static str) -> Arg<'a>
     ensures { IsArgument (text_rule name.now) result }
 {
@@ -284,7 +285,7 @@ fn one_of<'a>(
         .value_parser(words.words)
 }
 
-/// An option with one of these words, which has to stand.
+/// A required option with one of these words.
 fn one_needed<'a>(
     alloc: Global,
     name: &'static str,
@@ -301,7 +302,7 @@ fn one_needed<'a>(
         .required(true)
 }
 
-/// An option with one of these words, which may stand often.
+/// An option with one of these words, which may be repeated.
 fn any_of<'a>(
     alloc: Global,
     name: &'static str,
@@ -318,7 +319,7 @@ fn any_of<'a>(
         .action(ArgAction::Append)
 }
 
-/// An option with a name, which may stand often.
+/// An option with a name, which may be repeated.
 fn names<'a>(alloc: Global, name: &'static str, help: &'static str) -> Arg<'a>
     ensures { IsArgument (names_rule name.now) result }
 {
@@ -329,32 +330,32 @@ fn names<'a>(alloc: Global, name: &'static str, help: &'static str) -> Arg<'a>
         .action(ArgAction::Append)
 }
 
-/// A word behind a command.
-fn argument<'a>(alloc: Global, word: Word, lent: Choices<'a>) -> Arg<'a>
-    ensures { IsArgument (rule_of_word (parsers_of lent.entry) word) result }
+/// A word of a command: an argument or an option.
+fn argument<'a>(alloc: Global, word: ArgName, lent: Choices<'a>) -> Arg<'a>
+    ensures { IsArgument (rule_of_arg (parsers_of lent.entry) word) result }
 {
     let (name, help) = (word.name(), word.help());
-    match word.takes() {
-        Takes::File | Takes::Event => named_by(alloc, name, help),
-        Takes::Nothing => flag(alloc, name, help),
-        Takes::NothingOrQ => letter(alloc, name, help),
-        Takes::Number => number(alloc, name, help),
-        Takes::Architecture => one_needed(alloc, name, help, lent.architectures),
-        Takes::ArchitectureIfAny => one_of(alloc, name, help, lent.architectures),
-        Takes::Kinds => any_of(alloc, name, help, lent.kinds),
-        Takes::Form => one_of(alloc, name, help, lent.forms),
-        Takes::Names => names(alloc, name, help),
-        Takes::Language => one_of(alloc, name, help, lent.languages),
-        Takes::Choices => text(alloc, name, help, "C"),
-        Takes::Rounds => text(alloc, name, help, "R,R.."),
-        Takes::Name => text(alloc, name, help, "NAME"),
-        Takes::Own => one_of(alloc, name, help, lent.owns),
-        Takes::Cross => one_of(alloc, name, help, lent.crosses),
-        Takes::Par => one_of(alloc, name, help, lent.pars),
+    match word.value_kind() {
+        ValueKind::File | ValueKind::Event => named_by(alloc, name, help),
+        ValueKind::Nothing => flag(alloc, name, help),
+        ValueKind::NothingOrQ => letter(alloc, name, help),
+        ValueKind::Number => number(alloc, name, help),
+        ValueKind::Architecture => one_needed(alloc, name, help, lent.architectures),
+        ValueKind::ArchitectureIfAny => one_of(alloc, name, help, lent.architectures),
+        ValueKind::Kinds => any_of(alloc, name, help, lent.kinds),
+        ValueKind::Format => one_of(alloc, name, help, lent.formats),
+        ValueKind::Names => names(alloc, name, help),
+        ValueKind::Language => one_of(alloc, name, help, lent.languages),
+        ValueKind::Choices => text(alloc, name, help, "C"),
+        ValueKind::Rounds => text(alloc, name, help, "R,R.."),
+        ValueKind::Name => text(alloc, name, help, "NAME"),
+        ValueKind::Own => one_of(alloc, name, help, lent.owns),
+        ValueKind::Cross => one_of(alloc, name, help, lent.crosses),
+        ValueKind::Par => one_of(alloc, name, help, lent.pars),
     }
 }
 
-/// A command without its words, with what its help says of it.
+/// A command without its words, with the help's sentence on it.
 fn named<'a>(
     alloc: Global,
     name: &'static str,
@@ -366,7 +367,7 @@ fn named<'a>(
     Ok(Command::new(alloc, name).about(about).after_help(notes))
 }
 
-/// A command with an argument more. An error is a growth of memory that was refused.
+/// A command with one more argument. An error is a growth of memory that was refused.
 fn and<'a>(command: Command<'a>, argument: Arg<'a>) -> Result<Command<'a>, AllocError>
     ensures { (app : App) (rule : Rule) → IsCommand app command.entry
         → IsArgument rule argument.entry → IfOk result (IsCommand (with_rule app rule)) }
@@ -375,11 +376,20 @@ fn and<'a>(command: Command<'a>, argument: Arg<'a>) -> Result<Command<'a>, Alloc
 }
 
 /// A command with its words. An error is a growth of memory that was refused.
-fn command_of<'a>(alloc: Global, verb: Verb, lent: Choices<'a>) -> Result<Command<'a>, AllocError>
-    ensures { IfOk result (IsCommand (command_of (parsers_of lent.entry) verb)) }
+fn command_of<'a>(
+    alloc: Global,
+    command_name: CommandName,
+    lent: Choices<'a>,
+) -> Result<Command<'a>, AllocError>
+    ensures { IfOk result (IsCommand (command_of (parsers_of lent.entry) command_name)) }
 {
-    let mut command = named(alloc, verb.name(), verb.about(), verb.notes())?;
-    for word in verb.words() {
+    let mut command = named(
+        alloc,
+        command_name.name(),
+        command_name.about(),
+        command_name.notes(),
+    )?;
+    for word in command_name.words() {
         command = and(command, argument(alloc, *word, lent))?;
     }
     Ok(command)
@@ -395,7 +405,7 @@ fn bare<'a>(alloc: Global) -> Result<Command<'a>, AllocError>
     Ok(command.subcommand_required(true))
 }
 
-/// A program with a command more. An error is a growth of memory that was refused.
+/// A program with one more command. An error is a growth of memory that was refused.
 fn with<'a>(program: Command<'a>, command: Command<'a>) -> Result<Command<'a>, AllocError>
     ensures { (app below : App) → IsCommand app program.entry → IsCommand below command.entry
         → IfOk result (IsCommand (with_subcommand app below.top)) }
@@ -406,40 +416,40 @@ fn with<'a>(program: Command<'a>, command: Command<'a>) -> Result<Command<'a>, A
 /// The program with these commands. An error is a growth of memory that was refused.
 fn with_each<'a>(
     alloc: Global,
-    verbs: &[Verb],
+    command_names: &[CommandName],
     lent: Choices<'a>,
 ) -> Result<Command<'a>, AllocError>
     ensures { IfOk result (IsCommand
-        (with_commands (parsers_of lent.entry) bare_command verbs.now)) }
+        (with_commands (parsers_of lent.entry) bare_command command_names.now)) }
 {
     let mut command = bare(alloc)?;
-    for verb in verbs {
-        command = with(command, command_of(alloc, *verb, lent)?)?;
+    for command_name in command_names {
+        command = with(command, command_of(alloc, *command_name, lent)?)?;
     }
     Ok(command)
 }
 
-/// The command that words name, behind the program's name.
-fn begun_by(words: &[String]) -> Option<Verb>
+/// The command that the first word after the program's name names.
+fn begun_by(words: &[String]) -> Option<CommandName>
     ensures { result ≡ begun_by (map string_bytes words.now) }
 {
     let name = words.get(1)?;
-    Verb::of(name)
+    CommandName::of(name)
 }
 
-/// The words that the program takes, as far as they matter to these: of the command that they name,
-/// and else of all. An error is a growth of memory that was refused.
-// All commands take longer to tell of than a small chart to check.
+/// The grammar of the program, as far as these words need it: with the command that they name,
+/// otherwise with all. An error is a growth of memory that was refused.
+// The grammar of all commands takes longer to make than a small chart to check.
 pub(crate) fn grammar<'a>(
     alloc: Global,
     words: &[String],
     lent: Choices<'a>,
 ) -> Result<Command<'a>, AllocError>
     ensures { IfOk result (IsCommand (with_commands (parsers_of lent.entry) bare_command
-        (verbs_for (map string_bytes words.now)))) }
+        (commands_for (map string_bytes words.now)))) }
 {
     match begun_by(words) {
-        Some(verb) => with_each(alloc, &[verb], lent),
-        None => with_each(alloc, &Verb::ALL, lent),
+        Some(command_name) => with_each(alloc, &[command_name], lent),
+        None => with_each(alloc, &CommandName::ALL, lent),
     }
 }

@@ -7,18 +7,18 @@ ghost use Rattle.msc_command.specs.Importing.{IsImportAs, wanted_with};
 
 use crate::choices::choices_in;
 use crate::ending::Refusal;
-use crate::tasks::{DiagramWords, ImportWords};
+use crate::tasks::{DiagramArgs, ImportArgs};
 use msc_chart::Chart;
 use msc_import::{Imported, Importing, import};
 use msc_import_laws::laws::imports_are_charts;
-use msc_judge::Page;
 use msc_parser::Draft;
-use msc_place::Sites;
+use msc_place::EventPositions;
+use msc_print::Page;
 use msc_source::SourceFault;
 use msc_text::list_chart;
 use std::alloc::Global;
 
-/// The number of a diagram in Markdown, where it is given.
+/// The number of a diagram in Markdown, if it is given.
 pub(crate) fn fence_of(number: Option<u32>) -> Option<usize>
     ensures { result ≡ number }
 {
@@ -28,24 +28,24 @@ pub(crate) fn fence_of(number: Option<u32>) -> Option<usize>
     }
 }
 
-/// The chart of a draft, or why it is none.
+/// The chart of a draft, or why it has none.
 pub(crate) fn chart_of(alloc: Global, draft: &Draft) -> Result<Chart, SourceFault>
     ensures { IsChartOrFault draft.now result }
 {
     Ok(Chart::build(alloc, draft)?)
 }
 
-/// The events of what was imported of the text of a file of this name, on a page.
+/// The events of an import of the text of a file of this name, on a page.
 fn list_page(alloc: Global, file: &str, imported: Imported) -> Result<Page, Refusal<'static>>
     ensures { IsPageOf true file.now imported result }
 {
     let chart = chart_of(alloc, &imported.draft)?;
-    let sites = Sites::at(file.as_bytes(), imported.places.into_vec());
-    let page = list_chart(alloc, &chart, Some(&sites))?;
+    let event_positions = EventPositions::at(file.as_bytes(), imported.places.into_vec());
+    let page = list_chart(alloc, &chart, Some(&event_positions))?;
     Ok(page)
 }
 
-/// What is printed of what was imported of the text of a file of this name, on a page.
+/// The page of an import of the text of a file of this name.
 fn page_of(
     alloc: Global,
     list: bool,
@@ -61,10 +61,10 @@ fn page_of(
     Ok(Page { bytes })
 }
 
-/// What is imported of a text, with these choices.
+/// The import of a text, with these choices.
 fn import_with(
     alloc: Global,
-    words: DiagramWords<'_>,
+    words: DiagramArgs<'_>,
     choices: Option<&[usize]>,
     text: &[u8],
 ) -> Result<Imported, Refusal<'static>>
@@ -83,10 +83,10 @@ fn import_with(
     Ok(imported)
 }
 
-/// What is imported of a text.
+/// The import of a text, with the choices of the words.
 fn import_by(
     alloc: Global,
-    words: ImportWords<'_>,
+    words: ImportArgs<'_>,
     text: &[u8],
 ) -> Result<Imported, Refusal<'static>>
     ensures { IsImport words.entry text.now result }
@@ -100,10 +100,10 @@ fn import_by(
     }
 }
 
-/// What is imported of the text of a file of this name, on a page.
+/// The page with the import of the text of a file of this name.
 pub(crate) fn import_page(
     alloc: Global,
-    words: ImportWords<'_>,
+    words: ImportArgs<'_>,
     file: &str,
     text: &[u8],
 ) -> Result<Page, Refusal<'static>>

@@ -1,13 +1,13 @@
-//! Words that `clap` takes and that are no command: words that exclude each other, lack what the
-//! command needs, or name no event. They are refused in the form in which `clap` refuses words; no
-//! clause says what is printed, and transcripts compare it.
+//! Words that `clap` takes and that are no command: they exclude each other, lack what the command
+//! needs, or name no event. They are refused in the form in which `clap` refuses words. No clause
+//! is about what is printed; transcripts compare it.
 
 use crate::tasks::GREATEST_LIMIT;
-use crate::words::Word;
+use crate::words::ArgName;
 use std::io;
 use std::io::Write;
 
-/// What follows a line of wrong usage.
+/// The text after a line of wrong usage.
 const HELP: &str = "\n\nFor more information, try '--help'.";
 
 /// Why words that `clap` took are no command.
@@ -15,25 +15,25 @@ const HELP: &str = "\n\nFor more information, try '--help'.";
 pub(crate) enum Misuse<'w> {
     /// `--places` and `--plain` exclude each other.
     Excluded,
-    /// The architecture is missing.
+    /// The option `--queues` is missing.
     NoQueues,
-    /// The word for an event is missing.
-    LacksEvent(Word),
-    /// The word for an event, with this text, names none.
-    NoEvent(Word, &'w str),
-    /// The word for choices gives none.
+    /// The argument for this event is missing.
+    LacksEvent(ArgName),
+    /// This argument, with this text, names no event.
+    NoEvent(ArgName, &'w str),
+    /// The word of `--choose` has no choices.
     NoChoices(&'w str),
-    /// Words of diagrams are given without `--from`.
+    /// Options of diagrams are given without `--from`.
     NoDiagram,
     /// A word cannot be given with `--from`.
-    NotOfDiagrams(Word),
-    /// The word for numbers of rounds gives none.
+    NotOfDiagrams(ArgName),
+    /// The word of `--rounds` has no numbers of rounds.
     NoRounds(&'w str),
-    /// A limit of this many scenarios cannot be requested.
+    /// `--limit` is out of its range.
     NoLimit(u32),
 }
 
-/// Writes why a text is no number from a first one on.
+/// Writes that a text is no number from `first` on.
 fn write_no_number<E: Write>(faults: &mut E, text: &str, first: u32) -> io::Result<()> {
     match text.parse::<i64>() {
         Ok(number) => write!(faults, "{number} is not in {first}..=4294967295"),
@@ -42,7 +42,7 @@ fn write_no_number<E: Write>(faults: &mut E, text: &str, first: u32) -> io::Resu
 }
 
 /// Writes why a word with this text names no event.
-fn write_no_event<E: Write>(faults: &mut E, word: Word, text: &str) -> io::Result<()> {
+fn write_no_event<E: Write>(faults: &mut E, word: ArgName, text: &str) -> io::Result<()> {
     let name = word.name();
     write!(faults, "error: invalid value '{text}' for '<{name}>': ")?;
     match text.strip_prefix(':') {
@@ -60,8 +60,8 @@ fn write_missing<E: Write>(faults: &mut E, argument: &str) -> io::Result<()> {
     )
 }
 
-/// Writes that the word for an event is missing.
-fn write_lacking<E: Write>(faults: &mut E, word: Word) -> io::Result<()> {
+/// Writes that the argument for an event is missing.
+fn write_lacking<E: Write>(faults: &mut E, word: ArgName) -> io::Result<()> {
     let name = word.name();
     writeln!(
         faults,
@@ -70,7 +70,7 @@ fn write_lacking<E: Write>(faults: &mut E, word: Word) -> io::Result<()> {
 }
 
 /// Writes that a word cannot be given with `--from`.
-fn write_not_of_diagrams<E: Write>(faults: &mut E, word: Word) -> io::Result<()> {
+fn write_not_of_diagrams<E: Write>(faults: &mut E, word: ArgName) -> io::Result<()> {
     let name = word.name();
     writeln!(
         faults,
@@ -91,7 +91,7 @@ fn write_unexpected<E: Write>(
     )
 }
 
-/// Writes that a limit of this many scenarios cannot be requested.
+/// Writes that `--limit` is out of its range.
 fn write_no_limit<E: Write>(faults: &mut E, limit: u32) -> io::Result<()> {
     writeln!(
         faults,

@@ -14,7 +14,7 @@ fn event_at_line(alloc: Global, source: &Source, line: u32) -> Result<Option<Eve
     ensures { IfOk result (IsNamed source.now (EventName.Line line)) }
 {
     source.source();
-    source.chart().accepted();
+    source.chart().facts();
     let places = Places::of(alloc, source.text())?;
     let lines = Lines::of(alloc, source.text())?;
     match places.event_at_line(&lines, line as usize) {
@@ -23,7 +23,7 @@ fn event_at_line(alloc: Global, source: &Source, line: u32) -> Result<Option<Eve
     }
 }
 
-/// The event of a name, if there is one.
+/// The event with a name, if there is one.
 fn event_named(alloc: Global, source: &Source, name: EventName) -> Result<Option<Event>, AllocError>
     ensures { IfOk result (IsNamed source.now name) }
 {
@@ -34,7 +34,7 @@ fn event_named(alloc: Global, source: &Source, name: EventName) -> Result<Option
     }
 }
 
-/// The two events of these names, or why they are no two events.
+/// The two events with these names, or why they are not two events.
 pub(crate) fn pair_named(
     alloc: Global,
     source: &Source,

@@ -1,7 +1,8 @@
-//! The notes on a refusal, which follow its line: where it stands in its text, and hints.
+//! The notes on a refusal, which follow its line: its place in the text, and hints.
 //!
-//! `msc_notes` and `msc_import_notes` promise what a note says. If memory runs out or a write fails,
-//! the line of the refusal is printed without notes, or with the first of them.
+//! `msc_notes` and `msc_import_notes` say in their contracts what a note is about. If memory runs
+//! out or a write fails, the line of the refusal is printed without notes, or with the first of
+//! them.
 
 ghost use Rattle.std.specs.Prelude.{◌≡◌, IfOk, IfSome};
 ghost use Rattle.msc_import_notes.specs.Places.{fault_line, IsOnLine};
@@ -12,7 +13,7 @@ use crate::choices::rounds_of;
 use crate::ending::Refusal;
 use crate::importing::fence_of;
 use crate::refused::mark_place;
-use crate::tasks::{Ask, Request, Task};
+use crate::tasks::{ChartCommand, Request, Task};
 use listed::Listed;
 use msc_chart::ChartFault;
 use msc_import::Refused;
@@ -23,8 +24,8 @@ use msc_import_notes::{
 use msc_mark::MarkFault;
 use msc_markdown::Markdown;
 use msc_mermaid::ImportFault;
-use msc_notes::writing::{write_further, write_told};
-use msc_notes::{Told, tell_chart, tell_further, tell_parse};
+use msc_notes::writing::{write_fault_notes, write_further};
+use msc_notes::{FaultNotes, tell_chart, tell_further, tell_parse};
 use msc_parser::{ParseFault, parse};
 use msc_place::writing::write_file;
 use msc_place::{Lines, Places, excerpt};
@@ -39,28 +40,31 @@ fn write_told_of<E: Write>(
     faults: &mut E,
     file: &str,
     lines: &Lines,
-    told: &Told,
+    told: &FaultNotes,
 ) -> io::Result<()> {
     let text = lines.text();
     let shown = match told.place {
         Some(at) if at <= text.len() => excerpt(alloc, text, at)?,
         _ => Vec::new(alloc),
     };
-    write_told(faults, file.as_bytes(), lines, told, shown.as_slice())
+    write_fault_notes(faults, file.as_bytes(), lines, told, shown.as_slice())
 }
 
 /// Whether the task is that of `msc check`.
 fn is_check(task: Task<'_>) -> bool {
-    matches!(task, Task::Chart(Ask::Check(_) | Ask::Quiet(_)))
+    matches!(
+        task,
+        Task::Chart(ChartCommand::Check(_) | ChartCommand::Quiet(_))
+    )
 }
 
 /// The notes on the first fault of a text. If the text is a diagram, they say what reads it.
-pub(crate) fn told_of_parse(
+pub(crate) fn notes_of_parse(
     alloc: Global,
     task: Task<'_>,
     text: &[u8],
     fault: ParseFault,
-) -> Result<Told, AllocError>
+) -> Result<FaultNotes, AllocError>
     ensures { IfOk result (λ told. HasParseFault text.now fault → told.place ≡ parse_place fault) }
 {
     let told = tell_parse(alloc, text, fault)?;
@@ -80,7 +84,7 @@ fn write_parse_notes<E: Write>(
 ) -> io::Result<()> {
     let file = request.file;
     let lines = Lines::of(alloc, text)?;
-    let told = told_of_parse(alloc, request.task, text, fault)?;
+    let told = notes_of_parse(alloc, request.task, text, fault)?;
     write_told_of(alloc, faults, file, &lines, &told)
 }
 
@@ -108,7 +112,7 @@ fn write_chart_notes<E: Write>(
     write_further(faults, file.as_bytes(), &lines, &further, write_line)
 }
 
-/// Writes where a faulty comment of a text stands.
+/// Writes the place of a faulty comment of a text.
 fn write_mark_notes<E: Write>(
     alloc: Global,
     faults: &mut E,
@@ -117,14 +121,14 @@ fn write_mark_notes<E: Write>(
     fault: MarkFault,
 ) -> io::Result<()> {
     let lines = Lines::of(alloc, text)?;
-    let told = Told {
+    let told = FaultNotes {
         place: mark_place(fault),
         notes: Listed::from_vec(Vec::new(alloc)),
     };
     write_told_of(alloc, faults, file, &lines, &told)
 }
 
-/// The number of the diagram that a task takes of Markdown, if it is given.
+/// The number of the diagram that a task takes from Markdown, if it is given.
 fn fence_in(task: Task<'_>) -> Option<usize> {
     match task {
         Task::Import(words) => fence_of(words.diagram.fence),
@@ -133,7 +137,7 @@ fn fence_in(task: Task<'_>) -> Option<usize> {
     }
 }
 
-/// What a text holds, unless it is too long.
+/// The diagrams of a text, unless it is too long.
 fn held(alloc: Global, text: &[u8]) -> Result<Option<Markdown<'_>>, AllocError> {
     match Markdown::of(alloc, text) {
         Ok(found) => Ok(Some(found)),
@@ -142,7 +146,7 @@ fn held(alloc: Global, text: &[u8]) -> Result<Option<Markdown<'_>>, AllocError> 
     }
 }
 
-/// The number of the block that a task takes of a text: the one that it names, or the only one.
+/// The number of the block that a task takes from a text: the one that it names, or the only one.
 fn number_in(task: Task<'_>, found: &Markdown<'_>) -> Option<usize> {
     if let Some(number) = fence_in(task) {
         return Some(number);
@@ -153,7 +157,7 @@ fn number_in(task: Task<'_>, found: &Markdown<'_>) -> Option<usize> {
     }
 }
 
-/// The text of the diagram that a task takes of a text, with its bytes where they stand in it.
+/// The text of the diagram that a task takes from a text, with its bytes at their places.
 pub(crate) fn diagram_text(
     alloc: Global,
     task: Task<'_>,
@@ -169,13 +173,13 @@ pub(crate) fn diagram_text(
 }
 
 /// The notes on a fault of an import of a text. `plain` is the text of its diagram.
-pub(crate) fn told_of_import(
+pub(crate) fn notes_of_import(
     alloc: Global,
     task: Task<'_>,
     text: &[u8],
     plain: &[u8],
     fault: ImportFault,
-) -> Result<Told, AllocError>
+) -> Result<FaultNotes, AllocError>
     ensures { IfOk result (λ told. IfSome told.place
         (λ at. IsOnLine plain.now (fault_line fault) at)) }
 {
@@ -203,7 +207,7 @@ fn write_import_notes<E: Write>(
     refused: Refused,
 ) -> io::Result<()> {
     let plain = diagram_text(alloc, request.task, text)?;
-    let told = told_of_import(alloc, request.task, text, plain.as_slice(), refused.fault)?;
+    let told = notes_of_import(alloc, request.task, text, plain.as_slice(), refused.fault)?;
     let whole = with_plain_lines(alloc, text)?;
     let lines = Lines::of(alloc, whole.as_slice())?;
     write_told_of(alloc, faults, request.file, &lines, &told)

@@ -21,7 +21,7 @@ use crate::misuse::write_misuse;
 use crate::recorded::TellsFailure;
 use crate::shown::Shown;
 use crate::tasks::{Request, Task, file_of, notes_of, task_of};
-use crate::words::Verb;
+use crate::words::CommandName;
 use clap::{ArgMatches, Error};
 use msc_report::Fault;
 use msc_source::ReadFault;
@@ -32,7 +32,7 @@ use std::sync::Wait;
 use std::thread::Threads;
 use std::{fs, io};
 
-/// Does what is requested over a file, or over `input` where it is `-`.
+/// Performs a request on a file, or on `input` if the file is `-`.
 fn perform_on<R: Files + Threads + Wait + Sync, I: Read, O: TellsFailure, E: Write>(
     rt: &R,
     alloc: Global,
@@ -56,7 +56,7 @@ fn perform_on<R: Files + Threads + Wait + Sync, I: Read, O: TellsFailure, E: Wri
     }
 }
 
-/// Writes what `clap` says of words that are no command, or the help that they ask for.
+/// Writes the message of `clap` on words that are no command, or the help that they request.
 fn tell_usage<O: Write, E: Write>(output: &mut O, faults: &mut E, error: &Error) -> Status
     ensures told { TellsAnswer O.contents result output.old output.new }
     ensures ends { EndsUsage (kind_of error.now) result output.old output.new }
@@ -75,12 +75,12 @@ fn tell_usage<O: Write, E: Write>(output: &mut O, faults: &mut E, error: &Error)
     }
 }
 
-/// What the words behind a command of this name ask for. Why they are no command goes to `faults`.
+/// The task of the words after a command of this name. Why they are no command goes to `faults`.
 fn task_named<'w, E: Write>(name: &str, words: &'w ArgMatches, faults: &mut E) -> Option<Task<'w>>
     ensures { MatchOption result (IsNamedVainly name.now (found_of words.entry.now))
         (IsNamed name.now (found_of words.entry.now)) }
 {
-    match task_of(Verb::of(name)?, words) {
+    match task_of(CommandName::of(name)?, words) {
         Ok(task) => Some(task),
         Err(misuse) => {
             let _ = write_misuse(&mut Shown { inner: faults }, misuse);
@@ -89,7 +89,7 @@ fn task_named<'w, E: Write>(name: &str, words: &'w ArgMatches, faults: &mut E) -
     }
 }
 
-/// Does what the words behind a command ask for, and tells how the run ended.
+/// Performs the task of the words after a command, and returns the status.
 fn obey<R: Files + Threads + Wait + Sync, I: Read, O: TellsFailure, E: Write + IsTerminal>(
     rt: &R,
     alloc: Global,
@@ -115,7 +115,7 @@ fn obey<R: Files + Threads + Wait + Sync, I: Read, O: TellsFailure, E: Write + I
     perform_on(rt, alloc, request, input, output, faults)
 }
 
-/// Does what the words ask for that `clap` took, and tells how the run ended.
+/// Performs the task of words that `clap` took, and returns the status.
 fn obey_matches<R: Files + Threads + Wait + Sync, I: Read, O: TellsFailure, E: Write + IsTerminal>(
     rt: &R,
     alloc: Global,
@@ -134,8 +134,8 @@ fn obey_matches<R: Files + Threads + Wait + Sync, I: Read, O: TellsFailure, E: W
     }
 }
 
-/// Does what the words ask for, and tells how the run ended. An error is a growth of memory that
-/// was refused before the words were known.
+/// Performs the task of the words, and returns the status. An error is a growth of memory that was
+/// refused before the words were known.
 fn run<R: Files + Threads + Wait + Sync, I: Read, O: TellsFailure, E: Write + IsTerminal>(
     rt: &R,
     alloc: Global,
@@ -158,7 +158,7 @@ fn run<R: Files + Threads + Wait + Sync, I: Read, O: TellsFailure, E: Write + Is
 }
 
 /// The exit status of a program that could not read its own words: memory ran out, or a word is no
-/// text. What went wrong is written to `faults`, where that succeeds.
+/// text. Writes why to `faults`.
 pub fn refuse_words<E: Write>(faults: &mut E, error: &io::Error) -> u8
     ensures memory { error_kind error.now ≡ OutOfMemory → result ≡ 4 }
     ensures usage { error_kind error.now ≢ OutOfMemory → result ≡ 2 }
@@ -179,11 +179,12 @@ pub fn refuse_words<E: Write>(faults: &mut E, error: &io::Error) -> u8
 ///   it. `--show N` shows runs of the first N races, `--most N` lists the first N, `--closest` only
 ///   the closest ones. `--allow KIND` leaves out the races of a kind (`early`, `queues`,
 ///   `unordered`, `overtaken`), `--accept` those that marks accept. `--why` adds kinds and causes.
-///   `--format count` prints numbers, `--format lines` lines for editors, `--quiet` nothing.
+///   `--chart_format count` prints numbers, `--chart_format lines` lines for editors, `--quiet`
+///   nothing.
 /// - `check --from LANGUAGE ..`: the same for all scenarios of a sequence diagram, or of all
 ///   diagrams of a Markdown text; `--fence N` takes its N-th block.
-/// - `explain --queues QUEUES FILE E F`: why event E is enforced before event F, or a run that has F
-///   first.
+/// - `explain --queues QUEUES FILE E F`: why event E is enforced before event F, or a run that has
+///   F first.
 /// - `ready --queues QUEUES [--only NAME].. FILE`: whether instances that wait for one message can
 ///   stick. `--again` of `check` and `ready` adds what is between a round and the next.
 /// - `run --queues QUEUES [--patience N] FILE`: an execution, in which an instance gives up after N
@@ -195,17 +196,17 @@ pub fn refuse_words<E: Write>(faults: &mut E, error: &io::Error) -> u8
 ///
 /// `--places` prints where events stand, and `--words` prints runs in words.
 ///
-/// Refusals are looked for in this order: the words, opening FILE, reading it, its text, the pair of
-/// events or the names, its rounds, running it. The line of a refusal goes to `faults`, with notes
-/// if `--places` is given, or if `faults` is a terminal and `--plain` is not given. If that writing
-/// fails, the status stays.
+/// Refusals are looked for in this order: the words, opening FILE, reading it, its text, the pair
+/// of events or the names, its rounds, running it. The line of a refusal goes to `faults`, with
+/// notes if `--places` is given, or if `faults` is a terminal and `--plain` is not given. If that
+/// writing fails, the status stays.
 ///
 /// The status is 0 if the answer or the requested help was written. It is 1 if there are races that
 /// are not left out, if E is not enforced before F, or if a system of ready instances can stick. It
 /// is 2 if the words are no command, or if the text, a diagram of a Markdown text, its rounds, the
-/// pair or a name was refused. It is 3 if some instance of an execution has not finished. It is 4 if
-/// memory ran out, a thread could not be started, a file could not be opened or read, or the output
-/// could not be written.
+/// pair or a name was refused. It is 3 if some instance of an execution has not finished. It is 4
+/// if memory ran out, a thread could not be started, a file could not be opened or read, or the
+/// output could not be written.
 pub fn command<R: Files + Threads + Wait + Sync, I: Read, O: TellsFailure, E: Write + IsTerminal>(
     rt: &R,
     alloc: Global,

@@ -48,7 +48,7 @@ fn is_named(names: &[&str], instance: &[u8]) -> bool
     false
 }
 
-/// Of each instance whether it is named.
+/// For each instance whether it is named.
 fn each_named(alloc: Global, chart: &Chart, names: &[&str]) -> Result<Vec<bool>, AllocError>
     ensures { IfOk result (λ lines.
         AreNamedLines chart.now (map (λ name. name.now) names.now) lines.items) }
@@ -60,7 +60,7 @@ fn each_named(alloc: Global, chart: &Chart, names: &[&str]) -> Result<Vec<bool>,
     Ok(lines)
 }
 
-/// Of each instance whether it is named, where some name is given; each is that of an instance.
+/// For each instance whether it is named, if names are given; each is that of an instance.
 pub(crate) fn lines_named(
     alloc: Global,
     chart: &Chart,
@@ -76,7 +76,7 @@ pub(crate) fn lines_named(
     Ok(Some(each_named(alloc, chart, names)?))
 }
 
-/// What is said of each instance, lent.
+/// The same list, borrowed.
 pub(crate) fn lent(lines: &Option<Vec<bool>>) -> Option<&[bool]>
     ensures { option_copied result ≡ option_map (λ l. l.items) lines.now }
 {

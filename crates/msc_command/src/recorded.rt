@@ -1,4 +1,4 @@
-//! A writer that keeps why it failed, so that it can be told.
+//! A writer that keeps why it failed.
 
 ghost use Rattle.std.specs.Prelude.{◌≡◌, None};
 ghost use Rattle.std.specs.Io.{WritesAtMost};
@@ -7,13 +7,13 @@ ghost use Rattle.std.specs.Io.KnownBytes.{Keeps, WriteAppends};
 use std::io;
 use std::io::Write;
 
-/// A writer that tells why its last call that failed did so.
+/// A writer that knows why its last failed call failed.
 pub trait TellsFailure: Write {
     /// The error of that call, if one failed.
     fn failure(&self) -> Option<io::Error>;
 }
 
-/// A writer with the error of its last call that failed.
+/// A writer with the error of its last failed call.
 #[derive(Drop)]
 pub struct Recorded<W> {
     pub writer: W,

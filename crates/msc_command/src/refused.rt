@@ -1,5 +1,5 @@
-//! A refusal as lines for editors, on the output: its fixed line at its place, each note at its own,
-//! and the further faults in the same way.
+//! A refusal as lines for editors, on the output: its fixed line at its place, each note at its
+//! own, and the further faults in the same way.
 
 ghost use Rattle.std.specs.Prelude.{◌≡◌, ℕ, List, [], Option, ◌++◌, IfOk, OnOk};
 ghost use Rattle.msc_command.specs.Ending.{refusal_line};
@@ -10,25 +10,25 @@ ghost use Rattle.msc_notes.specs.Texts.{error_text};
 ghost use Rattle.msc_parser.specs.Parsing.{HasDraft};
 
 use crate::ending::{Refusal, write_refusal};
-use crate::notes::{diagram_text, told_of_import, told_of_parse};
+use crate::notes::{diagram_text, notes_of_import, notes_of_parse};
 use crate::tasks::Task;
 use msc_chart::ChartFault;
 use msc_import::Refused;
 use msc_import_notes::fault_line;
-use msc_judge::Page;
 use msc_mark::MarkFault;
 use msc_mermaid::ImportFault;
 use msc_notes::writing::{write_error, write_note_line};
-use msc_notes::{Note, Told, ToldFault, tell_chart, tell_further};
+use msc_notes::{FaultNotes, Note, NotedFault, tell_chart, tell_further};
 use msc_parser::laws::one_parsing;
 use msc_parser::{Draft, ParseFault, parse};
 use msc_place::writing::write_place;
 use msc_place::{Lines, Places, Position};
+use msc_print::Page;
 use msc_report::Fault;
 use std::alloc::{AllocError, Global};
 
-/// Puts a refusal behind a page: its line behind the position of this place, if it has one.
-fn put_error(
+/// Appends a refusal to a page: its line after the position of this place, if it has one.
+fn print_error(
     page: &mut Page,
     file: &str,
     lines: &Lines<'_>,
@@ -47,8 +47,8 @@ fn put_error(
     }
 }
 
-/// Puts a note of a fault at this place behind a page.
-fn put_note(
+/// Appends a note on a fault at this place to a page.
+fn print_note(
     page: &mut Page,
     file: &str,
     lines: &Lines<'_>,
@@ -63,43 +63,48 @@ fn put_note(
     }
 }
 
-/// Puts what was told of a fault behind a page, beside its line: its notes.
-fn put_notes(page: &mut Page, file: &str, lines: &Lines<'_>, told: &Told) -> Result<(), AllocError>
+/// Appends the notes on a fault to a page.
+fn print_notes(
+    page: &mut Page,
+    file: &str,
+    lines: &Lines<'_>,
+    told: &FaultNotes,
+) -> Result<(), AllocError>
     ensures { OnOk result (Extends page.old.bytes.items page.new.bytes.items) }
 {
     for note in told.notes.as_slice() {
-        put_note(page, file, lines, note, told.place)?;
+        print_note(page, file, lines, note, told.place)?;
     }
     Ok(())
 }
 
-/// Puts a refusal behind a page, with what was told of it.
-fn put_told(
+/// Appends a refusal to a page, with its notes.
+fn print_told(
     page: &mut Page,
     file: &str,
     lines: &Lines<'_>,
-    told: &Told,
+    told: &FaultNotes,
     refusal: Refusal<'_>,
 ) -> Result<(), AllocError>
     ensures { OnOk result ((more : List ℕ) × BeginsSo file.now lines.now told.now.place
         (refusal_line refusal.entry ++ more) page.old.bytes.items page.new.bytes.items) }
 {
-    put_error(page, file, lines, told.place, refusal)?;
-    put_notes(page, file, lines, told)
+    print_error(page, file, lines, told.place, refusal)?;
+    print_notes(page, file, lines, told)
 }
 
-/// Puts further faults behind a page, each with what was told of it.
-fn put_further(
+/// Appends further faults to a page, each with its notes.
+fn print_further(
     page: &mut Page,
     file: &str,
     lines: &Lines<'_>,
-    further: &[ToldFault],
+    further: &[NotedFault],
 ) -> Result<(), AllocError>
     ensures { OnOk result (Extends page.old.bytes.items page.new.bytes.items) }
 {
     for other in further {
         let refusal = Refusal::Fault(Fault::Chart(other.fault));
-        put_told(page, file, lines, &other.told, refusal)?;
+        print_told(page, file, lines, &other.told, refusal)?;
     }
     Ok(())
 }
@@ -116,14 +121,14 @@ fn parse_lines(
         (Refusal.Fault (Fault.Parse fault)) page.bytes.items) }
 {
     let lines = Lines::of(alloc, text)?;
-    let told = told_of_parse(alloc, task, text, fault)?;
+    let told = notes_of_parse(alloc, task, text, fault)?;
     let mut page = Page::new(alloc);
     let refusal = Refusal::Fault(Fault::Parse(fault));
-    put_told(&mut page, file, &lines, &told, refusal)?;
+    print_told(&mut page, file, &lines, &told, refusal)?;
     Ok(page)
 }
 
-/// The line of a refusal that stands at this place, if it has one.
+/// The line of a refusal at this place, if it has one.
 fn bare_lines(
     alloc: Global,
     file: &str,
@@ -136,11 +141,11 @@ fn bare_lines(
 {
     let lines = Lines::of(alloc, text)?;
     let mut page = Page::new(alloc);
-    put_error(&mut page, file, &lines, place, refusal)?;
+    print_error(&mut page, file, &lines, place, refusal)?;
     Ok(page)
 }
 
-/// The lines of a fault of a text's draft, and of the further ones.
+/// The lines of a fault of a text's draft, and of the further faults.
 fn draft_lines(
     alloc: Global,
     file: &str,
@@ -158,14 +163,14 @@ fn draft_lines(
     let told = tell_chart(alloc, draft, &places, fault)?;
     let mut page = Page::new(alloc);
     let refusal = Refusal::Fault(Fault::Chart(fault));
-    put_told(&mut page, file, &lines, &told, refusal)?;
+    print_told(&mut page, file, &lines, &told, refusal)?;
     let further = tell_further(alloc, draft, &places, fault)?;
-    put_further(&mut page, file, &lines, further.first.as_slice())?;
+    print_further(&mut page, file, &lines, further.first.as_slice())?;
     Ok(page)
 }
 
-/// The lines of the first fault of a text's draft, and of the further ones. A text that has such a
-/// fault has a draft: it is only memory that can run out where it is read again.
+/// The lines of the first fault of a text's draft, and of the further faults. A text with such a
+/// fault has a draft; only memory can run out when it is read again.
 fn chart_lines(
     alloc: Global,
     file: &str,
@@ -191,8 +196,8 @@ pub(crate) fn mark_place(fault: MarkFault) -> Option<usize>
     }
 }
 
-/// Puts what stands before the line of a fault for editors behind a page, at this position.
-fn put_position(page: &mut Page, file: &str, position: Position) -> Result<(), AllocError>
+/// Appends what precedes the line of a fault for editors to a page, at this position.
+fn print_position(page: &mut Page, file: &str, position: Position) -> Result<(), AllocError>
     ensures { OnOk result (page.new.bytes.items
         ≡ page.old.bytes.items ++ error_text file.now position) }
 {
@@ -203,8 +208,8 @@ fn put_position(page: &mut Page, file: &str, position: Position) -> Result<(), A
     Ok(())
 }
 
-/// Puts why nothing is imported behind a page: its line behind this position.
-fn put_import(
+/// Appends why a text is not imported to a page: its line after this position.
+fn print_import(
     page: &mut Page,
     file: &str,
     position: Position,
@@ -213,15 +218,15 @@ fn put_import(
     ensures { OnOk result (page.new.bytes.items ≡ page.old.bytes.items
         ++ (error_text file.now position ++ refusal_line (Refusal.Import refused))) }
 {
-    put_position(page, file, position)?;
+    print_position(page, file, position)?;
     match write_refusal(page, Refusal::Import(refused)) {
         Ok(()) => Ok(()),
         Err(_) => Err(AllocError),
     }
 }
 
-/// The position of a fault of an import: that of its place, if it has one on its line; else the
-/// beginning of the line.
+/// The position of a fault of an import: that of its place, if it has one on its line, otherwise
+/// the beginning of the line.
 fn import_position(lines: &Lines<'_>, place: Option<usize>, fault: ImportFault) -> Position
     ensures { result.line ≡ fault_line fault }
 {
@@ -235,7 +240,7 @@ fn import_position(lines: &Lines<'_>, place: Option<usize>, fault: ImportFault) 
     Position { line, column: 1 }
 }
 
-/// Why nothing is imported, with its notes.
+/// Why a text is not imported, with its notes.
 fn import_lines(
     alloc: Global,
     task: Task<'_>,
@@ -248,11 +253,11 @@ fn import_lines(
 {
     let plain = diagram_text(alloc, task, text)?;
     let lines = Lines::of(alloc, plain.as_slice())?;
-    let told = told_of_import(alloc, task, text, plain.as_slice(), refused.fault)?;
+    let told = notes_of_import(alloc, task, text, plain.as_slice(), refused.fault)?;
     let position = import_position(&lines, told.place, refused.fault);
     let mut page = Page::new(alloc);
-    put_import(&mut page, file, position, refused)?;
-    put_notes(&mut page, file, &lines, &told)?;
+    print_import(&mut page, file, position, refused)?;
+    print_notes(&mut page, file, &lines, &told)?;
     Ok(page)
 }
 

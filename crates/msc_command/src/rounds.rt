@@ -1,22 +1,22 @@
-//! Two rounds of a chart, where they are asked for.
+//! Two rounds of a chart, if they are requested.
 
-ghost use Rattle.std.specs.Prelude.{◌≡◌, option_map};
+ghost use Rattle.std.specs.Prelude.{◌≡◌};
 ghost use Rattle.msc_command.specs.Rounds.{GivesRounds};
 
-use msc_chart::{Chart, TwiceFault};
+use msc_chart::{Chart, UnrollFault, Unrolled};
 use std::alloc::Global;
 
-/// Two rounds of a chart, where they are asked for. An error comes where they are too much for a
-/// chart, and where a growth of memory was refused.
+/// Two rounds of a chart, if they are requested. An error is that they are too much for a chart, or
+/// a growth of memory that was refused.
 pub(crate) fn rounds_of(
     alloc: Global,
     again: bool,
     chart: &Chart,
-) -> Result<Option<Chart>, TwiceFault>
+) -> Result<Option<Unrolled<'_>>, UnrollFault>
     ensures { GivesRounds again chart.now result }
 {
     if !again {
         return Ok(None);
     }
-    Ok(Some(chart.twice(alloc)?))
+    Ok(Some(Unrolled::of(alloc, chart)?))
 }

@@ -1,25 +1,27 @@
-//! What is asked of the races of all scenarios of a diagram.
+//! Checks of all scenarios of a diagram.
 
-ghost use Rattle.std.specs.Prelude.{◌≡◌, [], ◌∷◌, ◌++◌, map, IfErr, IfOk, OnOk};
+ghost use Rattle.std.specs.Prelude.{◌≡◌, ◌++◌, ◌∷◌, [], map, IfOk, OnOk};
 ghost use Rattle.msc_command.specs.Answering.{AnswersWith};
-ghost use Rattle.msc_command.specs.Scenarios.{draws_branches, refusing, wanted_of, with_chart};
-ghost use Rattle.msc_command.specs.Scenarios.{AreCharts, AreNotCharted};
-ghost use Rattle.msc_command.specs.Scenarios.{BeginsScenarios, IsCharted, IsFormOf};
+ghost use Rattle.msc_command.specs.Charting.{with_chart, AreCharts};
+ghost use Rattle.msc_command.specs.Scenarios.{BeginsScenarios, IsCharted, IsFormatOf};
 ghost use Rattle.msc_command.specs.Scenarios.{IsImportOfAll, PrintsScenarios, RefusesScenarios};
 ghost use Rattle.msc_command.specs.Scenarios.{BeginsAll, PrintsAll, PrintsCounted};
 
 use crate::choices::rounds_of;
 use crate::ending::{Refusal, Status, ended_by};
 use crate::importing::{chart_of, fence_of};
-use crate::tasks::{Checking, DiagramWords, Form, ScenarioWords};
-use msc_diagram::{Form as DiagramForm, Look, Scenario, judge_scenarios, scenarios_pass};
-use msc_import::{ImportingAll, Manner, Par, Scenario as Drawn, Scenarios, import_all};
+use crate::tasks::{CheckArgs, Format, ScenarioArgs};
+use msc_diagram::{
+    DiagramFormat, DiagramStyle, Lent, Scenario, Source, judge_scenarios, scenarios_pass,
+};
+use msc_import::{Drawings, ImportingAll, Scenario as Drawn, Scenarios, import_all};
 use msc_import_laws::laws::imports_are_charts;
-use msc_place::Sites;
+use msc_place::EventPositions;
 use std::alloc::{AllocError, Global};
 use std::io::Write;
+use std::marker::Model;
 
-/// How the check of a diagram ends, and how many of its races are listed.
+/// The status of the check of a diagram, and the number of its listed races.
 #[derive(Clone, Copy)]
 pub(crate) struct Surveyed {
     pub status: Status,
@@ -27,11 +29,11 @@ pub(crate) struct Surveyed {
 }
 
 /// All scenarios of the diagram of a text.
-fn import_of_all(
+fn import_of_all<'w>(
     alloc: Global,
-    words: ScenarioWords<'_>,
+    words: ScenarioArgs<'w>,
     text: &[u8],
-) -> Result<Scenarios, Refusal<'static>>
+) -> Result<Scenarios<'w>, Refusal<'static>>
     ensures { IsImportOfAll words.entry text.now result }
 {
     let rounds = rounds_of(alloc, words.rounds)?;
@@ -48,147 +50,172 @@ fn import_of_all(
     Ok(all)
 }
 
-/// The same words, but parallel branches are refused that would be drawn one below the other.
-pub(crate) fn refusing(words: ScenarioWords<'_>) -> ScenarioWords<'_>
-    ensures { wanted_of result ≡ refusing (wanted_of words.entry) }
-{
-    let diagram = DiagramWords {
-        language: words.diagram.language,
-        fence: words.diagram.fence,
-        cross: words.diagram.cross,
-        manner: Manner {
-            own: words.diagram.manner.own,
-            par: Par::Refused,
-        },
-        name: words.diagram.name,
-    };
-    ScenarioWords {
-        diagram,
-        rounds: words.rounds,
-        limit: words.limit,
-        checking: words.checking,
-        quiet: words.quiet,
-    }
-}
-
 /// A scenario with its chart, and with the places of its events in the file of this name; or why it
-/// is no chart.
+/// has no chart.
 fn charted<'f>(alloc: Global, file: &'f str, drawn: Drawn) -> Result<Scenario<'f>, Refusal<'static>>
     ensures { IsCharted file.entry.now drawn result }
 {
     let chart = chart_of(alloc, &drawn.draft)?;
-    let sites = Sites::at(file.as_bytes(), drawn.places.into_vec());
+    let event_positions = EventPositions::at(file.as_bytes(), drawn.places.into_vec());
     Ok(Scenario {
         choices: drawn.choices,
         chart,
-        sites,
+        event_positions,
     })
 }
 
-/// Puts a scenario behind others. An error is a growth of memory that was refused.
-fn put_charted<'f>(charts: &mut Vec<Scenario<'f>>, one: Scenario<'f>) -> Result<(), AllocError>
+/// Appends a scenario to others. An error is a growth of memory that was refused.
+fn print_charted<'f>(charts: &mut Vec<Scenario<'f>>, one: Scenario<'f>) -> Result<(), AllocError>
     ensures { OnOk result (charts.new.items ≡ charts.old.items ++ one.entry ∷ []) }
 {
     charts.push(one)?;
     Ok(())
 }
 
-/// Each of these scenarios with its chart, or why the first of which that is no chart is none.
-pub(crate) fn each_charted<'f>(
+/// Each of these scenarios with its chart.
+fn each_charted<'f>(
     alloc: Global,
     file: &'f str,
     all: Vec<Drawn>,
 ) -> Result<Vec<Scenario<'f>>, Refusal<'static>>
-    ensures charts { IfOk result (λ charts. AreCharts all.items
-        × (charts.items ≡ map (with_chart file.entry.now) all.items)) }
-    ensures none { IfErr result (AreNotCharted all.items) }
+    ensures { IfOk result (λ charts. charts.items ≡ map (with_chart file.entry.now) all.items) }
 {
     let mut charts = Vec::new(alloc);
     for drawn in all {
-        put_charted(&mut charts, charted(alloc, file, drawn)?)?;
+        print_charted(&mut charts, charted(alloc, file, drawn)?)?;
     }
     Ok(charts)
 }
 
-/// Whether parallel branches of the diagram of a text are drawn one below the other in some scenario:
-/// without the option for it, they are refused.
-fn draws_branches(alloc: Global, words: ScenarioWords<'_>, text: &[u8]) -> Result<bool, AllocError>
-    ensures { IfOk result (λ drawn. drawn ≡ draws_branches words.entry text.now) }
-{
-    if words.diagram.manner.par == Par::Refused {
-        return Ok(false);
-    }
-    match import_of_all(alloc, refusing(words), text) {
-        Ok(_) => Ok(false),
-        Err(Refusal::Import(_)) => Ok(true),
-        Err(_) => Err(AllocError),
+/// All scenarios of a diagram in the file of this name. The charts of the first are kept; each of
+/// the others is drawn and becomes a chart when it is taken. Contracts see the list of them, with
+/// their charts.
+#[derive(Drop)]
+pub(crate) struct Charts<'f> {
+    file: &'f str,
+    drawings: Drawings<'f>,
+    first: Vec<Scenario<'f>>,
+}
+
+impl<'f> Model for Charts<'f> {
+    ghost use Rattle.std.specs.Prelude.{◌≡◌, List, length, map, take};
+    ghost use Rattle.msc_diagram.specs.declared.scenario.Scenario.{Scenario};
+    ghost use Rattle.msc_command.specs.Charting.{with_chart, AreCharts};
+
+    ghost Value = { List Scenario };
+
+    ghost view = { λ c. map (with_chart c.file.now) c.drawings };
+
+    ghost invariant = { λ c. AreCharts c.drawings
+        × (c.first.items ≡ take (length c.first.items) (map (with_chart c.file.now) c.drawings)) };
+}
+
+impl<'f> Charts<'f> {
+    /// The charts of these drawings; each drawing is one. An error is a growth of memory that was
+    /// refused.
+    pub(crate) fn of(
+        alloc: Global,
+        file: &'f str,
+        drawings: Drawings<'f>,
+    ) -> Result<Self, AllocError>
+        requires { AreCharts drawings }
+        ensures { IfOk result (λ charts. charts ≡ map (with_chart file.now) drawings.entry) }
+    {
+        let mut drawings = drawings;
+        let drawn = drawings.take_first(alloc);
+        match each_charted(alloc, file, drawn) {
+            Ok(first) => Ok(Charts {
+                file,
+                drawings,
+                first,
+            }),
+            Err(_) => Err(AllocError),
+        }
     }
 }
 
-/// The form in which scenarios are told, of the file of this name; `drawn` is whether parallel branches
-/// are drawn one below the other.
-fn form_of<'f>(checking: Checking, file: &'f [u8], drawn: bool) -> DiagramForm<'f>
-    ensures { IsFormOf checking file.entry.now drawn result }
+impl<'f> Source for Charts<'f> {
+    ghost scenarios = { λ charts. charts };
+
+    fn len(&self) -> usize {
+        self.drawings.len()
+    }
+
+    fn scenario(&self, alloc: Global, i: usize) -> Result<Lent<'_>, AllocError> {
+        if i < self.first.len() {
+            return Ok(Lent::kept(&self.first[i]));
+        }
+        let drawn = self.drawings.scenario(alloc, i)?;
+        match charted(alloc, self.file, drawn) {
+            Ok(scenario) => Ok(Lent::made(scenario)),
+            Err(_) => Err(AllocError),
+        }
+    }
+}
+
+/// The format of an answer on scenarios, for the file of this name; `drawn` is whether parallel
+/// branches are drawn one below the other.
+fn format_of<'f>(check_args: CheckArgs, file: &'f [u8], drawn: bool) -> DiagramFormat<'f>
+    ensures { IsFormatOf check_args file.entry.now drawn result }
 {
-    match checking.form {
-        Form::Text => DiagramForm::Lines(Look {
-            words: checking.look.words,
+    match check_args.format {
+        Format::Text => DiagramFormat::Lines(DiagramStyle {
+            words: check_args.event_style.words,
             drawn,
         }),
-        Form::Count => DiagramForm::Count(file),
-        Form::Lines => DiagramForm::Editor,
+        Format::Count => DiagramFormat::Count(file),
+        Format::Lines => DiagramFormat::Editor,
     }
 }
 
-/// Writes what is asked of the races of these scenarios, of a diagram of this name in the file of
-/// this one.
+/// Writes the answer on the races of these scenarios, for a diagram of this name in this file.
 pub(crate) fn tell<O: Write>(
     alloc: Global,
-    words: ScenarioWords<'_>,
+    words: ScenarioArgs<'_>,
     file: &[u8],
     name: &[u8],
     drawn: bool,
-    scenarios: &[Scenario<'_>],
+    scenarios: &Charts<'_>,
     output: &mut O,
 ) -> Result<Surveyed, Refusal<'static>>
     ensures { AnswersWith O.contents
-        (PrintsCounted words.entry.quiet words.entry.checking file.now name.now drawn scenarios.now)
-        (BeginsAll words.entry.quiet words.entry.checking file.now name.now drawn scenarios.now)
+        (PrintsCounted words.entry.quiet words.entry.check_args file.now name.now drawn scenarios.now)
+        (BeginsAll words.entry.quiet words.entry.check_args file.now name.now drawn scenarios.now)
         (λ refusal. ⊥) result output.old output.new }
 {
-    let Checking {
+    let CheckArgs {
         queues,
-        question,
+        options,
         ..
-    } = words.checking;
+    } = words.check_args;
     if words.quiet {
-        let passes = scenarios_pass(alloc, scenarios, queues, question.allowed)?;
+        let passes = scenarios_pass(alloc, scenarios, queues, options.allowed)?;
         return Ok(Surveyed {
             status: ended_by(passes),
             listed: 0,
         });
     }
-    let form = form_of(words.checking, file, drawn);
-    let listed = judge_scenarios(alloc, name, scenarios, queues, question, form, output)?;
+    let format = format_of(words.check_args, file, drawn);
+    let listed = judge_scenarios(alloc, name, scenarios, queues, options, format, output)?;
     Ok(Surveyed {
         status: ended_by(listed == 0),
         listed,
     })
 }
 
-/// The same; answers how the run ends.
+/// Writes the same, and returns the status.
 fn tell_all<O: Write>(
     alloc: Global,
-    words: ScenarioWords<'_>,
+    words: ScenarioArgs<'_>,
     file: &[u8],
     name: &[u8],
     drawn: bool,
-    scenarios: &[Scenario<'_>],
+    scenarios: &Charts<'_>,
     output: &mut O,
 ) -> Result<Status, Refusal<'static>>
     ensures { AnswersWith O.contents
-        (PrintsAll words.entry.quiet words.entry.checking file.now name.now drawn scenarios.now)
-        (BeginsAll words.entry.quiet words.entry.checking file.now name.now drawn scenarios.now)
+        (PrintsAll words.entry.quiet words.entry.check_args file.now name.now drawn scenarios.now)
+        (BeginsAll words.entry.quiet words.entry.check_args file.now name.now drawn scenarios.now)
         (λ refusal. ⊥) result output.old output.new }
 {
     match tell(alloc, words, file, name, drawn, scenarios, output) {
@@ -197,11 +224,10 @@ fn tell_all<O: Write>(
     }
 }
 
-/// Writes what is asked of the races of all scenarios of the diagram of the text of a file of this
-/// name.
+/// Writes the answer on the races of all scenarios of a diagram in the file of this name.
 pub(crate) fn check_scenarios<O: Write>(
     alloc: Global,
-    words: ScenarioWords<'_>,
+    words: ScenarioArgs<'_>,
     file: &str,
     text: &[u8],
     output: &mut O,
@@ -212,16 +238,15 @@ pub(crate) fn check_scenarios<O: Write>(
 {
     imports_are_charts();
     let all = import_of_all(alloc, words, text)?;
-    let charts = each_charted(alloc, file, all.list.into_vec())?;
-    let drawn = draws_branches(alloc, words, text)?;
+    let charts = Charts::of(alloc, file, all.list)?;
     let name = all.name.as_slice();
     tell_all(
         alloc,
         words,
         file.as_bytes(),
         name,
-        drawn,
-        charts.as_slice(),
+        all.drawn,
+        &charts,
         output,
     )
 }

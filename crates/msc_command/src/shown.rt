@@ -1,9 +1,9 @@
-//! A writer for a terminal: words of the command line are shown there, and may hold any bytes.
+//! A writer for a terminal, for words of the command line: these may have any bytes.
 
 use std::io;
 use std::io::Write;
 
-/// How many bytes go out in one call at most.
+/// At most this many bytes are written in one call.
 const PIECE: usize = 256;
 
 /// A writer that shows each control byte but LF as `?`, so that no word moves the cursor or changes

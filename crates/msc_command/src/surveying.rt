@@ -1,4 +1,4 @@
-//! All sequence diagrams of a text of Markdown: one after the other, in the order of their numbers.
+//! All sequence diagrams of a text of Markdown, one after the other, in the order of their numbers.
 
 ghost use Rattle.std.specs.Prelude.{◌≡◌, ◌++◌, codes, map, IfOk, Ok, OnOk};
 ghost use Rattle.std.specs.Fmt.{decimal};
@@ -6,81 +6,83 @@ ghost use Rattle.msc_markdown.specs.Markdowns.{markdown};
 ghost use Rattle.msc_place.specs.Texts.{shown_byte};
 ghost use Rattle.msc_report.specs.Texts.{text_line};
 ghost use Rattle.msc_command.specs.Answering.{AnswersWith};
-ghost use Rattle.msc_command.specs.Scenarios.{draws_branches, IsImportOfAll, RefusesScenarios};
+ghost use Rattle.msc_command.specs.Scenarios.{IsImportOfAll, RefusesScenarios};
 ghost use Rattle.msc_command.specs.Surveys.{at_block, behind, many_in, many_of, numbered};
-ghost use Rattle.msc_command.specs.Surveys.{question_behind};
+ghost use Rattle.msc_command.specs.Surveys.{options_after};
 ghost use Rattle.msc_command.specs.Surveys.{refused_text, worse, BeginsBlock, PrintsBlock};
 
 use crate::choices::rounds_of;
 use crate::ending::{Refusal, Status};
-use crate::scenarios::{Surveyed, each_charted, refusing, tell};
-use crate::tasks::{Checking, DiagramWords, Form, ScenarioWords};
-use msc_import::{ImportingAll, Par, Scenarios, chart_name, import_all_from};
+use crate::scenarios::{Charts, Surveyed, tell};
+use crate::tasks::{CheckArgs, DiagramArgs, Format, ScenarioArgs};
+use msc_import::{ImportingAll, Scenarios, chart_name, import_all_from};
 use msc_import_laws::laws::imports_are_charts;
-use msc_judge::{Page, Question};
+use msc_judge::CheckOptions;
 use msc_markdown::Markdown;
 use msc_mermaid::ImportFault;
 use msc_place::writing::write_file;
+use msc_print::Page;
 use std::alloc::{AllocError, Global};
 use std::io::Write;
 
-/// What is asked of the races that follow so many listed ones.
-fn question_behind(question: Question, listed: u32) -> Question
-    ensures { result ≡ question_behind question listed }
+/// The options of a check of races that follow `listed` listed ones: `most` and `show` are less by
+/// these.
+fn options_after(options: CheckOptions, listed: u32) -> CheckOptions
+    ensures { result ≡ options_after options listed }
 {
-    Question {
-        closest: question.closest,
-        why: question.why,
-        allowed: question.allowed,
-        most: question.most.saturating_sub(listed),
-        show: question.show.saturating_sub(listed),
-        short: question.short,
+    CheckOptions {
+        closest: options.closest,
+        why: options.why,
+        allowed: options.allowed,
+        most: options.most.saturating_sub(listed),
+        show: options.show.saturating_sub(listed),
+        short: options.short,
     }
 }
 
-/// What the words ask of the diagrams that follow so many listed races.
-pub(crate) fn behind(words: ScenarioWords<'_>, listed: u32) -> ScenarioWords<'_>
+/// The same words for diagrams that follow `listed` listed races.
+pub(crate) fn behind(words: ScenarioArgs<'_>, listed: u32) -> ScenarioArgs<'_>
     ensures { result ≡ behind words.entry listed }
 {
-    let checking = Checking {
-        queues: words.checking.queues,
-        question: question_behind(words.checking.question, listed),
-        accept: words.checking.accept,
-        again: words.checking.again,
-        form: words.checking.form,
-        look: words.checking.look,
+    let check_args = CheckArgs {
+        queues: words.check_args.queues,
+        options: options_after(words.check_args.options, listed),
+        accept: words.check_args.accept,
+        again: words.check_args.again,
+        format: words.check_args.format,
+        event_style: words.check_args.event_style,
     };
-    ScenarioWords {
+    ScenarioArgs {
         diagram: words.diagram,
         rounds: words.rounds,
         limit: words.limit,
-        checking,
+        check_args,
         quiet: words.quiet,
     }
 }
 
-/// What the words ask of the diagram of this number.
-pub(crate) fn of_block(words: ScenarioWords<'_>, number: usize) -> ScenarioWords<'_>
-    ensures checking { result.checking ≡ words.entry.checking }
+/// The same words for the diagram with this number.
+pub(crate) fn of_block(words: ScenarioArgs<'_>, number: usize) -> ScenarioArgs<'_>
+    ensures check_args { result.check_args ≡ words.entry.check_args }
     ensures quiet { result.quiet ≡ words.entry.quiet }
 {
-    let diagram = DiagramWords {
+    let diagram = DiagramArgs {
         language: words.diagram.language,
         fence: u32::try_from(number).ok(),
         cross: words.diagram.cross,
         manner: words.diagram.manner,
         name: words.diagram.name,
     };
-    ScenarioWords {
+    ScenarioArgs {
         diagram,
         rounds: words.rounds,
         limit: words.limit,
-        checking: words.checking,
+        check_args: words.check_args,
         quiet: words.quiet,
     }
 }
 
-/// What a text of Markdown holds, if it has sequence diagrams and is none itself.
+/// The blocks of a Markdown text, if it has sequence diagrams and is none itself.
 fn many_of(found: Markdown<'_>) -> Option<Markdown<'_>>
     ensures { result ≡ many_of found.entry }
 {
@@ -90,11 +92,11 @@ fn many_of(found: Markdown<'_>) -> Option<Markdown<'_>>
     Some(found)
 }
 
-/// What a text of Markdown holds, if the words ask for all its sequence diagrams and it has some. A
+/// The blocks of a Markdown text, if the words are for all its sequence diagrams and it has some. A
 /// text that is too long has none here: its import is refused.
 pub(crate) fn blocks_of<'t>(
     alloc: Global,
-    words: ScenarioWords<'_>,
+    words: ScenarioArgs<'_>,
     text: &'t [u8],
 ) -> Result<Option<Markdown<'t>>, AllocError>
     ensures { IfOk result (λ found. found ≡ many_in words.entry text.entry.now) }
@@ -109,13 +111,13 @@ pub(crate) fn blocks_of<'t>(
     }
 }
 
-/// All scenarios of the diagram of this number.
-fn import_of_block(
+/// All scenarios of the diagram with this number.
+fn import_of_block<'w>(
     alloc: Global,
-    words: ScenarioWords<'_>,
+    words: ScenarioArgs<'w>,
     found: &Markdown<'_>,
     number: usize,
-) -> Result<Scenarios, Refusal<'static>>
+) -> Result<Scenarios<'w>, Refusal<'static>>
     requires { markdown found.now.text ≡ Ok found.now }
     ensures { IsImportOfAll (at_block words.entry number) found.now.text result }
 {
@@ -133,29 +135,8 @@ fn import_of_block(
     Ok(all)
 }
 
-/// Whether parallel branches of a diagram are drawn one below the other in some scenario.
-fn draws_branches(
-    alloc: Global,
-    words: ScenarioWords<'_>,
-    found: &Markdown<'_>,
-    number: usize,
-) -> Result<bool, AllocError>
-    requires { markdown found.now.text ≡ Ok found.now }
-    ensures { IfOk result (λ drawn. drawn
-        ≡ draws_branches (at_block words.entry number) found.now.text) }
-{
-    if words.diagram.manner.par == Par::Refused {
-        return Ok(false);
-    }
-    match import_of_block(alloc, refusing(words), found, number) {
-        Ok(_) => Ok(false),
-        Err(Refusal::Import(_)) => Ok(true),
-        Err(_) => Err(AllocError),
-    }
-}
-
-/// Puts the number of a diagram behind its name.
-fn put_number(page: &mut Page, number: usize) -> Result<(), AllocError>
+/// Appends the number of a diagram to its name.
+fn print_number(page: &mut Page, number: usize) -> Result<(), AllocError>
     ensures { OnOk result (page.new.bytes.items
         ≡ page.old.bytes.items ++ (codes "#" ++ decimal number)) }
 {
@@ -171,15 +152,14 @@ fn numbered(alloc: Global, name: &[u8], number: usize) -> Result<Page, AllocErro
 {
     let mut page = Page::new(alloc);
     page.bytes.extend_from_slice(name)?;
-    put_number(&mut page, number)?;
+    print_number(&mut page, number)?;
     Ok(page)
 }
 
-/// Writes what is asked of the races of all scenarios of the diagram of this number, of which it is
-/// known what the text holds.
+/// Writes the answer on the races of all scenarios of the diagram with this number.
 pub(crate) fn check_block<O: Write>(
     alloc: Global,
-    words: ScenarioWords<'_>,
+    words: ScenarioArgs<'_>,
     found: &Markdown<'_>,
     file: &str,
     number: usize,
@@ -194,15 +174,14 @@ pub(crate) fn check_block<O: Write>(
 {
     imports_are_charts();
     let all = import_of_block(alloc, words, found, number)?;
-    let charts = each_charted(alloc, file, all.list.into_vec())?;
-    let drawn = draws_branches(alloc, words, found, number)?;
+    let charts = Charts::of(alloc, file, all.list)?;
     let name = numbered(alloc, all.name.as_slice(), number)?;
     let shown = numbered(alloc, file.as_bytes(), number)?;
     let (name, shown) = (name.bytes.as_slice(), shown.bytes.as_slice());
-    tell(alloc, words, shown, name, drawn, charts.as_slice(), output)
+    tell(alloc, words, shown, name, all.drawn, &charts, output)
 }
 
-/// What is written of a diagram of this name that is refused.
+/// The lines of a refused diagram of this name.
 fn refused_diagram(alloc: Global, name: &[u8]) -> Result<Page, AllocError>
     ensures { IfOk result (λ page. page.bytes.items
         ≡ codes "diagram " ++ (name.now ++ codes "\nrefused\n")) }
@@ -214,7 +193,7 @@ fn refused_diagram(alloc: Global, name: &[u8]) -> Result<Page, AllocError>
     Ok(page)
 }
 
-/// The one line of a diagram that is refused, of the file of this name.
+/// The one line of a refused diagram in the file of this name.
 fn refused_line(alloc: Global, file: &[u8]) -> Result<Page, AllocError>
     ensures { IfOk result (λ page. page.bytes.items
         ≡ codes "refused " ++ text_line (map shown_byte file.now)) }
@@ -228,11 +207,11 @@ fn refused_line(alloc: Global, file: &[u8]) -> Result<Page, AllocError>
     Ok(page)
 }
 
-/// What goes to the output of a diagram of this number that is refused, without the lines for
+/// What is written to the output if the diagram with this number is refused, without the lines for
 /// editors.
 pub(crate) fn refused_page(
     alloc: Global,
-    words: ScenarioWords<'_>,
+    words: ScenarioArgs<'_>,
     file: &str,
     number: usize,
 ) -> Result<Page, AllocError>
@@ -241,21 +220,21 @@ pub(crate) fn refused_page(
     if words.quiet {
         return Ok(Page::new(alloc));
     }
-    match words.checking.form {
-        Form::Text => {
+    match words.check_args.format {
+        Format::Text => {
             let name = chart_name(alloc, words.diagram.name)?;
             let name = numbered(alloc, name.as_slice(), number)?;
             refused_diagram(alloc, name.bytes.as_slice())
         }
-        Form::Count => {
+        Format::Count => {
             let shown = numbered(alloc, file.as_bytes(), number)?;
             refused_line(alloc, shown.bytes.as_slice())
         }
-        Form::Lines => Ok(Page::new(alloc)),
+        Format::Lines => Ok(Page::new(alloc)),
     }
 }
 
-/// The worse of two ends: the one with the greater exit status.
+/// The worse of two statuses: the greater one.
 pub(crate) fn worse(one: Status, other: Status) -> Status
     ensures { result ≡ worse one other }
 {

@@ -1,38 +1,40 @@
-//! What a command line asks for, by the words that `clap` took.
+//! The task of a command line, by the words that `clap` took.
 
 ghost use Rattle.std.specs.Prelude.{◌≡◌, ◌||◌, IfErr, IfOk, MatchOption, OnOk, Some, cond, false};
 ghost use Rattle.std.specs.Prelude.{map, option_map, true};
 ghost use Rattle.clap.specs.Matches.{first_value, found_of};
-ghost use Rattle.msc_command.specs.Asking.{architecture, file_of, form, names_kind, AreAllowed};
-ghost use Rattle.msc_command.specs.Asking.{AsksFor, IsDrawnForm, IsEventWord, IsFlag, IsLook};
+ghost use Rattle.msc_command.specs.Asking.{architecture, file_of, format, names_kind, AreAllowed};
+ghost use Rattle.msc_command.specs.Asking.{AsksFor, IsDrawnFormat, IsEventWord, IsFlag};
+ghost use Rattle.msc_command.specs.Asking.{IsEventStyle};
 ghost use Rattle.msc_command.specs.Asking.{chart_named, cross_named, lacks_choices, language_named};
-ghost use Rattle.msc_command.specs.Asking.{own_named, par_named, IsChecking, IsDiagram, IsQuieting};
+ghost use Rattle.msc_command.specs.Asking.{own_named, par_named, AreCheckArgs, IsDiagram};
+ghost use Rattle.msc_command.specs.Asking.{AreQuietArgs};
 ghost use Rattle.msc_command.specs.Asking.{default_limit, is_limit, is_of_scenarios, lacks_from};
 ghost use Rattle.msc_command.specs.Asking.{lacks_rounds, stands, IsNumberGiven, IsOfChart};
 ghost use Rattle.msc_command.specs.Asking.{tells_notes, unlimited, AreRunsShown, IsTwofold};
 ghost use Rattle.msc_command.specs.Asking.{IsNameText, IsNoName, IsNoNumber, IsNumberText};
-ghost use Rattle.msc_command.specs.Asking.{words_of, IsOptionNumber, IsQuestion, WantsNotes};
+ghost use Rattle.msc_command.specs.Asking.{args_of, IsOptionNumber, AreCheckOptions, WantsNotes};
 ghost use Rattle.msc_command.specs.Misuses.{IsCheckMisuse, IsDiagramMisuse, IsEventMisuse};
 ghost use Rattle.msc_command.specs.Misuses.{IsImportMisuse, IsLimitMisuse, IsMisuse, IsPairMisuse};
 ghost use Rattle.msc_command.specs.Misuses.{IsQueuesMisuse, IsRoundsMisuse, IsWordMisuse};
-ghost use Rattle.msc_command.specs.Refused.{form_of};
-ghost use Rattle.msc_command.specs.Words.{form_of_word, form_word, word_name};
+ghost use Rattle.msc_command.specs.Refused.{format_of};
+ghost use Rattle.msc_command.specs.Words.{format_of_word, format_word, arg_word};
 
 use crate::choices::{gives_choices, gives_rounds, title_of};
 use crate::misuse::Misuse;
-use crate::words::{Verb, Word};
+use crate::words::{ArgName, CommandName};
 use clap::ArgMatches;
 use msc_chart::Queues;
 use msc_import::{Language, Manner, Own, Par};
-use msc_judge::Question;
+use msc_judge::CheckOptions;
 use msc_mermaid::Cross;
 use msc_reason::{KindSet, RaceKind};
 use msc_report::EventName;
 
-/// In which form an answer is written.
+/// The format of an answer.
 #[derive(Clone, Copy)]
-pub(crate) enum Form {
-    /// Text, the verdict and lines for each race.
+pub(crate) enum Format {
+    /// Text: the verdict, and lines for each race.
     Text,
     /// One line for each file.
     Count,
@@ -40,218 +42,218 @@ pub(crate) enum Form {
     Lines,
 }
 
-impl Form {
-    /// Each form once.
-    pub const ALL: [Form; 3] = [Form::Text, Form::Count, Form::Lines];
+impl Format {
+    /// All forms.
+    pub const ALL: [Format; 3] = [Format::Text, Format::Count, Format::Lines];
 
-    /// The word for it.
+    /// Its word.
     pub fn word(self) -> &'static str
-        ensures { result.now ≡ form_word self }
+        ensures { result.now ≡ format_word self }
     {
         match self {
-            Form::Text => "text",
-            Form::Count => "count",
-            Form::Lines => "lines",
+            Format::Text => "text",
+            Format::Count => "count",
+            Format::Lines => "lines",
         }
     }
 
-    /// The form of a word.
-    fn of(word: &str) -> Option<Form>
-        ensures { result ≡ form_of_word word.now }
+    /// The form with this word.
+    fn of(word: &str) -> Option<Format>
+        ensures { result ≡ format_of_word word.now }
     {
-        for form in Form::ALL {
-            if word == form.word() {
-                return Some(form);
+        for format in Format::ALL {
+            if word == format.word() {
+                return Some(format);
             }
         }
         None
     }
 }
 
-/// How an answer speaks of events beside their numbers.
+/// How an answer shows events, besides their numbers.
 #[derive(Clone, Copy)]
-pub(crate) struct Look {
-    /// Whether it tells where they stand.
+pub(crate) struct EventStyle {
+    /// Whether it prints their places.
     pub places: bool,
-    /// Whether it tells runs in words.
+    /// Whether it prints runs in words.
     pub words: bool,
 }
 
-/// What is asked of the races under an architecture, and how it is answered.
+/// A check of races under an architecture, and the format of its answer.
 #[derive(Clone, Copy)]
-pub(crate) struct Checking {
+pub(crate) struct CheckArgs {
     pub queues: Queues,
-    pub question: Question,
+    pub options: CheckOptions,
     /// Whether races that marks accept do not count.
     pub accept: bool,
-    /// Whether those between a round of the chart and the next are asked for.
+    /// Whether races between a round of the chart and the next are included.
     pub again: bool,
-    pub form: Form,
-    pub look: Look,
+    pub format: Format,
+    pub event_style: EventStyle,
 }
 
-/// What the status alone tells of the races under an architecture.
+/// A check of races under an architecture that only returns a status.
 #[derive(Clone, Copy)]
-pub(crate) struct Quieting {
+pub(crate) struct QuietArgs {
     pub queues: Queues,
     /// The kinds whose races do not count.
     pub allowed: KindSet,
     /// Whether races that marks accept do not count.
     pub accept: bool,
-    /// Whether those between a round of the chart and the next count too.
+    /// Whether races between a round of the chart and the next count too.
     pub again: bool,
 }
 
-/// What is asked of two events under an architecture, and how it is answered.
+/// An explanation of two events under an architecture, and how it is printed.
 #[derive(Clone, Copy)]
-pub(crate) struct Explaining {
+pub(crate) struct ExplainArgs {
     pub queues: Queues,
     pub first: EventName,
     pub second: EventName,
-    /// Whether a short run is shown.
+    /// Whether a short witness is shown.
     pub short: bool,
-    pub look: Look,
+    pub event_style: EventStyle,
 }
 
-/// What is asked of ready instances under an architecture, and how it is answered.
+/// A query on ready instances under an architecture, and how it is answered.
 #[derive(Clone, Copy)]
-pub(crate) struct Readying<'w> {
+pub(crate) struct ReadyArgs<'w> {
     pub queues: Queues,
-    /// The names of the instances that are ready; without one all are.
+    /// The names of the ready instances; without one, all are ready.
     pub only: &'w [&'w str],
-    /// For how many first sticks a run is shown.
+    /// The number of first sticks with a run.
     pub show: u32,
-    /// Whether those between a round of the chart and the next are asked for.
+    /// Whether sticks between a round of the chart and the next are included.
     pub again: bool,
-    pub look: Look,
+    pub event_style: EventStyle,
 }
 
-/// What is asked of a chart.
+/// A command on a chart.
 #[derive(Clone, Copy)]
-pub(crate) enum Ask<'w> {
-    /// What its races are.
-    Check(Checking),
+pub(crate) enum ChartCommand<'w> {
+    /// Its races.
+    Check(CheckArgs),
     /// Whether no race counts, without a text.
-    Quiet(Quieting),
-    /// Why the first of two events comes before the second, or how it need not.
-    Explain(Explaining),
-    /// An execution under an architecture, and how many rounds in a row an instance looks in vain.
+    Quiet(QuietArgs),
+    /// Why one event comes before another, or a run in which it does not.
+    Explain(ExplainArgs),
+    /// An execution under an architecture, with the patience of its instances.
     Run(Queues, u32),
-    /// Its events, and whether it is told where they stand.
+    /// Its events, and whether their places are printed.
     List(bool),
     /// Whether a system of ready instances can stick.
-    Ready(Readying<'w>),
+    Ready(ReadyArgs<'w>),
 }
 
-/// A race under an architecture of which a run is drawn, and how.
+/// A race under an architecture, and the format of the picture of a run that reverses it.
 #[derive(Clone, Copy)]
-pub(crate) struct Reversing {
+pub(crate) struct ReverseArgs {
     pub queues: Queues,
     pub first: EventName,
     pub second: EventName,
-    pub form: msc_draw::Form,
+    pub format: msc_draw::PictureFormat,
 }
 
-/// What is drawn of a chart.
+/// A picture of a chart, or a report.
 #[derive(Clone, Copy)]
 pub(crate) enum Drawn {
-    /// The chart, with the marks of its closest races under an architecture, where one is named.
-    Chart(Option<Queues>, msc_draw::Form),
+    /// The chart, with the marks of its closest races if an architecture is given.
+    Chart(Option<Queues>, msc_draw::PictureFormat),
     /// A run that reverses a race.
-    Run(Reversing),
+    Run(ReverseArgs),
     /// The report of its races under an architecture.
     Report(Queues),
 }
 
-/// A diagram of a text, and what its arrows mean, as words tell it.
+/// A diagram of a text, and the meaning of its arrows, in words of the command line.
 #[derive(Clone, Copy)]
-pub(crate) struct DiagramWords<'w> {
+pub(crate) struct DiagramArgs<'w> {
     pub language: Language,
-    /// The number of the diagram, from 1, where the text is Markdown.
+    /// The number of the diagram, from 1, if the text is Markdown.
     pub fence: Option<u32>,
     pub cross: Option<Cross>,
     pub manner: Manner,
-    /// What its name is made of.
+    /// The bytes from which its name is made.
     pub name: &'w [u8],
 }
 
-/// What is imported of a text, and how it is answered, as words tell it.
+/// An import of a text, and the format of its answer, in words of the command line.
 #[derive(Clone, Copy)]
-pub(crate) struct ImportWords<'w> {
-    pub diagram: DiagramWords<'w>,
-    /// The word for the choices of the scenario.
+pub(crate) struct ImportArgs<'w> {
+    pub diagram: DiagramArgs<'w>,
+    /// The word of `--choose`.
     pub choose: Option<&'w str>,
     /// Whether the events are listed, with the places of their arrows.
     pub list: bool,
 }
 
-/// What is asked of the races of all scenarios of a diagram, as words tell it.
+/// A check of all scenarios of a diagram, in words of the command line.
 #[derive(Clone, Copy)]
-pub(crate) struct ScenarioWords<'w> {
-    pub diagram: DiagramWords<'w>,
-    /// The word for the numbers of rounds of loops.
+pub(crate) struct ScenarioArgs<'w> {
+    pub diagram: DiagramArgs<'w>,
+    /// The word of `--rounds`.
     pub rounds: Option<&'w str>,
-    /// How many scenarios there may be.
+    /// The greatest number of scenarios.
     pub limit: u32,
-    /// What is asked, and how it is answered; marks are not.
-    pub checking: Checking,
-    /// Whether the status alone tells.
+    /// The check of each scenario; it has no marks.
+    pub check_args: CheckArgs,
+    /// Whether only the status is returned.
     pub quiet: bool,
 }
 
-/// What is asked of a text.
+/// A command on a text.
 #[derive(Clone, Copy)]
 pub(crate) enum Task<'w> {
     /// The canonical text.
     Read,
-    /// What is asked of its chart.
-    Chart(Ask<'w>),
-    /// What is drawn of its chart.
+    /// A command on its chart.
+    Chart(ChartCommand<'w>),
+    /// A picture of its chart, or a report.
     Draw(Drawn),
     /// The chart of a scenario of its diagram.
-    Import(ImportWords<'w>),
-    /// What the races of all scenarios of its diagram are.
-    Scenarios(ScenarioWords<'w>),
+    Import(ImportArgs<'w>),
+    /// The races of all scenarios of its diagram.
+    Scenarios(ScenarioArgs<'w>),
 }
 
-/// The form of a task's answer.
-pub(crate) fn form_of(task: Task<'_>) -> Form
-    ensures { result ≡ form_of task.entry }
+/// The format of a task's answer.
+pub(crate) fn format_of(task: Task<'_>) -> Format
+    ensures { result ≡ format_of task.entry }
 {
     match task {
-        Task::Chart(Ask::Check(checking)) => checking.form,
-        Task::Scenarios(words) if !words.quiet => words.checking.form,
-        Task::Read | Task::Chart(_) | Task::Draw(_) => Form::Text,
-        Task::Import(_) | Task::Scenarios(_) => Form::Text,
+        Task::Chart(ChartCommand::Check(check_args)) => check_args.format,
+        Task::Scenarios(words) if !words.quiet => words.check_args.format,
+        Task::Read | Task::Chart(_) | Task::Draw(_) => Format::Text,
+        Task::Import(_) | Task::Scenarios(_) => Format::Text,
     }
 }
 
-/// What a run of the program has to do: a task, to the text of the file of this name.
+/// A task on the text of the file of this name.
 #[derive(Clone, Copy)]
 pub(crate) struct Request<'w> {
     pub task: Task<'w>,
     pub file: &'w str,
-    /// Whether it is told what is said of a refusal behind its line.
+    /// Whether notes follow the line of a refusal.
     pub notes: bool,
 }
 
-/// How many scenarios of a diagram there may be, where the words do not say.
+/// The greatest number of scenarios of a diagram without `--limit`.
 const DEFAULT_LIMIT: u32 = 64;
 
-/// The greatest number of scenarios that words may ask for.
+/// The greatest value of `--limit`.
 pub(crate) const GREATEST_LIMIT: u32 = 4096;
 
-/// How many rounds in a row an instance looks for messages in vain, where the words do not say.
+/// The patience of instances without `--patience`.
 const DEFAULT_PATIENCE: u32 = 1_000_000_000;
 
-/// The number of a text.
+/// The number that a text is.
 fn number_in(text: &str) -> Option<u32>
     ensures { MatchOption result (IsNoNumber text.now) (IsNumberText text.now) }
 {
     text.parse().ok()
 }
 
-/// The event that a text names, if it does: a number, or `:` and one from 1 on.
+/// The event name that a text is, if it is one: a number, or `:` and a number from 1 on.
 fn name_in(text: &str) -> Option<EventName>
     ensures { MatchOption result (IsNoName text.now) (IsNameText text.now) }
 {
@@ -267,8 +269,8 @@ fn name_in(text: &str) -> Option<EventName>
     }
 }
 
-/// The event that a word with this text names.
-fn event_named<'w>(word: Word, text: &'w str) -> Result<EventName, Misuse<'w>>
+/// The event name in the text of this word.
+fn event_named<'w>(word: ArgName, text: &'w str) -> Result<EventName, Misuse<'w>>
     ensures named { IfOk result (IsNameText text.now) }
     ensures misuse { IfErr result (λ m. (m ≡ Misuse.NoEvent word text.entry) × IsNoName text.now) }
 {
@@ -278,9 +280,9 @@ fn event_named<'w>(word: Word, text: &'w str) -> Result<EventName, Misuse<'w>>
     }
 }
 
-/// The event that a word names.
-fn event_of<'w>(words: &'w ArgMatches, word: Word) -> Result<EventName, Misuse<'w>>
-    ensures named { IfOk result (IsEventWord (found_of words.entry.now) (word_name word)) }
+/// The event name in this word.
+fn event_of<'w>(words: &'w ArgMatches, word: ArgName) -> Result<EventName, Misuse<'w>>
+    ensures named { IfOk result (IsEventWord (found_of words.entry.now) (arg_word word)) }
     ensures misuse { IfErr result (IsEventMisuse (found_of words.entry.now) word) }
 {
     match words.get_str(word.name()) {
@@ -289,30 +291,30 @@ fn event_of<'w>(words: &'w ArgMatches, word: Word) -> Result<EventName, Misuse<'
     }
 }
 
-/// The number of an option, and `without` where it does not stand.
-fn number_of(words: &ArgMatches, word: Word, without: u32) -> u32
-    ensures { IsOptionNumber (found_of words.now) (word_name word) without result }
+/// The number of an option, or `without` if it is not given.
+fn number_of(words: &ArgMatches, word: ArgName, without: u32) -> u32
+    ensures { IsOptionNumber (found_of words.now) (arg_word word) without result }
 {
     words.get_one(word.name()).unwrap_or(without)
 }
 
-/// The number of an option, where it stands.
-fn number_given(words: &ArgMatches, word: Word) -> Option<u32>
-    ensures { IsNumberGiven (found_of words.now) (word_name word) result }
+/// The number of an option, if it is given.
+fn number_given(words: &ArgMatches, word: ArgName) -> Option<u32>
+    ensures { IsNumberGiven (found_of words.now) (arg_word word) result }
 {
     words.get_one(word.name())
 }
 
-/// Whether an option with a value stands.
-fn stands(words: &ArgMatches, word: Word) -> bool
+/// Whether an option with a value is given.
+fn stands(words: &ArgMatches, word: ArgName) -> bool
     ensures { result ≡ stands (found_of words.now) word }
 {
     words.get_str(word.name()).is_some()
 }
 
-/// Whether a flag stands.
-fn is_given(words: &ArgMatches, word: Word) -> bool
-    ensures { IsFlag (found_of words.now) (word_name word) result }
+/// Whether a flag is given.
+fn is_given(words: &ArgMatches, word: ArgName) -> bool
+    ensures { IsFlag (found_of words.now) (arg_word word) result }
 {
     words.get_flag(word.name())
 }
@@ -328,7 +330,7 @@ fn is_allowed(words: &[&str], kind: RaceKind) -> bool
 fn allowed_of(words: &ArgMatches) -> KindSet
     ensures { AreAllowed (found_of words.now) result }
 {
-    let kinds = words.get_strs(Word::Allow.name()).unwrap_or(&[]);
+    let kinds = words.get_strs(ArgName::Allow.name()).unwrap_or(&[]);
     KindSet {
         early: is_allowed(kinds, RaceKind::Early),
         queues: is_allowed(kinds, RaceKind::Queues),
@@ -337,61 +339,64 @@ fn allowed_of(words: &ArgMatches) -> KindSet
     }
 }
 
-/// What is asked of the races; where no word says it, so many are shown by runs.
-fn question_of(words: &ArgMatches, shown: u32) -> Question
-    ensures { IsQuestion (found_of words.now) shown result }
+/// The options that select races; without `--show`, `shown` races have runs.
+fn check_options_of(words: &ArgMatches, shown: u32) -> CheckOptions
+    ensures { AreCheckOptions (found_of words.now) shown result }
 {
-    Question {
-        closest: is_given(words, Word::Closest),
-        why: is_given(words, Word::Why),
+    CheckOptions {
+        closest: is_given(words, ArgName::Closest),
+        why: is_given(words, ArgName::Why),
         allowed: allowed_of(words),
-        most: number_of(words, Word::Most, u32::MAX),
-        show: number_of(words, Word::Show, shown),
-        short: is_given(words, Word::Short),
+        most: number_of(words, ArgName::Most, u32::MAX),
+        show: number_of(words, ArgName::Show, shown),
+        short: is_given(words, ArgName::Short),
     }
 }
 
-/// The form that the words ask for.
-fn form_asked(words: &ArgMatches) -> Form
-    ensures { result ≡ form (found_of words.now) }
+/// The form of the answer.
+fn format_asked(words: &ArgMatches) -> Format
+    ensures { result ≡ format (found_of words.now) }
 {
-    match words.get_str(Word::Format.name()) {
-        Some(word) => Form::of(word).unwrap_or(Form::Text),
-        None => Form::Text,
+    match words.get_str(ArgName::ChartFormat.name()) {
+        Some(word) => Format::of(word).unwrap_or(Format::Text),
+        None => Format::Text,
     }
 }
 
-/// Whether it is told what is said of a refusal behind its line: where places are asked for, and on
-/// a terminal unless plain lines are.
+/// Whether notes follow the line of a refusal: with `--places`, and on a terminal without
+/// `--plain`.
 fn tells_notes(places: bool, plain: bool, terminal: bool) -> bool
     ensures { result ≡ tells_notes places plain terminal }
 {
     places || terminal && !plain
 }
 
-/// Whether what is said of a refusal is told behind its line.
+/// Whether notes follow the line of a refusal.
 pub(crate) fn notes_of(words: &ArgMatches, terminal: bool) -> bool
     ensures { WantsNotes (found_of words.now) terminal result }
 {
-    let places = is_given(words, Word::Places);
-    tells_notes(places, is_given(words, Word::Plain), terminal)
+    let places = is_given(words, ArgName::Places);
+    tells_notes(places, is_given(words, ArgName::Plain), terminal)
 }
 
-/// Whether words stand that exclude each other.
+/// Whether words exclude each other.
 fn is_twofold(words: &ArgMatches) -> bool
     ensures { IsTwofold (found_of words.now) result }
 {
-    let (places, plain) = (is_given(words, Word::Places), is_given(words, Word::Plain));
+    let (places, plain) = (
+        is_given(words, ArgName::Places),
+        is_given(words, ArgName::Plain),
+    );
     places && plain
 }
 
-/// How the words want an answer to speak.
-fn look_of(words: &ArgMatches) -> Look
-    ensures { IsLook (found_of words.now) result }
+/// How the answer shows events.
+fn event_style_of(words: &ArgMatches) -> EventStyle
+    ensures { IsEventStyle (found_of words.now) result }
 {
-    Look {
-        places: is_given(words, Word::Places),
-        words: is_given(words, Word::Words),
+    EventStyle {
+        places: is_given(words, ArgName::Places),
+        words: is_given(words, ArgName::Words),
     }
 }
 
@@ -399,7 +404,7 @@ fn look_of(words: &ArgMatches) -> Look
 pub(crate) fn file_of<'w>(words: &'w ArgMatches) -> &'w str
     ensures { result.now ≡ file_of (found_of words.entry.now) }
 {
-    match words.get_str(Word::File.name()) {
+    match words.get_str(ArgName::File.name()) {
         Some(file) => file,
         None => "-",
     }
@@ -409,7 +414,7 @@ pub(crate) fn file_of<'w>(words: &'w ArgMatches) -> &'w str
 fn named_queues(words: &ArgMatches) -> Option<Queues>
     ensures { result ≡ architecture (found_of words.now) }
 {
-    Queues::of(words.get_str(Word::Queues.name())?)
+    Queues::of(words.get_str(ArgName::Queues.name())?)
 }
 
 /// The architecture that the words name.
@@ -423,110 +428,112 @@ fn queues_of<'w>(words: &'w ArgMatches) -> Result<Queues, Misuse<'w>>
     }
 }
 
-/// What the words of `msc check` ask of races under an architecture; where no word says it, so many
-/// are shown by runs.
-fn checking_of(queues: Queues, words: &ArgMatches, shown: u32) -> Checking
+/// The check of races under an architecture by the words of `msc check`; without `--show`, `shown`
+/// races have runs.
+fn check_args_of(queues: Queues, words: &ArgMatches, shown: u32) -> CheckArgs
     ensures { architecture (found_of words.now) ≡ Some queues
-        → IsChecking (found_of words.now) shown result }
+        → AreCheckArgs (found_of words.now) shown result }
 {
-    Checking {
+    CheckArgs {
         queues,
-        question: question_of(words, shown),
-        accept: is_given(words, Word::Accept),
-        again: is_given(words, Word::Again),
-        form: form_asked(words),
-        look: look_of(words),
+        options: check_options_of(words, shown),
+        accept: is_given(words, ArgName::Accept),
+        again: is_given(words, ArgName::Again),
+        format: format_asked(words),
+        event_style: event_style_of(words),
     }
 }
 
-/// What the words of `msc check` ask the status to tell alone.
-fn quieting_of(queues: Queues, words: &ArgMatches) -> Quieting
+/// The check of races under an architecture of which only the status is returned.
+fn quiet_args_of(queues: Queues, words: &ArgMatches) -> QuietArgs
     ensures { architecture (found_of words.now) ≡ Some queues
-        → IsQuieting (found_of words.now) result }
+        → AreQuietArgs (found_of words.now) result }
 {
-    Quieting {
+    QuietArgs {
         queues,
         allowed: allowed_of(words),
-        accept: is_given(words, Word::Accept),
-        again: is_given(words, Word::Again),
+        accept: is_given(words, ArgName::Accept),
+        again: is_given(words, ArgName::Again),
     }
 }
 
-/// What the words of `msc check` ask of a chart. What is to be quiet is told by the status alone.
+/// The task of `msc check` on a chart. With `--quiet` only the status is returned.
 fn chart_check_of(queues: Queues, words: &ArgMatches) -> Task<'static>
     requires { IsOfChart (found_of words.now) }
     ensures { architecture (found_of words.now) ≡ Some queues
-        → AsksFor Verb.Check (found_of words.now) result }
+        → AsksFor CommandName.Check (found_of words.now) result }
 {
-    if is_given(words, Word::Quiet) {
-        return Task::Chart(Ask::Quiet(quieting_of(queues, words)));
+    if is_given(words, ArgName::Quiet) {
+        return Task::Chart(ChartCommand::Quiet(quiet_args_of(queues, words)));
     }
-    Task::Chart(Ask::Check(checking_of(queues, words, u32::MAX)))
+    Task::Chart(ChartCommand::Check(check_args_of(queues, words, u32::MAX)))
 }
 
-/// Whether the words of `msc check` are of a diagram.
+/// Whether the words of `msc check` are for a diagram.
 fn is_of_scenarios(words: &ArgMatches) -> bool
     ensures { result ≡ is_of_scenarios (found_of words.now) }
 {
-    stands(words, Word::ScenariosFrom)
+    stands(words, ArgName::ScenariosFrom)
 }
 
-/// Whether words stand behind `msc check` that are of diagrams, without the word for one.
+/// Whether the words of `msc check` have options of diagrams, without `--from`.
 fn lacks_from(words: &ArgMatches) -> bool
     ensures { result ≡ lacks_from (found_of words.now) }
 {
-    let limits = stands(words, Word::Rounds) || stands(words, Word::Limit);
-    let which = stands(words, Word::Fence) || stands(words, Word::Name);
-    let arrows = stands(words, Word::Own) || stands(words, Word::Cross) || stands(words, Word::Par);
+    let limits = stands(words, ArgName::Rounds) || stands(words, ArgName::Limit);
+    let which = stands(words, ArgName::Fence) || stands(words, ArgName::Name);
+    let arrows = stands(words, ArgName::Own)
+        || stands(words, ArgName::Cross)
+        || stands(words, ArgName::Par);
     !is_of_scenarios(words) && (limits || which || arrows)
 }
 
-/// Whether a diagram may have so many scenarios.
+/// Whether this is a value of `--limit`.
 fn is_limit(limit: u32) -> bool
     ensures { result ≡ is_limit limit }
 {
     1 <= limit && limit <= GREATEST_LIMIT
 }
 
-/// How many races of a diagram are shown by runs, if no word gives a number: all if a run in words or a
-/// short one is asked for, else none.
+/// The number of races of a diagram with runs, without `--show`: all if runs are in words or short,
+/// otherwise none.
 fn shown_by(in_words: bool, short: bool) -> u32
     ensures { result ≡ cond (in_words || short) unlimited 0 }
 {
     if in_words || short { u32::MAX } else { 0 }
 }
 
-/// How many races of a diagram are shown by runs by these words, if they give no number.
+/// The number of races of a diagram with runs by these words, without `--show`.
 fn runs_shown(words: &ArgMatches) -> u32
     ensures { AreRunsShown (found_of words.now) result }
 {
-    let in_words = is_given(words, Word::Words);
-    let short = is_given(words, Word::Short);
+    let in_words = is_given(words, ArgName::Words);
+    let short = is_given(words, ArgName::Short);
     shown_by(in_words, short)
 }
 
-/// The word for the numbers of rounds of loops, if it is given.
+/// The word of `--rounds`, if it is given.
 fn rounds_word<'w>(words: &'w ArgMatches) -> Result<Option<&'w str>, Misuse<'w>>
     ensures given { IfOk result (λ word. option_map (λ r. r.now) word
-        ≡ first_value (found_of words.entry.now) (word_name Word.Rounds)) }
+        ≡ first_value (found_of words.entry.now) (arg_word ArgName.Rounds)) }
     ensures gives { OnOk result
-        (lacks_rounds (first_value (found_of words.entry.now) (word_name Word.Rounds)) ≡ false) }
+        (lacks_rounds (first_value (found_of words.entry.now) (arg_word ArgName.Rounds)) ≡ false) }
     ensures misuse { IfErr result (IsRoundsMisuse (found_of words.entry.now)) }
 {
-    match words.get_str(Word::Rounds.name()) {
+    match words.get_str(ArgName::Rounds.name()) {
         Some(word) if !gives_rounds(word.as_bytes()) => Err(Misuse::NoRounds(word)),
         given => Ok(given),
     }
 }
 
-/// How many scenarios there may be.
+/// The greatest number of scenarios.
 fn limit_in<'w>(words: &'w ArgMatches) -> Result<u32, Misuse<'w>>
-    ensures given { IfOk result (IsOptionNumber (found_of words.entry.now) (word_name Word.Limit)
+    ensures given { IfOk result (IsOptionNumber (found_of words.entry.now) (arg_word ArgName.Limit)
         default_limit) }
     ensures within { IfOk result (λ limit. is_limit limit ≡ true) }
     ensures misuse { IfErr result (IsLimitMisuse (found_of words.entry.now)) }
 {
-    let limit = number_of(words, Word::Limit, DEFAULT_LIMIT);
+    let limit = number_of(words, ArgName::Limit, DEFAULT_LIMIT);
     if is_limit(limit) {
         Ok(limit)
     } else {
@@ -534,34 +541,34 @@ fn limit_in<'w>(words: &'w ArgMatches) -> Result<u32, Misuse<'w>>
     }
 }
 
-/// What the words of `msc check` ask of a diagram.
+/// The task of `msc check` on a diagram.
 fn scenarios_of<'w>(queues: Queues, words: &'w ArgMatches) -> Result<Task<'w>, Misuse<'w>>
     requires { is_of_scenarios (found_of words.now) ≡ true }
     ensures task { architecture (found_of words.entry.now) ≡ Some queues
-        → IfOk result (AsksFor Verb.Check (found_of words.entry.now)) }
+        → IfOk result (AsksFor CommandName.Check (found_of words.entry.now)) }
     ensures misuse { architecture (found_of words.entry.now) ≡ Some queues
         → IfErr result (IsDiagramMisuse (found_of words.entry.now)) }
 {
-    let checking = checking_of(queues, words, runs_shown(words));
-    if checking.accept {
-        return Err(Misuse::NotOfDiagrams(Word::Accept));
+    let check_args = check_args_of(queues, words, runs_shown(words));
+    if check_args.accept {
+        return Err(Misuse::NotOfDiagrams(ArgName::Accept));
     }
-    if checking.again {
-        return Err(Misuse::NotOfDiagrams(Word::Again));
+    if check_args.again {
+        return Err(Misuse::NotOfDiagrams(ArgName::Again));
     }
-    Ok(Task::Scenarios(ScenarioWords {
+    Ok(Task::Scenarios(ScenarioArgs {
         diagram: diagram_of(words),
         rounds: rounds_word(words)?,
         limit: limit_in(words)?,
-        checking,
-        quiet: is_given(words, Word::Quiet),
+        check_args,
+        quiet: is_given(words, ArgName::Quiet),
     }))
 }
 
-/// What the words of `msc check` ask for.
+/// The task of `msc check`.
 fn check_of<'w>(queues: Queues, words: &'w ArgMatches) -> Result<Task<'w>, Misuse<'w>>
     ensures task { architecture (found_of words.entry.now) ≡ Some queues
-        → IfOk result (AsksFor Verb.Check (found_of words.entry.now)) }
+        → IfOk result (AsksFor CommandName.Check (found_of words.entry.now)) }
     ensures misuse { architecture (found_of words.entry.now) ≡ Some queues
         → IfErr result (IsCheckMisuse (found_of words.entry.now)) }
 {
@@ -574,163 +581,163 @@ fn check_of<'w>(queues: Queues, words: &'w ArgMatches) -> Result<Task<'w>, Misus
     Ok(chart_check_of(queues, words))
 }
 
-/// What the words of `msc run` ask for.
+/// The task of `msc run`.
 fn run_of(queues: Queues, words: &ArgMatches) -> Task<'static>
     ensures { architecture (found_of words.now) ≡ Some queues
-        → AsksFor Verb.Run (found_of words.now) result }
+        → AsksFor CommandName.Run (found_of words.now) result }
 {
-    let patience = number_of(words, Word::Patience, DEFAULT_PATIENCE);
-    Task::Chart(Ask::Run(queues, patience))
+    let patience = number_of(words, ArgName::Patience, DEFAULT_PATIENCE);
+    Task::Chart(ChartCommand::Run(queues, patience))
 }
 
-/// What the words of `msc explain` ask for.
+/// The task of `msc explain`.
 fn explain_of<'w>(queues: Queues, words: &'w ArgMatches) -> Result<Task<'w>, Misuse<'w>>
     ensures task { architecture (found_of words.entry.now) ≡ Some queues
-        → IfOk result (AsksFor Verb.Explain (found_of words.entry.now)) }
+        → IfOk result (AsksFor CommandName.Explain (found_of words.entry.now)) }
     ensures misuse { IfErr result (IsPairMisuse (found_of words.entry.now)) }
 {
-    Ok(Task::Chart(Ask::Explain(Explaining {
+    Ok(Task::Chart(ChartCommand::Explain(ExplainArgs {
         queues,
-        first: event_of(words, Word::FirstEvent)?,
-        second: event_of(words, Word::SecondEvent)?,
-        short: is_given(words, Word::Short),
-        look: look_of(words),
+        first: event_of(words, ArgName::FirstEvent)?,
+        second: event_of(words, ArgName::SecondEvent)?,
+        short: is_given(words, ArgName::Short),
+        event_style: event_style_of(words),
     })))
 }
 
-/// What the words of `msc list` ask for.
+/// The task of `msc list`.
 fn list_of(words: &ArgMatches) -> Task<'static>
-    ensures { AsksFor Verb.List (found_of words.now) result }
+    ensures { AsksFor CommandName.List (found_of words.now) result }
 {
-    Task::Chart(Ask::List(is_given(words, Word::Places)))
+    Task::Chart(ChartCommand::List(is_given(words, ArgName::Places)))
 }
 
-/// The form of a picture that the words ask for.
-fn drawn_form(words: &ArgMatches) -> msc_draw::Form
-    ensures { IsDrawnForm (found_of words.now) result }
+/// The form of a picture.
+fn drawn_format(words: &ArgMatches) -> msc_draw::PictureFormat
+    ensures { IsDrawnFormat (found_of words.now) result }
 {
-    if is_given(words, Word::Svg) {
-        msc_draw::Form::Svg
+    if is_given(words, ArgName::Svg) {
+        msc_draw::PictureFormat::Svg
     } else {
-        msc_draw::Form::Text
+        msc_draw::PictureFormat::Text
     }
 }
 
-/// What the words of `msc draw` ask for.
+/// The task of `msc draw`.
 fn draw_of(words: &ArgMatches) -> Task<'static>
-    ensures { AsksFor Verb.Draw (found_of words.now) result }
+    ensures { AsksFor CommandName.Draw (found_of words.now) result }
 {
-    Task::Draw(Drawn::Chart(named_queues(words), drawn_form(words)))
+    Task::Draw(Drawn::Chart(named_queues(words), drawn_format(words)))
 }
 
-/// What the words of `msc reverse` ask for.
+/// The task of `msc reverse`.
 fn reverse_of<'w>(queues: Queues, words: &'w ArgMatches) -> Result<Task<'w>, Misuse<'w>>
     ensures task { architecture (found_of words.entry.now) ≡ Some queues
-        → IfOk result (AsksFor Verb.Reverse (found_of words.entry.now)) }
+        → IfOk result (AsksFor CommandName.Reverse (found_of words.entry.now)) }
     ensures misuse { IfErr result (IsPairMisuse (found_of words.entry.now)) }
 {
-    Ok(Task::Draw(Drawn::Run(Reversing {
+    Ok(Task::Draw(Drawn::Run(ReverseArgs {
         queues,
-        first: event_of(words, Word::FirstEvent)?,
-        second: event_of(words, Word::SecondEvent)?,
-        form: drawn_form(words),
+        first: event_of(words, ArgName::FirstEvent)?,
+        second: event_of(words, ArgName::SecondEvent)?,
+        format: drawn_format(words),
     })))
 }
 
-/// The names that the words have for the instances that are ready.
+/// The names of the ready instances.
 fn names_of<'w>(words: &'w ArgMatches) -> &'w [&'w str]
     ensures { map (λ word. word.now) result.now
-        ≡ words_of (found_of words.entry.now) (word_name Word.Only) }
+        ≡ args_of (found_of words.entry.now) (arg_word ArgName.Only) }
 {
-    words.get_strs(Word::Only.name()).unwrap_or(&[])
+    words.get_strs(ArgName::Only.name()).unwrap_or(&[])
 }
 
-/// What the words of `msc ready` ask for.
+/// The task of `msc ready`.
 fn ready_of<'w>(queues: Queues, words: &'w ArgMatches) -> Task<'w>
     ensures { architecture (found_of words.entry.now) ≡ Some queues
-        → AsksFor Verb.Ready (found_of words.entry.now) result }
+        → AsksFor CommandName.Ready (found_of words.entry.now) result }
 {
-    Task::Chart(Ask::Ready(Readying {
+    Task::Chart(ChartCommand::Ready(ReadyArgs {
         queues,
         only: names_of(words),
-        show: number_of(words, Word::ShowSticks, u32::MAX),
-        again: is_given(words, Word::Again),
-        look: look_of(words),
+        show: number_of(words, ArgName::ShowSticks, u32::MAX),
+        again: is_given(words, ArgName::Again),
+        event_style: event_style_of(words),
     }))
 }
 
 /// The language that the words name.
 fn language_of(words: &ArgMatches) -> Language
-    ensures { result ≡ language_named (first_value (found_of words.now) (word_name Word.From)) }
+    ensures { result ≡ language_named (first_value (found_of words.now) (arg_word ArgName.From)) }
 {
-    match words.get_str(Word::From.name()) {
+    match words.get_str(ArgName::From.name()) {
         Some(word) if word == "mermaid" => Language::Mermaid,
         _ => Language::Any,
     }
 }
 
-/// What the words say of arrows to oneself.
+/// The meaning of arrows to oneself.
 fn own_of(words: &ArgMatches) -> Own
-    ensures { result ≡ own_named (first_value (found_of words.now) (word_name Word.Own)) }
+    ensures { result ≡ own_named (first_value (found_of words.now) (arg_word ArgName.Own)) }
 {
-    match words.get_str(Word::Own.name()) {
+    match words.get_str(ArgName::Own.name()) {
         Some(word) if word == "message" => Own::Message,
         _ => Own::Action,
     }
 }
 
-/// What the words say of arrows with a cross.
+/// The meaning of arrows with a cross, if it is given.
 fn cross_of(words: &ArgMatches) -> Option<Cross>
-    ensures { result ≡ cross_named (first_value (found_of words.now) (word_name Word.Cross)) }
+    ensures { result ≡ cross_named (first_value (found_of words.now) (arg_word ArgName.Cross)) }
 {
-    match words.get_str(Word::Cross.name()) {
+    match words.get_str(ArgName::Cross.name()) {
         Some(word) if word == "lost" => Some(Cross::Lost),
         Some(_) => Some(Cross::Arrives),
         None => None,
     }
 }
 
-/// What the words say of parallel branches that are no coregion.
+/// The meaning of parallel branches that are no coregion.
 fn par_of(words: &ArgMatches) -> Par
-    ensures { result ≡ par_named (first_value (found_of words.now) (word_name Word.Par)) }
+    ensures { result ≡ par_named (first_value (found_of words.now) (arg_word ArgName.Par)) }
 {
-    match words.get_str(Word::Par.name()) {
+    match words.get_str(ArgName::Par.name()) {
         Some(_) => Par::Drawn,
         None => Par::Refused,
     }
 }
 
-/// What the words have the name of the chart made of.
+/// The bytes from which the name of the chart is made.
 fn chart_name_of<'w>(words: &'w ArgMatches) -> &'w [u8]
     ensures { result.now ≡ chart_named (found_of words.entry.now) }
 {
-    match words.get_str(Word::Name.name()) {
+    match words.get_str(ArgName::Name.name()) {
         Some(name) => name.as_bytes(),
         None => title_of(file_of(words)),
     }
 }
 
-/// The word for choices, if it is given.
+/// The word of `--choose`, if it is given.
 fn choices_word<'w>(words: &'w ArgMatches) -> Result<Option<&'w str>, Misuse<'w>>
     ensures given { IfOk result (λ word. option_map (λ c. c.now) word
-        ≡ first_value (found_of words.entry.now) (word_name Word.Choose)) }
+        ≡ first_value (found_of words.entry.now) (arg_word ArgName.Choose)) }
     ensures gives { OnOk result
-        (lacks_choices (first_value (found_of words.entry.now) (word_name Word.Choose)) ≡ false) }
+        (lacks_choices (first_value (found_of words.entry.now) (arg_word ArgName.Choose)) ≡ false) }
     ensures misuse { IfErr result (IsImportMisuse (found_of words.entry.now)) }
 {
-    match words.get_str(Word::Choose.name()) {
+    match words.get_str(ArgName::Choose.name()) {
         Some(word) if !gives_choices(word) => Err(Misuse::NoChoices(word)),
         given => Ok(given),
     }
 }
 
-/// The diagram that the words name, and what they say of its arrows.
-fn diagram_of<'w>(words: &'w ArgMatches) -> DiagramWords<'w>
+/// The diagram, and the meaning of its arrows.
+fn diagram_of<'w>(words: &'w ArgMatches) -> DiagramArgs<'w>
     ensures { IsDiagram (found_of words.entry.now) result }
 {
-    DiagramWords {
+    DiagramArgs {
         language: language_of(words),
-        fence: number_given(words, Word::Fence),
+        fence: number_given(words, ArgName::Fence),
         cross: cross_of(words),
         manner: Manner {
             own: own_of(words),
@@ -740,45 +747,51 @@ fn diagram_of<'w>(words: &'w ArgMatches) -> DiagramWords<'w>
     }
 }
 
-/// What the words of `msc import` ask for.
+/// The task of `msc import`.
 fn import_of<'w>(words: &'w ArgMatches) -> Result<Task<'w>, Misuse<'w>>
-    ensures task { IfOk result (AsksFor Verb.Import (found_of words.entry.now)) }
+    ensures task { IfOk result (AsksFor CommandName.Import (found_of words.entry.now)) }
     ensures misuse { IfErr result (IsImportMisuse (found_of words.entry.now)) }
 {
-    Ok(Task::Import(ImportWords {
+    Ok(Task::Import(ImportArgs {
         diagram: diagram_of(words),
         choose: choices_word(words)?,
-        list: is_given(words, Word::Listed),
+        list: is_given(words, ArgName::Listed),
     }))
 }
 
-/// What the words behind a command ask for, if none of them exclude each other.
-fn complete_task<'w>(verb: Verb, words: &'w ArgMatches) -> Result<Task<'w>, Misuse<'w>>
-    ensures task { IfOk result (AsksFor verb (found_of words.entry.now)) }
-    ensures misuse { IfErr result (IsWordMisuse verb (found_of words.entry.now)) }
+/// The task of the words after a command, unless words exclude each other.
+fn complete_task<'w>(
+    command_name: CommandName,
+    words: &'w ArgMatches,
+) -> Result<Task<'w>, Misuse<'w>>
+    ensures task { IfOk result (AsksFor command_name (found_of words.entry.now)) }
+    ensures misuse { IfErr result (IsWordMisuse command_name (found_of words.entry.now)) }
 {
-    match verb {
-        Verb::Read => Ok(Task::Read),
-        Verb::Check => check_of(queues_of(words)?, words),
-        Verb::Explain => explain_of(queues_of(words)?, words),
-        Verb::Run => Ok(run_of(queues_of(words)?, words)),
-        Verb::List => Ok(list_of(words)),
-        Verb::Draw => Ok(draw_of(words)),
-        Verb::Reverse => reverse_of(queues_of(words)?, words),
-        Verb::Report => Ok(Task::Draw(Drawn::Report(queues_of(words)?))),
-        Verb::Ready => Ok(ready_of(queues_of(words)?, words)),
-        Verb::Import => import_of(words),
+    match command_name {
+        CommandName::Read => Ok(Task::Read),
+        CommandName::Check => check_of(queues_of(words)?, words),
+        CommandName::Explain => explain_of(queues_of(words)?, words),
+        CommandName::Run => Ok(run_of(queues_of(words)?, words)),
+        CommandName::List => Ok(list_of(words)),
+        CommandName::Draw => Ok(draw_of(words)),
+        CommandName::Reverse => reverse_of(queues_of(words)?, words),
+        CommandName::Report => Ok(Task::Draw(Drawn::Report(queues_of(words)?))),
+        CommandName::Ready => Ok(ready_of(queues_of(words)?, words)),
+        CommandName::Import => import_of(words),
     }
 }
 
-/// What the words behind a command ask for, or the first reason why they are no command.
-pub(crate) fn task_of<'w>(verb: Verb, words: &'w ArgMatches) -> Result<Task<'w>, Misuse<'w>>
-    ensures task { IfOk result (AsksFor verb (found_of words.entry.now)) }
+/// The task of the words after a command, or the first reason why they are no command.
+pub(crate) fn task_of<'w>(
+    command_name: CommandName,
+    words: &'w ArgMatches,
+) -> Result<Task<'w>, Misuse<'w>>
+    ensures task { IfOk result (AsksFor command_name (found_of words.entry.now)) }
     ensures apart { OnOk result (IsTwofold (found_of words.entry.now) false) }
-    ensures misuse { IfErr result (IsMisuse verb (found_of words.entry.now)) }
+    ensures misuse { IfErr result (IsMisuse command_name (found_of words.entry.now)) }
 {
     if is_twofold(words) {
         return Err(Misuse::Excluded);
     }
-    complete_task(verb, words)
+    complete_task(command_name, words)
 }

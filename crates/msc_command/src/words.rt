@@ -1,12 +1,13 @@
-//! The commands of the program and the words behind them: each is told here once, for the grammar
-//! of command lines, for what reads them, and for the help.
+//! The commands of the program and their words. Each is defined here once, for the grammar of
+//! command lines, for what reads them, and for the help.
 
 ghost use Rattle.std.specs.Prelude.{◌≡◌};
-ghost use Rattle.msc_command.specs.Words.{takes_of, verb_name, verb_of_word, word_name, words_of};
+ghost use Rattle.msc_command.specs.Words.{value_kind_of, command_word, command_of_word, arg_word};
+ghost use Rattle.msc_command.specs.Words.{args_of};
 
 /// A command.
 #[derive(Clone, Copy)]
-pub(crate) enum Verb {
+pub(crate) enum CommandName {
     Read,
     Check,
     Explain,
@@ -19,9 +20,9 @@ pub(crate) enum Verb {
     Import,
 }
 
-/// A word behind a command: an argument, or an option with what it takes.
+/// A word of a command: an argument, or an option with its value.
 #[derive(Clone, Copy)]
-pub(crate) enum Word {
+pub(crate) enum ArgName {
     File,
     Queues,
     QueuesIfAny,
@@ -32,7 +33,7 @@ pub(crate) enum Word {
     ShowSticks,
     Only,
     Allow,
-    Format,
+    ChartFormat,
     Quiet,
     Words,
     Short,
@@ -57,28 +58,28 @@ pub(crate) enum Word {
     SecondEvent,
 }
 
-/// What a word behind a command is, and takes.
+/// The kind of a word of a command, and of its value.
 #[derive(Clone, Copy)]
-pub(crate) enum Takes {
+pub(crate) enum ValueKind {
     /// An argument: the name of a file.
     File,
     /// An argument: the name of an event, its number or `:LINE`.
     Event,
-    /// An option that stands alone.
+    /// An option without a value.
     Nothing,
-    /// An option that stands alone and has one letter too, `q`.
+    /// An option without a value, which has the letter `q` too.
     NothingOrQ,
     /// An option with a number.
     Number,
-    /// An option with an architecture, which has to stand.
+    /// A required option with an architecture.
     Architecture,
     /// An option with an architecture.
     ArchitectureIfAny,
-    /// An option with a kind of races, which may stand often.
+    /// An option with a kind of races, which may be repeated.
     Kinds,
-    /// An option with the form of an answer.
-    Form,
-    /// An option with a name, which may stand often.
+    /// An option with the format of an answer.
+    Format,
+    /// An option with a name, which may be repeated.
     Names,
     /// An option with the language of a text.
     Language,
@@ -88,328 +89,363 @@ pub(crate) enum Takes {
     Rounds,
     /// An option with a name.
     Name,
-    /// An option with what an arrow to oneself is.
+    /// An option with the meaning of arrows to oneself.
     Own,
-    /// An option with what an arrow with a cross is.
+    /// An option with the meaning of arrows with a cross.
     Cross,
-    /// An option with what parallel branches are that are no coregion.
+    /// An option with the meaning of parallel branches that are no coregion.
     Par,
 }
 
-impl Word {
-    /// Its name: that of an argument, or what stands behind `--`.
+const SHOW_HELP: &str =
+    "Print a run for the first N races; without it, for all, with --from if --words or --short";
+
+const SHOW_STICKS_HELP: &str =
+    "Print a run for each of the first N sticks that are first; without it, for all";
+
+const ONLY_HELP: &str =
+    "Let this instance be ready, and no other one that is not named; may be repeated";
+
+impl ArgName {
+    /// Its name: that of an argument, or what follows `--`.
     pub fn name(self) -> &'static str
-        ensures { result.now ≡ word_name self }
+        ensures { result.now ≡ arg_word self }
     {
         match self {
-            Word::File => "FILE",
-            Word::Queues | Word::QueuesIfAny => "queues",
-            Word::Closest => "closest",
-            Word::Why => "why",
-            Word::Most => "most",
-            Word::Show | Word::ShowSticks => "show",
-            Word::Only => "only",
-            Word::Allow => "allow",
-            Word::Format => "format",
-            Word::Quiet => "quiet",
-            Word::Words => "words",
-            Word::Short => "short",
-            Word::Accept => "accept",
-            Word::Again => "again",
-            Word::Patience => "patience",
-            Word::Places => "places",
-            Word::Plain => "plain",
-            Word::Svg => "svg",
-            Word::From | Word::ScenariosFrom => "from",
-            Word::Choose => "choose",
-            Word::Listed => "list",
-            Word::Name => "name",
-            Word::Own => "self",
-            Word::Cross => "cross",
-            Word::Par => "par",
-            Word::Rounds => "rounds",
-            Word::Limit => "limit",
-            Word::Fence => "fence",
-            Word::FirstEvent => "E",
-            Word::SecondEvent => "F",
+            ArgName::File => "FILE",
+            ArgName::Queues | ArgName::QueuesIfAny => "queues",
+            ArgName::Closest => "closest",
+            ArgName::Why => "why",
+            ArgName::Most => "most",
+            ArgName::Show | ArgName::ShowSticks => "show",
+            ArgName::Only => "only",
+            ArgName::Allow => "allow",
+            ArgName::ChartFormat => "format",
+            ArgName::Quiet => "quiet",
+            ArgName::Words => "words",
+            ArgName::Short => "short",
+            ArgName::Accept => "accept",
+            ArgName::Again => "again",
+            ArgName::Patience => "patience",
+            ArgName::Places => "places",
+            ArgName::Plain => "plain",
+            ArgName::Svg => "svg",
+            ArgName::From | ArgName::ScenariosFrom => "from",
+            ArgName::Choose => "choose",
+            ArgName::Listed => "list",
+            ArgName::Name => "name",
+            ArgName::Own => "self",
+            ArgName::Cross => "cross",
+            ArgName::Par => "par",
+            ArgName::Rounds => "rounds",
+            ArgName::Limit => "limit",
+            ArgName::Fence => "fence",
+            ArgName::FirstEvent => "E",
+            ArgName::SecondEvent => "F",
         }
     }
 
-    /// What it is, and takes.
-    pub fn takes(self) -> Takes
-        ensures { result ≡ takes_of self }
+    /// Its kind.
+    pub fn value_kind(self) -> ValueKind
+        ensures { result ≡ value_kind_of self }
     {
         match self {
-            Word::File => Takes::File,
-            Word::FirstEvent | Word::SecondEvent => Takes::Event,
-            Word::Closest | Word::Why | Word::Words | Word::Short => Takes::Nothing,
-            Word::Accept | Word::Places | Word::Plain | Word::Svg => Takes::Nothing,
-            Word::Again | Word::Listed => Takes::Nothing,
-            Word::Quiet => Takes::NothingOrQ,
-            Word::Most | Word::Show | Word::ShowSticks | Word::Patience => Takes::Number,
-            Word::Limit | Word::Fence => Takes::Number,
-            Word::Only => Takes::Names,
-            Word::Queues => Takes::Architecture,
-            Word::QueuesIfAny => Takes::ArchitectureIfAny,
-            Word::Allow => Takes::Kinds,
-            Word::Format => Takes::Form,
-            Word::From | Word::ScenariosFrom => Takes::Language,
-            Word::Choose => Takes::Choices,
-            Word::Rounds => Takes::Rounds,
-            Word::Name => Takes::Name,
-            Word::Own => Takes::Own,
-            Word::Cross => Takes::Cross,
-            Word::Par => Takes::Par,
+            ArgName::File => ValueKind::File,
+            ArgName::FirstEvent | ArgName::SecondEvent => ValueKind::Event,
+            ArgName::Closest | ArgName::Why | ArgName::Words | ArgName::Short => ValueKind::Nothing,
+            ArgName::Accept | ArgName::Places | ArgName::Plain | ArgName::Svg => ValueKind::Nothing,
+            ArgName::Again | ArgName::Listed => ValueKind::Nothing,
+            ArgName::Quiet => ValueKind::NothingOrQ,
+            ArgName::Most | ArgName::Show | ArgName::ShowSticks | ArgName::Patience =>
+                ValueKind::Number,
+            ArgName::Limit | ArgName::Fence => ValueKind::Number,
+            ArgName::Only => ValueKind::Names,
+            ArgName::Queues => ValueKind::Architecture,
+            ArgName::QueuesIfAny => ValueKind::ArchitectureIfAny,
+            ArgName::Allow => ValueKind::Kinds,
+            ArgName::ChartFormat => ValueKind::Format,
+            ArgName::From | ArgName::ScenariosFrom => ValueKind::Language,
+            ArgName::Choose => ValueKind::Choices,
+            ArgName::Rounds => ValueKind::Rounds,
+            ArgName::Name => ValueKind::Name,
+            ArgName::Own => ValueKind::Own,
+            ArgName::Cross => ValueKind::Cross,
+            ArgName::Par => ValueKind::Par,
         }
     }
 
-    /// What the help says of it.
+    /// The help's sentence on it.
     pub fn help(self) -> &'static str {
         match self {
-            Word::File => "The text to read; - is standard input",
-            Word::Queues => {
+            ArgName::File => "The text to read; - is standard input",
+            ArgName::Queues => {
                 "A queue for each sender and receiver, for each receiver, or for each message"
             }
-            Word::QueuesIfAny => {
+            ArgName::QueuesIfAny => {
                 "Mark the closest races, with such queues as `msc check --help` tells"
             }
-            Word::Closest => "List the closest races alone, and print how many there are",
-            Word::Why => {
+            ArgName::Closest => "List the closest races alone, and print how many there are",
+            ArgName::Why => {
                 "Print the kind of each race, and the pair of events that would have to be enforced"
             }
-            Word::Most => "List the first N races alone",
-            Word::Show => {
-                "Print a run for the first N races; without it, for all, with --from if --words or --short"
-            }
-            Word::ShowSticks => {
-                "Print a run for each of the first N sticks that are first; without it, for all"
-            }
-            Word::Only => {
-                "Let this instance be ready, and no other one that is not named; may be repeated"
-            }
-            Word::Allow => {
+            ArgName::Most => "List the first N races alone",
+            ArgName::Show => SHOW_HELP,
+            ArgName::ShowSticks => SHOW_STICKS_HELP,
+            ArgName::Only => ONLY_HELP,
+            ArgName::Allow => {
                 "Leave out the races of this kind, in the list and in the status; may be repeated"
             }
-            Word::Format => {
+            ArgName::ChartFormat => {
                 "Print lines of text, lines that editors read, or one line with the number of races"
             }
-            Word::Quiet => "Print nothing; the status tells",
-            Word::Words => "Print a run in words, a line for each of its events",
-            Word::Short => "Show a short run, which ends with the second event",
-            Word::Accept => {
+            ArgName::Quiet => "Print nothing; the status tells",
+            ArgName::Words => "Print a run in words, a line for each of its events",
+            ArgName::Short => "Show a short run, which ends with the second event",
+            ArgName::Accept => {
                 "Leave out the races that marks of the text accept, and print the marks that accept none"
             }
-            Word::Again => {
+            ArgName::Again => {
                 "Print what is between a round of the chart and the next, where it is repeated"
             }
-            Word::Patience => {
+            ArgName::Patience => {
                 "End an instance that looked in vain N times in a row; without it, 1000000000"
             }
-            Word::Places => "Print where events stand, and what is said of a fault",
-            Word::Plain => "Print nothing behind the line of a fault, also on a terminal",
-            Word::Svg => "Print SVG, for documents, and not lines of characters",
-            Word::From => "The language of the text; any, as without it, is told by the text",
-            Word::Choose => {
+            ArgName::Places => "Print where events stand, and what is said of a fault",
+            ArgName::Plain => "Print nothing behind the line of a fault, also on a terminal",
+            ArgName::Svg => "Print SVG, for documents, and not lines of characters",
+            ArgName::From => "The language of the text; any, as without it, is told by the text",
+            ArgName::Choose => {
                 "The scenario: main, or its choices, numbers with commas between, block by block"
             }
-            Word::Listed =>
+            ArgName::Listed =>
                 "Print the chart's events with their numbers, and where their arrows stand",
-            Word::Name => "The chart's name; without it, that of the file",
-            Word::Own => "What an arrow to oneself is; without it, an action",
-            Word::Cross => "What an arrow with a cross is",
-            Word::Par => "Draw parallel branches that are no coregion one below the other",
-            Word::ScenariosFrom => {
+            ArgName::Name => "The chart's name; without it, that of the file",
+            ArgName::Own => "What an arrow to oneself is; without it, an action",
+            ArgName::Cross => "What an arrow with a cross is",
+            ArgName::Par => "Draw parallel branches that are no coregion one below the other",
+            ArgName::ScenariosFrom => {
                 "Check all scenarios of a sequence diagram; its language is told by the text with any"
             }
-            Word::Rounds => {
+            ArgName::Rounds => {
                 "The numbers of rounds that scenarios give a loop, 0 to 1024; without it, 0,2"
             }
-            Word::Limit => "Check at most N scenarios, 1 to 4096; without it, 64",
-            Word::Fence => "Take the N-th diagram of a Markdown file",
-            Word::FirstEvent => "The first event: its number, or :LINE, the first one on that line",
-            Word::SecondEvent => "The second event",
+            ArgName::Limit => "Check at most N scenarios, 1 to 4096; without it, 64",
+            ArgName::Fence => "Take the N-th diagram of a Markdown file",
+            ArgName::FirstEvent =>
+                "The first event: its number, or :LINE, the first one on that line",
+            ArgName::SecondEvent => "The second event",
         }
     }
 }
 
-impl Verb {
-    /// Each command once, in the order of the help.
-    pub const ALL: [Verb; 10] = [
-        Verb::Read,
-        Verb::Check,
-        Verb::Explain,
-        Verb::Run,
-        Verb::List,
-        Verb::Draw,
-        Verb::Reverse,
-        Verb::Report,
-        Verb::Ready,
-        Verb::Import,
+/// The words after `check`, in the order of the help.
+const CHECK: [ArgName; 23] = [
+    ArgName::Queues,
+    ArgName::Closest,
+    ArgName::Why,
+    ArgName::Most,
+    ArgName::Show,
+    ArgName::Allow,
+    ArgName::Accept,
+    ArgName::Again,
+    ArgName::ChartFormat,
+    ArgName::Quiet,
+    ArgName::Words,
+    ArgName::Short,
+    ArgName::ScenariosFrom,
+    ArgName::Rounds,
+    ArgName::Limit,
+    ArgName::Fence,
+    ArgName::Name,
+    ArgName::Own,
+    ArgName::Cross,
+    ArgName::Par,
+    ArgName::Places,
+    ArgName::Plain,
+    ArgName::File,
+];
+
+/// The words after `explain`, in the order of the help.
+const EXPLAIN: [ArgName; 8] = [
+    ArgName::Queues,
+    ArgName::Words,
+    ArgName::Short,
+    ArgName::Places,
+    ArgName::Plain,
+    ArgName::File,
+    ArgName::FirstEvent,
+    ArgName::SecondEvent,
+];
+
+/// The words after `run`, in the order of the help.
+const RUN: [ArgName; 5] = [
+    ArgName::Queues,
+    ArgName::Patience,
+    ArgName::Places,
+    ArgName::Plain,
+    ArgName::File,
+];
+
+/// The words after `draw`, in the order of the help.
+const DRAW: [ArgName; 5] = [
+    ArgName::QueuesIfAny,
+    ArgName::Svg,
+    ArgName::Places,
+    ArgName::Plain,
+    ArgName::File,
+];
+
+/// The words after `reverse`, in the order of the help.
+const REVERSE: [ArgName; 7] = [
+    ArgName::Queues,
+    ArgName::Svg,
+    ArgName::Places,
+    ArgName::Plain,
+    ArgName::File,
+    ArgName::FirstEvent,
+    ArgName::SecondEvent,
+];
+
+/// The words after `ready`, in the order of the help.
+const READY: [ArgName; 8] = [
+    ArgName::Queues,
+    ArgName::Only,
+    ArgName::ShowSticks,
+    ArgName::Again,
+    ArgName::Words,
+    ArgName::Places,
+    ArgName::Plain,
+    ArgName::File,
+];
+
+/// The words after `import`, in the order of the help.
+const IMPORT: [ArgName; 11] = [
+    ArgName::From,
+    ArgName::Fence,
+    ArgName::Choose,
+    ArgName::Listed,
+    ArgName::Name,
+    ArgName::Own,
+    ArgName::Cross,
+    ArgName::Par,
+    ArgName::Places,
+    ArgName::Plain,
+    ArgName::File,
+];
+
+impl CommandName {
+    /// All commands, in the order of the help.
+    pub const ALL: [CommandName; 10] = [
+        CommandName::Read,
+        CommandName::Check,
+        CommandName::Explain,
+        CommandName::Run,
+        CommandName::List,
+        CommandName::Draw,
+        CommandName::Reverse,
+        CommandName::Report,
+        CommandName::Ready,
+        CommandName::Import,
     ];
 
     /// Its name.
     pub fn name(self) -> &'static str
-        ensures { result.now ≡ verb_name self }
+        ensures { result.now ≡ command_word self }
     {
         match self {
-            Verb::Read => "read",
-            Verb::Check => "check",
-            Verb::Explain => "explain",
-            Verb::Run => "run",
-            Verb::List => "list",
-            Verb::Draw => "draw",
-            Verb::Reverse => "reverse",
-            Verb::Report => "report",
-            Verb::Ready => "ready",
-            Verb::Import => "import",
+            CommandName::Read => "read",
+            CommandName::Check => "check",
+            CommandName::Explain => "explain",
+            CommandName::Run => "run",
+            CommandName::List => "list",
+            CommandName::Draw => "draw",
+            CommandName::Reverse => "reverse",
+            CommandName::Report => "report",
+            CommandName::Ready => "ready",
+            CommandName::Import => "import",
         }
     }
 
-    /// The command of a name.
-    pub fn of(name: &str) -> Option<Verb>
-        ensures { result ≡ verb_of_word name.now }
+    /// The command with a name.
+    pub fn of(name: &str) -> Option<CommandName>
+        ensures { result ≡ command_of_word name.now }
     {
-        for verb in Verb::ALL {
-            if name == verb.name() {
-                return Some(verb);
+        for command_name in CommandName::ALL {
+            if name == command_name.name() {
+                return Some(command_name);
             }
         }
         None
     }
 
-    /// The words behind it, in the order of the help.
-    pub fn words(self) -> &'static [Word]
-        ensures { result.now ≡ words_of self }
+    /// Its words, in the order of the help.
+    pub fn words(self) -> &'static [ArgName]
+        ensures { result.now ≡ args_of self }
     {
         match self {
-            Verb::Read => &[Word::Places, Word::Plain, Word::File],
-            Verb::Check => &[
-                Word::Queues,
-                Word::Closest,
-                Word::Why,
-                Word::Most,
-                Word::Show,
-                Word::Allow,
-                Word::Accept,
-                Word::Again,
-                Word::Format,
-                Word::Quiet,
-                Word::Words,
-                Word::Short,
-                Word::ScenariosFrom,
-                Word::Rounds,
-                Word::Limit,
-                Word::Fence,
-                Word::Name,
-                Word::Own,
-                Word::Cross,
-                Word::Par,
-                Word::Places,
-                Word::Plain,
-                Word::File,
+            CommandName::Read | CommandName::List => &[
+                ArgName::Places,
+                ArgName::Plain,
+                ArgName::File,
             ],
-            Verb::Explain => &[
-                Word::Queues,
-                Word::Words,
-                Word::Short,
-                Word::Places,
-                Word::Plain,
-                Word::File,
-                Word::FirstEvent,
-                Word::SecondEvent,
+            CommandName::Check => &CHECK,
+            CommandName::Explain => &EXPLAIN,
+            CommandName::Run => &RUN,
+            CommandName::Draw => &DRAW,
+            CommandName::Reverse => &REVERSE,
+            CommandName::Report => &[
+                ArgName::Queues,
+                ArgName::Places,
+                ArgName::Plain,
+                ArgName::File,
             ],
-            Verb::Run => &[
-                Word::Queues,
-                Word::Patience,
-                Word::Places,
-                Word::Plain,
-                Word::File,
-            ],
-            Verb::List => &[Word::Places, Word::Plain, Word::File],
-            Verb::Draw => &[
-                Word::QueuesIfAny,
-                Word::Svg,
-                Word::Places,
-                Word::Plain,
-                Word::File,
-            ],
-            Verb::Reverse => &[
-                Word::Queues,
-                Word::Svg,
-                Word::Places,
-                Word::Plain,
-                Word::File,
-                Word::FirstEvent,
-                Word::SecondEvent,
-            ],
-            Verb::Report => &[Word::Queues, Word::Places, Word::Plain, Word::File],
-            Verb::Ready => &[
-                Word::Queues,
-                Word::Only,
-                Word::ShowSticks,
-                Word::Again,
-                Word::Words,
-                Word::Places,
-                Word::Plain,
-                Word::File,
-            ],
-            Verb::Import => &[
-                Word::From,
-                Word::Fence,
-                Word::Choose,
-                Word::Listed,
-                Word::Name,
-                Word::Own,
-                Word::Cross,
-                Word::Par,
-                Word::Places,
-                Word::Plain,
-                Word::File,
-            ],
+            CommandName::Ready => &READY,
+            CommandName::Import => &IMPORT,
         }
     }
 
-    /// What the help says that it is for.
+    /// The help's sentence on it.
     pub fn about(self) -> &'static str {
         match self {
-            Verb::Read => "Print the chart's canonical text",
-            Verb::Check => "Print whether the chart has races, and for each a run that shows it",
-            Verb::Explain => {
+            CommandName::Read => "Print the chart's canonical text",
+            CommandName::Check =>
+                "Print whether the chart has races, and for each a run that shows it",
+            CommandName::Explain => {
                 "Print why an event comes before another, or a run in which it does not"
             }
-            Verb::Run => {
+            CommandName::Run => {
                 "Run the chart on threads, and print how each instance ended and the trace"
             }
-            Verb::List => "Print the chart's events with their numbers",
-            Verb::Draw => "Print the chart as a picture, in text or in SVG",
-            Verb::Reverse => "Print a picture of a run that reverses a race",
-            Verb::Report =>
+            CommandName::List => "Print the chart's events with their numbers",
+            CommandName::Draw => "Print the chart as a picture, in text or in SVG",
+            CommandName::Reverse => "Print a picture of a run that reverses a race",
+            CommandName::Report =>
                 "Print a page in HTML: the chart, its closest races, and runs that show them",
-            Verb::Ready => {
+            CommandName::Ready => {
                 "Print whether instances that wait for one message can stick, and how"
             }
-            Verb::Import => "Print the chart of a sequence diagram of Mermaid",
+            CommandName::Import => "Print the chart of a sequence diagram of Mermaid",
         }
     }
 
-    /// What stands below its help.
+    /// The text below its help.
     pub fn notes(self) -> &'static str {
         match self {
-            Verb::Read => READ_NOTES,
-            Verb::Check => CHECK_NOTES,
-            Verb::Explain => EXPLAIN_NOTES,
-            Verb::Run => RUN_NOTES,
-            Verb::List => LIST_NOTES,
-            Verb::Draw => DRAW_NOTES,
-            Verb::Reverse => REVERSE_NOTES,
-            Verb::Report => REPORT_NOTES,
-            Verb::Ready => READY_NOTES,
-            Verb::Import => IMPORT_NOTES,
+            CommandName::Read => READ_NOTES,
+            CommandName::Check => CHECK_NOTES,
+            CommandName::Explain => EXPLAIN_NOTES,
+            CommandName::Run => RUN_NOTES,
+            CommandName::List => LIST_NOTES,
+            CommandName::Draw => DRAW_NOTES,
+            CommandName::Reverse => REVERSE_NOTES,
+            CommandName::Report => REPORT_NOTES,
+            CommandName::Ready => READY_NOTES,
+            CommandName::Import => IMPORT_NOTES,
         }
     }
 }
 
-/// What stands below the help of `msc read`.
+/// The text below the help of `msc read`.
 const READ_NOTES: &str = "\
 Exit status:
   0  the canonical text was written
@@ -419,7 +455,7 @@ Exit status:
 Example:
   msc read relay.msc";
 
-/// What stands below the help of `msc check`.
+/// The text below the help of `msc check`.
 const CHECK_NOTES: &str = "\
 A race is closest where no other that counts stands within it; every race that counts spans a closest
 one. Without --allow nothing is drawn between the two events of a closest race.
@@ -454,7 +490,7 @@ Example:
   msc check --queues mailbox --closest --why --allow early relay.msc
   msc check --queues pair --from mermaid checkout.mmd";
 
-/// What stands below the help of `msc explain`.
+/// The text below the help of `msc explain`.
 const EXPLAIN_NOTES: &str = "\
 Events are numbered from 0, over all lines. The lines of a chain:
   drawn X Y  Y is an output or an action that is drawn below X
@@ -470,7 +506,7 @@ Exit status:
 Example:
   msc explain --queues mailbox relay.msc 2 3";
 
-/// What stands below the help of `msc run`.
+/// The text below the help of `msc run`.
 const RUN_NOTES: &str = "\
 Exit status:
   0  all instances have finished
@@ -481,7 +517,7 @@ Exit status:
 Example:
   msc run --queues mailbox relay.msc";
 
-/// What stands below the help of `msc list`.
+/// The text below the help of `msc list`.
 const LIST_NOTES: &str = "\
 Exit status:
   0  the events were written
@@ -491,7 +527,7 @@ Exit status:
 Example:
   msc list --places relay.msc";
 
-/// What stands below the help of `msc draw`.
+/// The text below the help of `msc draw`.
 const DRAW_NOTES: &str = "\
 Exit status:
   0  the picture was written
@@ -502,7 +538,7 @@ Examples:
   msc draw relay.msc
   msc draw --queues mailbox --svg relay.msc";
 
-/// What stands below the help of `msc reverse`.
+/// The text below the help of `msc reverse`.
 const REVERSE_NOTES: &str = "\
 Exit status:
   0  the picture was written
@@ -512,7 +548,7 @@ Exit status:
 Example:
   msc reverse --queues pair relay.msc 2 3";
 
-/// What stands below the help of `msc report`.
+/// The text below the help of `msc report`.
 const REPORT_NOTES: &str = "\
 Exit status:
   0  the page was written
@@ -522,7 +558,7 @@ Exit status:
 Example:
   msc report --queues mailbox relay.msc >relay.html";
 
-/// What stands below the help of `msc ready`.
+/// The text below the help of `msc ready`.
 const READY_NOTES: &str = "\
 An instance is ready where it takes an input only when all that is drawn before has happened, and
 leaves the others in their queues. Without --only all instances are ready.
@@ -544,7 +580,7 @@ Examples:
   msc ready --queues mailbox relay.msc
   msc ready --queues mailbox --only worker --words relay.msc";
 
-/// What stands below the help of `msc import`.
+/// The text below the help of `msc import`.
 const IMPORT_NOTES: &str = "\
 A diagram without blocks that leave a choice has one scenario. Of another say which one:
   --choose main   each alt takes its first branch, each opt is there, each loop goes one round

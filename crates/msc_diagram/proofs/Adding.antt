@@ -20,9 +20,9 @@ use Rattle.msc_reason.proofs.Filtered.{any_in, any_parts, filter_parts}
 use Rattle.msc_reason.specs.Counting.{counting, counts, is_alone, is_listed}
 use Rattle.msc_reason.specs.Kinds.{is_empty}
 use Rattle.msc_reason.specs.LeftOut.{of_kinds}
-use Rattle.msc_reason.specs.Marked.{lack_in}
+use Rattle.msc_reason.specs.Marked.{cause_in}
 use Rattle.msc_reason.specs.declared.kinds.KindSet.{KindSet}
-use Rattle.msc_judge.specs.declared.question.Question.{Question}
+use Rattle.msc_judge.specs.declared.options.CheckOptions.{CheckOptions}
 use Rattle.msc_diagram.proofs.Fresh.{above_first}
 use Rattle.msc_diagram.proofs.Above.{plain_counts}
 use Rattle.msc_diagram.proofs.Same.{filter_agreed}
@@ -31,7 +31,7 @@ use Rattle.msc_diagram.specs.Laws.{PlacesAddUp}
 use Rattle.msc_diagram.specs.Places.{above_with, fresh, places_in, same_place, same_places}
 use Rattle.msc_diagram.specs.Scenarios.{all_of, asked_of, counting_of, judged_in, places_from, Case}
 use Rattle.msc_diagram.specs.declared.numbers.PlaceCounts.{PlaceCounts}
-use Rattle.msc_diagram.specs.declared.place.Place.{Place}
+use Rattle.msc_diagram.specs.declared.place.EventPlace.{EventPlace}
 use Rattle.msc_diagram.specs.declared.scenario.Scenario.{Scenario}
 
 -- two tests of parts that are equivalences are one together
@@ -48,20 +48,20 @@ both_equiv f g R S r s = record {
 -- so to have one place is one
 place_equiv : IsEquivalence same_place
 place_equiv =
-    both_equiv (λ (p : Place). p.instance) (λ (p : Place). p) nat_eq (λ (a b : Place). beq a.acts b.acts && (nat_eq a.line b.line && nat_eq a.column b.column)) nat_eq_equiv
-    (both_equiv (λ (p : Place). p.acts) (λ (p : Place). p) beq (λ (a b : Place). nat_eq a.line b.line && nat_eq a.column b.column) bool_eq_equiv
-    (both_equiv (λ (p : Place). p.line) (λ (p : Place). p.column) nat_eq nat_eq nat_eq_equiv nat_eq_equiv))
+    both_equiv (λ (p : EventPlace). p.instance) (λ (p : EventPlace). p) nat_eq (λ (a b : EventPlace). beq a.acts b.acts && (nat_eq a.line b.line && nat_eq a.column b.column)) nat_eq_equiv
+    (both_equiv (λ (p : EventPlace). p.acts) (λ (p : EventPlace). p) beq (λ (a b : EventPlace). nat_eq a.line b.line && nat_eq a.column b.column) bool_eq_equiv
+    (both_equiv (λ (p : EventPlace). p.line) (λ (p : EventPlace). p.column) nat_eq nat_eq nat_eq_equiv nat_eq_equiv))
 
 places_equiv : IsEquivalence same_places
-places_equiv = both_equiv (λ (p : Place × Place). p.0) (λ (p : Place × Place). p.1) same_place same_place place_equiv place_equiv
+places_equiv = both_equiv (λ (p : EventPlace × EventPlace). p.0) (λ (p : EventPlace × EventPlace). p.1) same_place same_place place_equiv place_equiv
 
 -- a race of a scenario is at these places
-abbrev at_places : Scenario → List (ℕ × ℕ) → Place × Place → Bool
+abbrev at_places : Scenario → List (ℕ × ℕ) → EventPlace × EventPlace → Bool
 at_places s pairs q = list_any (λ p. same_places q (places_in s p)) pairs
 
 module _ (s : Scenario) where
   -- one race more, by whether its places were seen
-  seen_or : (above : List (Place × Place)) (p : ℕ × ℕ) (pairs : List (ℕ × ℕ)) (P : List (Place × Place) → Type 0)
+  seen_or : (above : List (EventPlace × EventPlace)) (p : ℕ × ℕ) (pairs : List (ℕ × ℕ)) (P : List (EventPlace × EventPlace) → Type 0)
       → (list_any (same_places (places_in s p)) above ≡ true → P (above_with s above pairs))
       → (list_any (same_places (places_in s p)) above ≡ false → P (above_with s (above ++ places_in s p ∷ []) pairs))
       → P (above_with s above (p ∷ pairs))
@@ -70,17 +70,17 @@ module _ (s : Scenario) where
       (λ is. rw is (subst P (above_first s above p (fresh s (above ++ places_in s p ∷ []) pairs)) (new is)))
 
   -- no place stands twice
-  distinct_with : (above : List (Place × Place)) (pairs : List (ℕ × ℕ)) → IsDistinct same_places above → IsDistinct same_places (above_with s above pairs)
+  distinct_with : (above : List (EventPlace × EventPlace)) (pairs : List (ℕ × ℕ)) → IsDistinct same_places above → IsDistinct same_places (above_with s above pairs)
   distinct_with above [] once = subst (IsDistinct same_places) (sym (append-nil above)) once
   distinct_with above (p ∷ pairs) once = seen_or above p pairs (IsDistinct same_places)
       (λ is. distinct_with above pairs once)
       (λ is. distinct_with (above ++ places_in s p ∷ []) pairs (IsDistinct-push places_equiv above (places_in s p) once is))
 
   -- what is there was there, or is that of a race
-  member_with : (above : List (Place × Place)) (pairs : List (ℕ × ℕ)) (q : Place × Place)
+  member_with : (above : List (EventPlace × EventPlace)) (pairs : List (ℕ × ℕ)) (q : EventPlace × EventPlace)
       → is_member same_places (above_with s above pairs) q ≡ (is_member same_places above q || at_places s pairs q)
-  member_with above [] q = ap (λ (l : List (Place × Place)). list_any (same_places q) l) (append-nil above) ∙ sym (or-false (list_any (same_places q) above))
-  member_with above (p ∷ pairs) q = seen_or above p pairs (λ (l : List (Place × Place)). is_member same_places l q ≡ (is_member same_places above q || at_places s (p ∷ pairs) q))
+  member_with above [] q = ap (λ (l : List (EventPlace × EventPlace)). list_any (same_places q) l) (append-nil above) ∙ sym (or-false (list_any (same_places q) above))
+  member_with above (p ∷ pairs) q = seen_or above p pairs (λ (l : List (EventPlace × EventPlace)). is_member same_places l q ≡ (is_member same_places above q || at_places s (p ∷ pairs) q))
       (λ is. member_with above pairs q ∙ old (same_places q (places_in s p)) refl is)
       (λ is. member_with (above ++ places_in s p ∷ []) pairs q ∙ new)
     where
@@ -88,7 +88,7 @@ module _ (s : Scenario) where
       old : (b : Bool) → same_places q (places_in s p) ≡ b → list_any (same_places (places_in s p)) above ≡ true
           → (is_member same_places above q || at_places s pairs q) ≡ (is_member same_places above q || (same_places q (places_in s p) || at_places s pairs q))
       old true here is =
-          let there : list_any (same_places q) above ≡ true = ap (λ (t : Place × Place → Bool). list_any t above) (λ j x. places_equiv.congr q (places_in s p) x here j) ∙ is in
+          let there : list_any (same_places q) above ≡ true = ap (λ (t : EventPlace × EventPlace → Bool). list_any t above) (λ j x. places_equiv.congr q (places_in s p) x here j) ∙ is in
           rw there refl
       old false here is = rw here refl
 
@@ -100,18 +100,18 @@ module _ (s : Scenario) where
           ∙ ap (λ (b : Bool). list_any (same_places q) above || (b || at_places s pairs q)) (or-false (same_places q (places_in s p)))
 
 -- over all scenarios none stands twice
-distinct_from : (pairs : Case → List (ℕ × ℕ)) (above : List (Place × Place)) (cases : List Case) → IsDistinct same_places above
+distinct_from : (pairs : Case → List (ℕ × ℕ)) (above : List (EventPlace × EventPlace)) (cases : List Case) → IsDistinct same_places above
     → IsDistinct same_places (places_from pairs above cases)
 distinct_from pairs above [] once = once
 distinct_from pairs above (c ∷ cases) once =
     distinct_from pairs (above_with c.scenario above (pairs c)) cases (distinct_with c.scenario above (pairs c) once)
 
 -- a race of some scenario is at these places
-abbrev at_cases : (Case → List (ℕ × ℕ)) → List Case → Place × Place → Bool
+abbrev at_cases : (Case → List (ℕ × ℕ)) → List Case → EventPlace × EventPlace → Bool
 at_cases pairs cases q = list_any (λ c. at_places c.scenario (pairs c) q) cases
 
 -- exactly the places of races are there
-member_from : (pairs : Case → List (ℕ × ℕ)) (above : List (Place × Place)) (cases : List Case) (q : Place × Place)
+member_from : (pairs : Case → List (ℕ × ℕ)) (above : List (EventPlace × EventPlace)) (cases : List Case) (q : EventPlace × EventPlace)
     → is_member same_places (places_from pairs above cases) q ≡ (is_member same_places above q || at_cases pairs cases q)
 member_from pairs above [] q = sym (or-false (list_any (same_places q) above))
 member_from pairs above (c ∷ cases) q =
@@ -121,13 +121,13 @@ member_from pairs above (c ∷ cases) q =
 
 module _ (queues : Queues) (kinds : KindSet) (cases : List Case) where
   -- where a race counts there is a race
-  some_at : (q : Place × Place) → at_cases (counting_of queues kinds) cases q ≡ true → at_cases (all_of queues) cases q ≡ true
+  some_at : (q : EventPlace × EventPlace) → at_cases (counting_of queues kinds) cases q ≡ true → at_cases (all_of queues) cases q ≡ true
   some_at q some =
       let found = any_parts (λ (c : Case). at_places c.scenario (counting_of queues kinds c) q) cases some in
       let c = found.0 in
       let e = judged_in queues c in
       let race = any_parts (λ (p : ℕ × ℕ). same_places q (places_in c.scenario p)) (counting_of queues kinds c) found.2 in
-      let among = filter_parts (counts (of_kinds kinds) (lack_in e)) (races_of e) race.0 race.1 in
+      let among = filter_parts (counts (of_kinds kinds) (cause_in e)) (races_of e) race.0 race.1 in
       any_in (λ (b : Case). at_places b.scenario (all_of queues b) q) cases c found.1
       (any_in (λ (p : ℕ × ℕ). same_places q (places_in c.scenario p)) (races_of e) race.0 among.0 race.2)
 
@@ -151,18 +151,18 @@ module _ (queues : Queues) (kinds : KindSet) (cases : List Case) where
   all_parts : length (counting_places queues kinds cases) + length (without (race_places queues cases) (counting_places queues kinds cases)) ≡ length (race_places queues cases)
   all_parts =
       let some = counting_places queues kinds cases in
-      let split = length-filter_both (is_member same_places some) (λ (p : Place × Place). not (list_any (same_places p) some)) (λ p. refl) (race_places queues cases) in
+      let split = length-filter_both (is_member same_places some) (λ (p : EventPlace × EventPlace). not (list_any (same_places p) some)) (λ p. refl) (race_places queues cases) in
       let same = both in
       omega (arith, split, same)
 
 -- without `closest` those that count are listed
-plain_listed : (queues : Queues) (q : Question) → q.closest ≡ false → (c : Case) → asked_of queues q c ≡ counting_of queues q.allowed c
+plain_listed : (queues : Queues) (q : CheckOptions) → q.closest ≡ false → (c : Case) → asked_of queues q c ≡ counting_of queues q.allowed c
 plain_listed queues q off c =
     let e = judged_in queues c in
     let left = of_kinds q.allowed in
-    filter_agreed (is_listed e left q.closest (lack_in e)) (counts left (lack_in e)) (races_of e)
-    (λ p there. ap (λ (t : Bool). counts left (lack_in e) p && (not t || is_alone e.chart.events (counting e left (lack_in e)) p)) off
-    ∙ and-true (counts left (lack_in e) p))
+    filter_agreed (is_listed e left q.closest (cause_in e)) (counts left (cause_in e)) (races_of e)
+    (λ p there. ap (λ (t : Bool). counts left (cause_in e) p && (not t || is_alone e.chart.events (counting e left (cause_in e)) p)) off
+    ∙ and-true (counts left (cause_in e) p))
 
 pub add_up : PlacesAddUp
 add_up queues q cases off = by_test (is_empty q.allowed)

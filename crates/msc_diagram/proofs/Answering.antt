@@ -3,36 +3,36 @@ use Rattle.std.proofs.Common.{◌≡◌, ℕ, List, [], ◌++◌, Option, Result
 use Rattle.std.specs.Io.KnownBytes.{Appends}
 use Rattle.std.proofs.lemmas.List.{take_all}
 use Rattle.msc_chart.specs.declared.queue.Queues.{Queues}
-use Rattle.msc_judge.proofs.Putting.{pages_in, pages_out, pages_then}
-use Rattle.msc_judge.specs.declared.page.WriteFault.{WriteFault}
-use Rattle.msc_judge.specs.declared.page.WriteFault.TheVariants.{Memory, Device}
-use Rattle.msc_judge.specs.declared.question.Question.{Question}
+use Rattle.msc_print.proofs.Putting.{pages_in, pages_out, pages_then}
+use Rattle.msc_print.specs.declared.page.WriteFault.{WriteFault}
+use Rattle.msc_print.specs.declared.page.WriteFault.TheVariants.{Memory, Device}
+use Rattle.msc_judge.specs.declared.options.CheckOptions.{CheckOptions}
 use Rattle.msc_diagram.specs.Counts.{place_counts}
 use Rattle.msc_diagram.specs.Judging.{asked, bottom_text, told_so_far, AreCountsAbove, BeginsScenarios, JudgesScenarios, TellsScenarios}
 use Rattle.msc_diagram.specs.Scenarios.{cases_text, passed_of, AreCases, Case}
 use Rattle.msc_diagram.specs.Telling.{telling_by, PutsCases, TellsCases}
 use Rattle.msc_diagram.specs.declared.cases.Asked.{Asked}
-use Rattle.msc_diagram.specs.declared.judging.Form.{Form}
+use Rattle.msc_diagram.specs.declared.judging.DiagramFormat.{DiagramFormat}
 use Rattle.msc_diagram.specs.declared.numbers.PlaceCounts.{PlaceCounts}
-use Rattle.msc_diagram.specs.declared.place.Place.{Place}
+use Rattle.msc_diagram.specs.declared.place.EventPlace.{EventPlace}
 use Rattle.msc_diagram.specs.declared.scenario.Scenario.{Scenario}
 
-module _ {W : Type 0} (contents : W → Option (List ℕ)) (name : List ℕ) (scenarios : List Scenario) (queues : Queues) (q : Question) (form : Form) (a : Asked) (page : List ℕ)
-    (are : (l : List Scenario) (cases : List Case) → AreCases a.queues a.question.short l cases → AreCases queues (asked form q).short l cases) where
+module _ {W : Type 0} (contents : W → Option (List ℕ)) (name : List ℕ) (scenarios : List Scenario) (queues : Queues) (q : CheckOptions) (form : DiagramFormat) (a : Asked) (page : List ℕ)
+    (are : (l : List Scenario) (cases : List Case) → AreCases a.queues a.options.short l cases → AreCases queues (asked form q).short l cases) where
   -- how an answer is told
   abbrev pub TellsAll : Result ℕ WriteFault → W → W → Type 0
   TellsAll = TellsScenarios contents (JudgesScenarios name scenarios queues q form) (BeginsScenarios name scenarios queues q form)
 
   -- what is told of the first scenarios is the page and their text
   abbrev pub IsSoFar : PlaceCounts → List Case → Type 0
-  IsSoFar counts cases = told_so_far form name queues q (length scenarios) counts cases ≡ page ++ cases_text (telling_by a.shape) a.queues a.question 1 [] cases
+  IsSoFar counts cases = told_so_far form name queues q (length scenarios) counts cases ≡ page ++ cases_text (telling_by a.format) a.queues a.options 1 [] cases
 
   module _ (counts : PlaceCounts) (above : AreCountsAbove form scenarios queues q counts) (so_far : (cases : List Case) → IsSoFar counts cases) where
     -- where a fault came while scenarios were put
-    pub all_stop : (f : WriteFault) (old new : W) (below : List (Place × Place)) (last : List ℕ)
+    pub all_stop : (f : WriteFault) (old new : W) (below : List (EventPlace × EventPlace)) (last : List ℕ)
         → TellsCases a scenarios [] below (contents old) (contents new) page last (Err f) → TellsAll (Err f) old new
     all_stop Memory old new below last stops = inr (
-      page ++ cases_text (telling_by a.shape) a.queues a.question 1 [] stops.cases,
+      page ++ cases_text (telling_by a.format) a.queues a.options 1 [] stops.cases,
       record {
         counts = counts;
         above = above;
@@ -46,10 +46,10 @@ module _ {W : Type 0} (contents : W → Option (List ℕ)) (name : List ℕ) (sc
     all_stop Device old new below last stops = tt
 
     -- or behind them
-    pub all_stop_below : (old new : W) (below : List (Place × Place)) (last : List ℕ) (passed : ℕ)
+    pub all_stop_below : (old new : W) (below : List (EventPlace × EventPlace)) (last : List ℕ) (passed : ℕ)
         → PutsCases a scenarios [] below (contents old) (contents new) page last passed → TellsAll (Err Memory) old new
     all_stop_below old new below last passed p =
-        let text = cases_text (telling_by a.shape) a.queues a.question 1 [] p.cases in
+        let text = cases_text (telling_by a.format) a.queues a.options 1 [] p.cases in
         inr (
           page ++ text,
           record {
@@ -64,12 +64,12 @@ module _ {W : Type 0} (contents : W → Option (List ℕ)) (name : List ℕ) (sc
         )
 
   -- and where all went out
-  pub all_end : (old mid new : W) (below : List (Place × Place)) (last final bottom : List ℕ) (passed answer : ℕ)
+  pub all_end : (old mid new : W) (below : List (EventPlace × EventPlace)) (last final bottom : List ℕ) (passed answer : ℕ)
       → (p : PutsCases a scenarios [] below (contents old) (contents mid) page last passed) → IsSoFar (place_counts queues (asked form q) p.cases) p.cases
       → final ≡ last ++ bottom → bottom ≡ bottom_text form queues (place_counts queues (asked form q) p.cases) (passed_of queues q.allowed p.cases)
       → answer ≡ (place_counts queues (asked form q) p.cases).listed → Appends (contents mid) (contents new) final → TellsAll (Ok answer) old new
   all_end old mid new below last final bottom passed answer p so_far ended is none out =
-      let text = cases_text (telling_by a.shape) a.queues a.question 1 [] p.cases in (
+      let text = cases_text (telling_by a.format) a.queues a.options 1 [] p.cases in (
         page ++ (text ++ bottom),
         record {
           cases = p.cases;

@@ -3,17 +3,17 @@ use Rattle.std.proofs.Common.{◌≡◌, Bool, false, nat_eq, length, refl, ap�
 use Rattle.std.specs.Prelude.{IfOk, OnOk}
 use Rattle.msc_chart.specs.declared.queue.Queues.{Queues}
 use Rattle.msc_chart.specs.Drawings.{Drawing, IsAccepted}
-use Rattle.msc_race.specs.Laws.{AChosenRunExists}
-use Rattle.msc_race.specs.ShortLaws.{AShortRunExists}
+use Rattle.msc_race.specs.Laws.{AWitnessExists}
+use Rattle.msc_race.specs.ShortLaws.{AShortWitnessExists}
 use Rattle.msc_race.specs.Wired.{enforced_chart, EnforcedChart, IsEnforced}
 use Rattle.msc_race.specs.Views.{races_of}
 use Rattle.msc_reason.specs.Counting.{counting, listed}
 use Rattle.msc_reason.specs.LeftOut.{of_kinds}
-use Rattle.msc_reason.specs.Marked.{lack_in}
+use Rattle.msc_reason.specs.Marked.{cause_in}
 use Rattle.msc_reason.specs.declared.kinds.KindSet.{KindSet}
 use Rattle.msc_judge.proofs.Asked.{all_tables, are_shown, tables_of}
 use Rattle.msc_judge.specs.Findings.{run_of}
-use Rattle.msc_judge.specs.declared.question.Question.{Question}
+use Rattle.msc_judge.specs.declared.options.CheckOptions.{CheckOptions}
 use Rattle.msc_diagram.specs.Judging.{PassesCase}
 use Rattle.msc_diagram.specs.Places.{above_with}
 use Rattle.msc_diagram.specs.Telling.{SeesCase}
@@ -31,23 +31,23 @@ success_holds (Ok a) then p = then p
 success_holds (Err e) then p = tt
 
 -- by the enforced order it is known what of a scenario was seen
-pub case_seen : (queues : Queues) (q : Question) (s : Scenario) (e : EnforcedChart) (old new : Answer)
-    → e.chart ≡ s.chart → e.queues ≡ queues → IsEnforced e → IsAccepted e.chart → AChosenRunExists → AShortRunExists
-    → new.all ≡ above_with s old.all (races_of e) → new.counting ≡ above_with s old.counting (counting e (of_kinds q.allowed) (lack_in e))
-    → new.listed ≡ above_with s old.listed (listed e (of_kinds q.allowed) q.closest (lack_in e)) → SeesCase s queues q old new
+pub case_seen : (queues : Queues) (q : CheckOptions) (s : Scenario) (e : EnforcedChart) (old new : Answer)
+    → e.chart ≡ s.chart → e.queues ≡ queues → IsEnforced e → IsAccepted e.chart → AWitnessExists → AShortWitnessExists
+    → new.all ≡ above_with s old.all (races_of e) → new.counting ≡ above_with s old.counting (counting e (of_kinds q.allowed) (cause_in e))
+    → new.listed ≡ above_with s old.listed (listed e (of_kinds q.allowed) q.closest (cause_in e)) → SeesCase s queues q old new
 case_seen queues q s e old new chart its is accepted exists shorts all some few =
     let same : e ≡ enforced_chart s.chart queues e.order = ap₂ (λ (d : Drawing) (a : Queues). enforced_chart d a e.order) chart its in
     let now = enforced_chart s.chart queues e.order in
     let found = subst (λ (x : EnforcedChart). IsEnforced x × IsAccepted x.chart × (new.all ≡ above_with s old.all (races_of x))
-    × (new.counting ≡ above_with s old.counting (counting x (of_kinds q.allowed) (lack_in x)))
-    × (new.listed ≡ above_with s old.listed (listed x (of_kinds q.allowed) q.closest (lack_in x))))
+    × (new.counting ≡ above_with s old.counting (counting x (of_kinds q.allowed) (cause_in x)))
+    × (new.listed ≡ above_with s old.listed (listed x (of_kinds q.allowed) q.closest (cause_in x))))
     same (is, accepted, all, some, few) in
     let known = all_tables now found.0 found.1 exists shorts in
     let tables = tables_of now known.0 known.1 in
     record {
       known = record { scenario = s; order = e.order; runs = run_of q.short tables };
       scenario = refl;
-      is = record { accepted = found.1; enforced = found.0; lacks = known.2.lacks; shown = are_shown q.short now tables known.2 };
+      is = record { accepted = found.1; enforced = found.0; causes = known.2.causes; shown = are_shown q.short now tables known.2 };
       all = found.2;
       counting = found.3;
       listed = found.4;
@@ -55,16 +55,16 @@ case_seen queues q s e old new chart its is accepted exists shorts all some few 
 
 -- by the enforced order it is known whether none counts
 pub case_passes : (queues : Queues) (allowed : KindSet) (s : Scenario) (e : EnforcedChart) (none : Bool)
-    → e.chart ≡ s.chart → e.queues ≡ queues → IsEnforced e → IsAccepted e.chart → AChosenRunExists → AShortRunExists
-    → none ≡ nat_eq (length (counting e (of_kinds allowed) (lack_in e))) 0 → PassesCase s queues allowed none
+    → e.chart ≡ s.chart → e.queues ≡ queues → IsEnforced e → IsAccepted e.chart → AWitnessExists → AShortWitnessExists
+    → none ≡ nat_eq (length (counting e (of_kinds allowed) (cause_in e))) 0 → PassesCase s queues allowed none
 case_passes queues allowed s e none chart its is accepted exists shorts told =
     let same : e ≡ enforced_chart s.chart queues e.order = ap₂ (λ (d : Drawing) (a : Queues). enforced_chart d a e.order) chart its in
     let now = enforced_chart s.chart queues e.order in
-    let found = subst (λ (x : EnforcedChart). IsEnforced x × IsAccepted x.chart × (none ≡ nat_eq (length (counting x (of_kinds allowed) (lack_in x))) 0)) same (is, accepted, told) in
+    let found = subst (λ (x : EnforcedChart). IsEnforced x × IsAccepted x.chart × (none ≡ nat_eq (length (counting x (of_kinds allowed) (cause_in x))) 0)) same (is, accepted, told) in
     let all = all_tables now found.0 found.1 exists shorts in
     let tables = tables_of now all.0 all.1 in (
       record { scenario = s; order = e.order; runs = run_of false tables },
       refl,
-      record { accepted = found.1; enforced = found.0; lacks = all.2.lacks; shown = are_shown false now tables all.2 },
+      record { accepted = found.1; enforced = found.0; causes = all.2.causes; shown = are_shown false now tables all.2 },
       found.2,
     )

@@ -4,19 +4,19 @@ use Rattle.std.specs.List.{list_any}
 use Rattle.std.proofs.lemmas.List.{append-nil, length-append, length-map, map-append}
 use Rattle.msc_chart.specs.Lists.{Occurs}
 use Rattle.msc_diagram.specs.Places.{above_with, fresh, places_in, same_places}
-use Rattle.msc_diagram.specs.declared.place.Place.{Place}
+use Rattle.msc_diagram.specs.declared.place.EventPlace.{EventPlace}
 use Rattle.msc_diagram.specs.declared.scenario.Scenario.{Scenario}
 
 module _ (s : Scenario) where
   -- the places of a race that is new are above those behind it
-  pub above_first : (above : List (Place × Place)) (p : ℕ × ℕ) (rest : List (ℕ × ℕ))
+  pub above_first : (above : List (EventPlace × EventPlace)) (p : ℕ × ℕ) (rest : List (ℕ × ℕ))
       → (above ++ places_in s p ∷ []) ++ map (places_in s) rest ≡ above ++ map (places_in s) (p ∷ rest)
   above_first above p rest = append_assoc above (places_in s p ∷ []) (map (places_in s) rest)
 
   -- behind others, those are new that were not seen with them
-  pub fresh_behind : (above : List (Place × Place)) (xs ys : List (ℕ × ℕ))
+  pub fresh_behind : (above : List (EventPlace × EventPlace)) (xs ys : List (ℕ × ℕ))
       → fresh s above (xs ++ ys) ≡ fresh s above xs ++ fresh s (above_with s above xs) ys
-  fresh_behind above [] ys = ap (λ (l : List (Place × Place)). fresh s l ys) (sym (append-nil above))
+  fresh_behind above [] ys = ap (λ (l : List (EventPlace × EventPlace)). fresh s l ys) (sym (append-nil above))
   fresh_behind above (p ∷ xs) ys =
       by (list_any (same_places (places_in s p)) above) refl (fresh_behind above xs ys) (fresh_behind (above ++ places_in s p ∷ []) xs ys)
     where
@@ -27,33 +27,33 @@ module _ (s : Scenario) where
           → fresh s above ((p ∷ xs) ++ ys) ≡ fresh s above (p ∷ xs) ++ fresh s (above_with s above (p ∷ xs)) ys
       by true is old new = rw is old
       by false is old new =
-          let now : List (Place × Place) = above ++ places_in s p ∷ [] in
+          let now : List (EventPlace × EventPlace) = above ++ places_in s p ∷ [] in
           rw is (ap (λ (l : List (ℕ × ℕ)). p ∷ l) (new
-          ∙ ap (λ (l : List (Place × Place)). fresh s now xs ++ fresh s l ys) (above_first above p (fresh s now xs))))
+          ∙ ap (λ (l : List (EventPlace × EventPlace)). fresh s now xs ++ fresh s l ys) (above_first above p (fresh s now xs))))
 
   -- and so with what was seen
-  pub above_behind : (above : List (Place × Place)) (xs ys : List (ℕ × ℕ))
+  pub above_behind : (above : List (EventPlace × EventPlace)) (xs ys : List (ℕ × ℕ))
       → above_with s above (xs ++ ys) ≡ above_with s (above_with s above xs) ys
   above_behind above xs ys =
       ap (λ (l : List (ℕ × ℕ)). above ++ map (places_in s) l) (fresh_behind above xs ys)
-      ∙ ap (λ (l : List (Place × Place)). above ++ l) (map-append (places_in s) (fresh s above xs) (fresh s (above_with s above xs) ys))
+      ∙ ap (λ (l : List (EventPlace × EventPlace)). above ++ l) (map-append (places_in s) (fresh s above xs) (fresh s (above_with s above xs) ys))
       ∙ sym (append_assoc above (map (places_in s) (fresh s above xs)) (map (places_in s) (fresh s (above_with s above xs) ys)))
 
   -- one race more: where its places are new it is listed, and they were seen
-  pub next_seen : (above now seen : List (Place × Place)) (xs old new : List (ℕ × ℕ)) (p : ℕ × ℕ) (q : Place × Place) (is_new : Bool)
+  pub next_seen : (above now reported : List (EventPlace × EventPlace)) (xs old new : List (ℕ × ℕ)) (p : ℕ × ℕ) (q : EventPlace × EventPlace) (is_new : Bool)
       → q ≡ places_in s p → old ≡ fresh s above xs → now ≡ above_with s above xs
-      → is_new ≡ not (list_any (same_places q) now) → seen ≡ cond (list_any (same_places q) now) now (now ++ q ∷ [])
+      → is_new ≡ not (list_any (same_places q) now) → reported ≡ cond (list_any (same_places q) now) now (now ++ q ∷ [])
       → new ≡ cond is_new (old ++ p ∷ []) old
-      → (new ≡ fresh s above (xs ++ p ∷ [])) × (seen ≡ above_with s above (xs ++ p ∷ []))
-  next_seen above now seen xs old new p q is_new pair was had known put list = by (list_any (same_places q) now) refl
+      → (new ≡ fresh s above (xs ++ p ∷ [])) × (reported ≡ above_with s above (xs ++ p ∷ []))
+  next_seen above now reported xs old new p q is_new pair was had known put list = by (list_any (same_places q) now) refl
     where
       -- what of it alone is new, by whether its places are among those above
       one : (b : Bool) → list_any (same_places q) now ≡ b → fresh s (above_with s above xs) (p ∷ []) ≡ cond b [] (p ∷ [])
       one b is =
-          ap₂ (λ (r : Place × Place) (l : List (Place × Place)). cond (list_any (same_places r) l) (fresh s l []) (p ∷ fresh s (l ++ r ∷ []) [])) (sym pair) (sym had)
+          ap₂ (λ (r : EventPlace × EventPlace) (l : List (EventPlace × EventPlace)). cond (list_any (same_places r) l) (fresh s l []) (p ∷ fresh s (l ++ r ∷ []) [])) (sym pair) (sym had)
           ∙ ap (λ (t : Bool). cond t [] (p ∷ [])) is
 
-      by : (b : Bool) → list_any (same_places q) now ≡ b → (new ≡ fresh s above (xs ++ p ∷ [])) × (seen ≡ above_with s above (xs ++ p ∷ []))
+      by : (b : Bool) → list_any (same_places q) now ≡ b → (new ≡ fresh s above (xs ++ p ∷ [])) × (reported ≡ above_with s above (xs ++ p ∷ []))
       by true is = (
         list ∙ ap (λ (t : Bool). cond t (old ++ p ∷ []) old) (known ∙ ap not is) ∙ was
             ∙ sym (fresh_behind above xs (p ∷ []) ∙ ap (λ (l : List (ℕ × ℕ)). fresh s above xs ++ l) (one true is) ∙ append-nil (fresh s above xs)),
@@ -63,19 +63,12 @@ module _ (s : Scenario) where
       by false is = (
         list ∙ ap (λ (t : Bool). cond t (old ++ p ∷ []) old) (known ∙ ap not is) ∙ ap (λ (l : List (ℕ × ℕ)). l ++ p ∷ []) was
             ∙ sym (fresh_behind above xs (p ∷ []) ∙ ap (λ (l : List (ℕ × ℕ)). fresh s above xs ++ l) (one false is)),
-        put ∙ ap (λ (t : Bool). cond t now (now ++ q ∷ [])) is ∙ ap₂ (λ (l : List (Place × Place)) (r : Place × Place). l ++ r ∷ []) had pair
+        put ∙ ap (λ (t : Bool). cond t now (now ++ q ∷ [])) is ∙ ap₂ (λ (l : List (EventPlace × EventPlace)) (r : EventPlace × EventPlace). l ++ r ∷ []) had pair
             ∙ sym (above_behind above xs (p ∷ []) ∙ ap (λ (l : List (ℕ × ℕ)). above_with s above xs ++ map (places_in s) l) (one false is)),
       )
 
-  -- so many were seen then
-  pub seen_size : (above : List (Place × Place)) (xs : List (ℕ × ℕ)) → length (above_with s above xs) ≡ length above + length (fresh s above xs)
-  seen_size above xs =
-      let both = length-append above (map (places_in s) (fresh s above xs)) in
-      let same = length-map (fresh s above xs) (places_in s) in
-      omega (arith, both, same)
-
   -- those that are new are some of all
-  pub fresh_part : (above : List (Place × Place)) (xs : List (ℕ × ℕ)) (q : ℕ × ℕ) → Occurs (fresh s above xs) q → Occurs xs q
+  pub fresh_part : (above : List (EventPlace × EventPlace)) (xs : List (ℕ × ℕ)) (q : ℕ × ℕ) → Occurs (fresh s above xs) q → Occurs xs q
   fresh_part above [] q there = there
   fresh_part above (p ∷ xs) q there =
       by (list_any (same_places (places_in s p)) above) refl (fresh_part above xs q) (fresh_part (above ++ places_in s p ∷ []) xs q) there

@@ -5,28 +5,28 @@ use Rattle.std.proofs.lemmas.List.{append-nil, length-map, length-take, map-appe
 use Rattle.std.proofs.lemmas.List.Elements.{All-append}
 use Rattle.std.proofs.lemmas.List.Sums.{sum_by-append}
 use Rattle.msc_chart.specs.declared.queue.Queues.{Queues}
-use Rattle.msc_judge.proofs.KnownBytes.{Appends-append}
-use Rattle.msc_judge.proofs.Putting.{pages_then}
-use Rattle.msc_judge.specs.Pages.{Pages, WritesBeginning}
-use Rattle.msc_judge.specs.declared.page.WriteFault.{WriteFault}
-use Rattle.msc_judge.specs.declared.page.WriteFault.TheVariants.{Memory, Device}
-use Rattle.msc_judge.specs.declared.question.Question.{Question}
+use Rattle.msc_print.proofs.KnownBytes.{Appends-append}
+use Rattle.msc_print.proofs.Putting.{pages_then}
+use Rattle.msc_print.specs.Pages.{Pages, WritesBeginning}
+use Rattle.msc_print.specs.declared.page.WriteFault.{WriteFault}
+use Rattle.msc_print.specs.declared.page.WriteFault.TheVariants.{Memory, Device}
+use Rattle.msc_judge.specs.declared.options.CheckOptions.{CheckOptions}
 use Rattle.msc_diagram.specs.Places.{above_with}
 use Rattle.msc_reason.specs.declared.kinds.KindSet.{KindSet}
 use Rattle.msc_diagram.specs.Scenarios.{asked_of, case_text, cases_text, counting_of, passed_of, places_from, AreCases, Case, IsCase, Telling}
 use Rattle.msc_diagram.specs.Telling.{telling_by, PutsCase, PutsCases, TellsCase, TellsCases}
 use Rattle.msc_diagram.specs.declared.cases.Asked.{Asked}
-use Rattle.msc_diagram.specs.declared.place.Place.{Place}
+use Rattle.msc_diagram.specs.declared.place.EventPlace.{EventPlace}
 use Rattle.msc_diagram.specs.declared.scenario.Scenario.{Scenario}
 
 -- the places of the races of one scenario more
-pub places_more : (pairs : Case → List (ℕ × ℕ)) (above : List (Place × Place)) (cases : List Case) (c : Case)
+pub places_more : (pairs : Case → List (ℕ × ℕ)) (above : List (EventPlace × EventPlace)) (cases : List Case) (c : Case)
     → places_from pairs above (cases ++ c ∷ []) ≡ above_with c.scenario (places_from pairs above cases) (pairs c)
 places_more pairs above [] c = refl
 places_more pairs above (d ∷ cases) c = places_more pairs (above_with d.scenario above (pairs d)) cases c
 
 -- what is written of one scenario more
-pub cases_more : (t : Telling) (queues : Queues) (q : Question) (i j : ℕ) (above : List (Place × Place)) (cases : List Case) (c : Case) → j ≡ i + length cases
+pub cases_more : (t : Telling) (queues : Queues) (q : CheckOptions) (i j : ℕ) (above : List (EventPlace × EventPlace)) (cases : List Case) (c : Case) → j ≡ i + length cases
     → cases_text t queues q i above (cases ++ c ∷ [])
     ≡ cases_text t queues q i above cases ++ case_text t queues q j (places_from (asked_of queues q) above cases) c
 cases_more t queues q i j above [] c is =
@@ -58,34 +58,34 @@ known_more queues short scenarios k cases c d are is within same = record {
   all = All-append (IsCase queues short) cases (c ∷ []) are.all (All-one (IsCase queues short) c is);
 }
 
-module _ (a : Asked) (scenarios : List Scenario) (k : ℕ) (d : Scenario) (within : k < length scenarios) (above now : List (Place × Place)) (before mid after : Option (List ℕ)) (old one : List ℕ) where
+module _ (a : Asked) (scenarios : List Scenario) (k : ℕ) (d : Scenario) (within : k < length scenarios) (above now : List (EventPlace × EventPlace)) (before mid after : Option (List ℕ)) (old one : List ℕ) where
   -- so many are known as were put
-  so_many : (cases : List Case) → AreCases a.queues a.question.short (take k scenarios) cases → length cases ≡ k
+  so_many : (cases : List Case) → AreCases a.queues a.options.short (take k scenarios) cases → length cases ≡ k
   so_many cases are =
       let size = sym (length-map cases (λ c. c.scenario)) ∙ ap length are.each in
       let few = length-take k scenarios in
       omega (arith, size, few, within)
 
   -- one scenario more is put behind them
-  pub cases_grow : (later : List (Place × Place)) (new : List ℕ) (passed count more : ℕ)
+  pub cases_grow : (later : List (EventPlace × EventPlace)) (new : List ℕ) (passed count more : ℕ)
       → PutsCases a (take k scenarios) above now before mid old one passed
       → PutsCase a (k + 1) (get_or scenarios k d) now later mid after one new count
       → more ≡ passed + cond (nat_eq count 0) 1 0
       → PutsCases a (take (k + 1) scenarios) above later before after old new more
   cases_grow later new passed count more p c is =
-      let q = a.question in
-      let t = telling_by a.shape in
+      let q = a.options in
+      let t = telling_by a.format in
       let many = so_many p.cases p.are in
       let number : k + 1 ≡ 1 + length p.cases = omega (arith, many) in
       record {
         cases = p.cases ++ c.known ∷ [];
         are = known_more a.queues q.short scenarios k p.cases c.known d p.are c.is within c.scenario;
         counted = is ∙ ap₂ (λ (x r : ℕ). x + cond (nat_eq r 0) 1 0) p.counted c.counted ∙ sym (passed_more a.queues q.allowed p.cases c.known);
-        seen = c.seen ∙ ap (λ (l : List (Place × Place)). above_with c.known.scenario l (asked_of a.queues q c.known)) p.seen
+        reported = c.reported ∙ ap (λ (l : List (EventPlace × EventPlace)). above_with c.known.scenario l (asked_of a.queues q c.known)) p.reported
             ∙ sym (places_more (asked_of a.queues q) above p.cases c.known);
         put = subst (Pages before after old new) (sym (cases_more t a.queues q 1 (k + 1) above p.cases c.known number))
             (pages_then before mid after old one new (cases_text t a.queues q 1 above p.cases) (case_text t a.queues q (k + 1) (places_from (asked_of a.queues q) above p.cases) c.known)
-            p.put (subst (λ (l : List (Place × Place)). Pages mid after one new (case_text t a.queues q (k + 1) l c.known)) p.seen c.put));
+            p.put (subst (λ (l : List (EventPlace × EventPlace)). Pages mid after one new (case_text t a.queues q (k + 1) l c.known)) p.reported c.put));
       }
 
   -- a beginning of the page, and of what stands behind it, is one of all
@@ -98,13 +98,13 @@ module _ (a : Asked) (scenarios : List Scenario) (k : ℕ) (d : Scenario) (withi
   )
 
   -- or a fault comes
-  pub cases_stop : (later below : List (Place × Place)) (new last : List ℕ) (passed : ℕ) (f : WriteFault)
+  pub cases_stop : (later below : List (EventPlace × EventPlace)) (new last : List ℕ) (passed : ℕ) (f : WriteFault)
       → PutsCases a (take k scenarios) above now before mid old one passed
       → TellsCase a (k + 1) (get_or scenarios k d) now later mid after one new (Err f)
       → TellsCases a scenarios above below before after old last (Err f)
   cases_stop later below new last passed Memory p (inl begun) =
-      let t = telling_by a.shape in
-      let text = cases_text t a.queues a.question 1 above p.cases in
+      let t = telling_by a.format in
+      let text = cases_text t a.queues a.options 1 above p.cases in
       record {
         first = k;
         cases = p.cases;
@@ -113,8 +113,8 @@ module _ (a : Asked) (scenarios : List Scenario) (k : ℕ) (d : Scenario) (withi
             (begins_behind text [] p.put (subst (WritesBeginning mid after) (sym (append-nil one)) begun));
       }
   cases_stop later below new last passed Memory p (inr (c, same, is, begun)) =
-      let q = a.question in
-      let t = telling_by a.shape in
+      let q = a.options in
+      let t = telling_by a.format in
       let many = so_many p.cases p.are in
       let number : k + 1 ≡ 1 + length p.cases = omega (arith, many) in
       record {
@@ -123,6 +123,6 @@ module _ (a : Asked) (scenarios : List Scenario) (k : ℕ) (d : Scenario) (withi
         are = known_more a.queues q.short scenarios k p.cases c d p.are is within same;
         begun = subst (λ (x : List ℕ). WritesBeginning before after (old ++ x)) (sym (cases_more t a.queues q 1 (k + 1) above p.cases c number))
             (begins_behind (cases_text t a.queues q 1 above p.cases) (case_text t a.queues q (k + 1) (places_from (asked_of a.queues q) above p.cases) c) p.put
-            (subst (λ (l : List (Place × Place)). WritesBeginning mid after (one ++ case_text t a.queues q (k + 1) l c)) p.seen begun));
+            (subst (λ (l : List (EventPlace × EventPlace)). WritesBeginning mid after (one ++ case_text t a.queues q (k + 1) l c)) p.reported begun));
       }
   cases_stop later below new last passed Device p told = tt

@@ -1,8 +1,8 @@
 -- What is put behind a page after something else.
 use Rattle.std.proofs.Common.{◌≡◌, List, ℕ, ◌++◌, Option, Result, Ok, Err, sym, ap, ◌∙◌, subst, append_assoc}
-use Rattle.msc_judge.specs.Pages.{Puts, WritesBeginning}
-use Rattle.msc_judge.specs.declared.page.WriteFault.{WriteFault}
-use Rattle.msc_judge.specs.declared.page.WriteFault.TheVariants.{Memory, Device}
+use Rattle.msc_print.specs.Pages.{Puts, WritesBeginning}
+use Rattle.msc_print.specs.declared.page.WriteFault.{WriteFault}
+use Rattle.msc_print.specs.declared.page.WriteFault.TheVariants.{Memory, Device}
 
 -- what is put behind what stands on the page already is put with that
 pub puts_behind : {A : Type 0} (r : Result A WriteFault) (before after : Option (List ℕ)) (old one new xs ys whole : List ℕ)

@@ -1,4 +1,5 @@
--- What is known of a scenario is the same, whoever found it: its races, those that count, and those that are listed.
+-- What is known of a scenario is the same, whoever found it: its races, those that count, and those
+-- that are listed.
 use Rattle.std.proofs.Common.{◌≡◌, zero, suc, ℕ, ◌<◌, Bool, cond, not, ◌&&◌, ◌||◌, nat_eq, List, [], ◌∷◌, length, map, refl, sym, ap, ap₂, ◌∙◌, subst, arith}
 use Rattle.std.specs.Cmp.{both_ways}
 use Rattle.std.specs.List.{filter, All}
@@ -17,16 +18,16 @@ use Rattle.msc_race.specs.Wired.{enforced_chart, EnforcedChart, IsEnforced}
 use Rattle.msc_reason.specs.Counting.{counting, counts, is_alone, is_listed, listed}
 use Rattle.msc_reason.specs.Kinds.{has_kind}
 use Rattle.msc_reason.specs.LeftOut.{is_accepted, of_kinds}
-use Rattle.msc_reason.specs.Marked.{kind_in, lack_in}
+use Rattle.msc_reason.specs.Marked.{kind_in, cause_in}
 use Rattle.msc_reason.specs.declared.kinds.KindSet.{KindSet}
-use Rattle.msc_reason.specs.declared.lack.RaceKind.{RaceKind}
-use Rattle.msc_reason.specs.declared.lack.RaceKind.TheVariants.{Early, Queues as QueueRace, Unordered, Overtaken}
+use Rattle.msc_reason.specs.declared.cause.RaceKind.{RaceKind}
+use Rattle.msc_reason.specs.declared.cause.RaceKind.TheVariants.{Early, Queues as QueueRace, Unordered, Overtaken}
 use Rattle.msc_reason.specs.declared.left_out.LeftOut.{LeftOut}
-use Rattle.msc_judge.specs.declared.question.Question.{Question}
+use Rattle.msc_judge.specs.declared.options.CheckOptions.{CheckOptions}
 use Rattle.msc_diagram.specs.Counts.{counting_places, counts_of, listed_places, place_counts, race_places}
 use Rattle.msc_diagram.specs.Places.{above_with}
 use Rattle.msc_diagram.specs.Scenarios.{all_of, asked_of, counting_of, places_from, AreCases, Case, IsCase}
-use Rattle.msc_diagram.specs.declared.place.Place.{Place}
+use Rattle.msc_diagram.specs.declared.place.EventPlace.{EventPlace}
 use Rattle.msc_diagram.specs.declared.scenario.Scenario.{Scenario}
 
 -- two tests that agree on the items of a list keep the same ones
@@ -73,26 +74,26 @@ module _ (d : Drawing) (queues : Queues) (t u : Table) (accepted : IsAccepted d)
 
   module _ (left : LeftOut) where
     -- so the same races count
-    same_counts : (p : ℕ × ℕ) → Occurs (races_of one) p → counts left (lack_in one) p ≡ counts left (lack_in two) p
+    same_counts : (p : ℕ × ℕ) → Occurs (races_of one) p → counts left (cause_in one) p ≡ counts left (cause_in two) p
     same_counts p there =
         let known = known_race p there in
         ap (λ (kind : RaceKind). not (is_accepted left p) && not (has_kind left.kinds kind)) (same_kind p.0 p.1 known.0 known.1)
 
-    pub same_counting : counting one left (lack_in one) ≡ counting two left (lack_in two)
+    pub same_counting : counting one left (cause_in one) ≡ counting two left (cause_in two)
     same_counting =
-        filter_agreed (counts left (lack_in one)) (counts left (lack_in two)) (races_of one) same_counts
-        ∙ ap (filter (counts left (lack_in two))) same_races
+        filter_agreed (counts left (cause_in one)) (counts left (cause_in two)) (races_of one) same_counts
+        ∙ ap (filter (counts left (cause_in two))) same_races
 
     -- and the same are listed
     same_test : (closest : Bool) (p : ℕ × ℕ) → Occurs (races_of one) p
-        → is_listed one left closest (lack_in one) p ≡ is_listed two left closest (lack_in two) p
+        → is_listed one left closest (cause_in one) p ≡ is_listed two left closest (cause_in two) p
     same_test closest p there =
         ap₂ (λ (b : Bool) (l : List (ℕ × ℕ)). b && (not closest || is_alone d.events l p)) (same_counts p there) same_counting
 
-    pub same_listed : (closest : Bool) → listed one left closest (lack_in one) ≡ listed two left closest (lack_in two)
+    pub same_listed : (closest : Bool) → listed one left closest (cause_in one) ≡ listed two left closest (cause_in two)
     same_listed closest =
-        filter_agreed (is_listed one left closest (lack_in one)) (is_listed two left closest (lack_in two)) (races_of one) (same_test closest)
-        ∙ ap (filter (is_listed two left closest (lack_in two))) same_races
+        filter_agreed (is_listed one left closest (cause_in one)) (is_listed two left closest (cause_in two)) (races_of one) (same_test closest)
+        ∙ ap (filter (is_listed two left closest (cause_in two))) same_races
 
 -- two findings of one scenario agree on some races of it
 abbrev pub Agree : Queues → Bool → Bool → (Case → List (ℕ × ℕ)) → Type 0
@@ -112,15 +113,15 @@ module _ (queues : Queues) (short shorter : Bool) where
   pub counting_agree : (kinds : KindSet) → Agree queues short shorter (counting_of queues kinds)
   counting_agree kinds c b same is its =
       same_counting c.scenario.chart queues c.order b.order is.accepted is.enforced (moved c b same its) (of_kinds kinds)
-      ∙ ap (λ (s : Scenario). let e = enforced_chart s.chart queues b.order in counting e (of_kinds kinds) (lack_in e)) same
+      ∙ ap (λ (s : Scenario). let e = enforced_chart s.chart queues b.order in counting e (of_kinds kinds) (cause_in e)) same
 
-  pub listed_agree : (q : Question) → Agree queues short shorter (asked_of queues q)
+  pub listed_agree : (q : CheckOptions) → Agree queues short shorter (asked_of queues q)
   listed_agree q c b same is its =
       same_listed c.scenario.chart queues c.order b.order is.accepted is.enforced (moved c b same its) (of_kinds q.allowed) q.closest
-      ∙ ap (λ (s : Scenario). let e = enforced_chart s.chart queues b.order in listed e (of_kinds q.allowed) q.closest (lack_in e)) same
+      ∙ ap (λ (s : Scenario). let e = enforced_chart s.chart queues b.order in listed e (of_kinds q.allowed) q.closest (cause_in e)) same
 
   -- so the places of these races are the same
-  pub places_agree : (pairs : Case → List (ℕ × ℕ)) → Agree queues short shorter pairs → (above : List (Place × Place)) (cs bs : List Case)
+  pub places_agree : (pairs : Case → List (ℕ × ℕ)) → Agree queues short shorter pairs → (above : List (EventPlace × EventPlace)) (cs bs : List Case)
       → map (λ (c : Case). c.scenario) cs ≡ map (λ (c : Case). c.scenario) bs → All (IsCase queues short) cs → All (IsCase queues shorter) bs
       → places_from pairs above cs ≡ places_from pairs above bs
   places_agree pairs agree above [] [] same are its = refl
@@ -134,7 +135,7 @@ module _ (queues : Queues) (short shorter : Bool) where
       ∙ places_agree pairs agree (above_with b.scenario above (pairs b)) cs bs rest (λ k x within. are (suc k) x (omega (arith, within))) (λ k x within. its (suc k) x (omega (arith, within)))
 
 -- and so are all numbers of places
-pub counted_agree : (scenarios : List Scenario) (queues : Queues) (short shorter : Bool) (q : Question) (cs bs : List Case)
+pub counted_agree : (scenarios : List Scenario) (queues : Queues) (short shorter : Bool) (q : CheckOptions) (cs bs : List Case)
     → AreCases queues short scenarios cs → AreCases queues shorter scenarios bs → place_counts queues q cs ≡ place_counts queues q bs
 counted_agree scenarios queues short shorter q cs bs are its =
     let same = are.each ∙ sym its.each in

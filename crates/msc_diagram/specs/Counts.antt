@@ -1,45 +1,45 @@
--- How many places of races the scenarios of a diagram have. A place is a pair of places of events: the instance,
--- and both arrows with the end of each. This project's own numbers.
+-- How many places of races the scenarios of a diagram have. A place is a pair of places of events:
+-- the instance, and both arrows with the end of each. This project's own numbers.
 use Rattle.std.specs.Prelude.{◌≡◌, ℕ, Bool, ◌&&◌, ◌||◌, not, cond, List, [], ◌++◌, Option, None, Some, codes, length, nat_eq}
 use Rattle.std.specs.Fmt.{decimal}
 use Rattle.std.specs.List.{filter, list_any}
 use Rattle.msc_chart.specs.declared.queue.Queues.{Queues}
-use Rattle.msc_judge.specs.declared.question.Question.{Question}
+use Rattle.msc_judge.specs.declared.options.CheckOptions.{CheckOptions}
 use Rattle.msc_reason.specs.Kinds.{is_empty}
 use Rattle.msc_reason.specs.declared.kinds.KindSet.{KindSet}
 use Rattle.msc_report.specs.Texts.{text_line}
 use Rattle.msc_diagram.specs.Places.{same_places}
 use Rattle.msc_diagram.specs.Scenarios.{all_of, asked_of, counting_of, places_from, AreCases, Case}
 use Rattle.msc_diagram.specs.declared.numbers.PlaceCounts.{PlaceCounts}
-use Rattle.msc_diagram.specs.declared.place.Place.{Place}
+use Rattle.msc_diagram.specs.declared.place.EventPlace.{EventPlace}
 use Rattle.msc_diagram.specs.declared.scenario.Scenario.{Scenario}
 
 -- options choose among the races
-abbrev pub chooses : Question → Bool
+abbrev pub chooses : CheckOptions → Bool
 chooses q = q.closest || not (is_empty q.allowed)
 
 -- the places of all races of these scenarios, each once
-abbrev pub race_places : Queues → List Case → List (Place × Place)
+abbrev pub race_places : Queues → List Case → List (EventPlace × EventPlace)
 race_places queues cases = places_from (all_of queues) [] cases
 
 -- those at which a race of some scenario counts
-abbrev pub counting_places : Queues → KindSet → List Case → List (Place × Place)
+abbrev pub counting_places : Queues → KindSet → List Case → List (EventPlace × EventPlace)
 counting_places queues kinds cases = places_from (counting_of queues kinds) [] cases
 
 -- those at which a race is listed: one that counts, or a closest one, in some scenario
-abbrev pub listed_places : Queues → Question → List Case → List (Place × Place)
+abbrev pub listed_places : Queues → CheckOptions → List Case → List (EventPlace × EventPlace)
 listed_places queues q cases = places_from (asked_of queues q) [] cases
 
 -- the places of the first list that are not in the second
-abbrev pub without : List (Place × Place) → List (Place × Place) → List (Place × Place)
+abbrev pub without : List (EventPlace × EventPlace) → List (EventPlace × EventPlace) → List (EventPlace × EventPlace)
 without places others = filter (λ p. not (list_any (same_places p) others)) places
 
 -- those that are allowed: all races there, in all scenarios, are of kinds that are left out
-abbrev pub allowed_places : Queues → KindSet → List Case → List (Place × Place)
+abbrev pub allowed_places : Queues → KindSet → List Case → List (EventPlace × EventPlace)
 allowed_places queues kinds cases = without (race_places queues cases) (counting_places queues kinds cases)
 
 -- how many places are in lists of all, of those that count and of those that are listed
-abbrev pub counts_of : Question → List (Place × Place) → List (Place × Place) → List (Place × Place) → PlaceCounts
+abbrev pub counts_of : CheckOptions → List (EventPlace × EventPlace) → List (EventPlace × EventPlace) → List (EventPlace × EventPlace) → PlaceCounts
 counts_of q all counting listed = record {
   races = length all;
   allowed = cond (is_empty q.allowed) None (Some (length (without all counting)));
@@ -47,9 +47,10 @@ counts_of q all counting listed = record {
   listed = length listed;
 }
 
--- how many places of races these scenarios have: all; with kinds that are left out those that are allowed; with
+-- how many places of races these scenarios have: all; with kinds that are left out those that are
+-- allowed; with
 -- `closest` those of the closest races; and those that are listed
-abbrev pub place_counts : Queues → Question → List Case → PlaceCounts
+abbrev pub place_counts : Queues → CheckOptions → List Case → PlaceCounts
 place_counts queues q cases = counts_of q (race_places queues cases) (counting_places queues q.allowed cases) (listed_places queues q cases)
 
 -- so many places, if all races are listed
@@ -57,7 +58,7 @@ abbrev pub counts_of_all : ℕ → PlaceCounts
 counts_of_all races = record { races = races; allowed = None; closest = None; listed = races }
 
 -- these are the numbers of some scenarios, by what is known of them
-abbrev pub AreCountsOf : List Scenario → Queues → Question → PlaceCounts → Type 0
+abbrev pub AreCountsOf : List Scenario → Queues → CheckOptions → PlaceCounts → Type 0
 AreCountsOf scenarios queues q counts =
     (cases : List Case) × AreCases queues q.short scenarios cases × (counts ≡ place_counts queues q cases)
 
@@ -75,7 +76,7 @@ abbrev pub options_text : PlaceCounts → List ℕ
 options_text counts = option_line (codes "allowed ") counts.allowed ++ option_line (codes "closest ") counts.closest
 
 -- what options print above the scenarios: how many places there are, if there are some
-abbrev pub counts_text : Question → PlaceCounts → List ℕ
+abbrev pub counts_text : CheckOptions → PlaceCounts → List ℕ
 counts_text q counts =
     cond (chooses q && not (nat_eq counts.races 0)) (number_line (codes "races ") counts.races ++ options_text counts) []
 
@@ -83,8 +84,8 @@ counts_text q counts =
 abbrev pub pass_line : Bool → List ℕ
 pass_line drawn = cond drawn (text_line (codes "pass, parallel branches drawn one below the other")) (text_line (codes "pass"))
 
--- what is printed below the scenarios: that there are no races, or how many places are listed and how many
--- scenarios pass
+-- what is printed below the scenarios: that there are no races, or how many places are listed and
+-- how many scenarios pass
 abbrev pub diagram_end : Bool → PlaceCounts → ℕ → List ℕ
 diagram_end drawn counts passed =
     cond (nat_eq counts.races 0) (pass_line drawn ++ options_text counts)

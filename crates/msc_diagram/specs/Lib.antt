@@ -6,3 +6,4 @@ pub mod Counts
 pub mod Judging
 pub mod Telling
 pub mod Laws
+pub mod Lent

@@ -7,21 +7,21 @@ use Rattle.msc_chart.specs.Drawings.{IsAccepted}
 use Rattle.msc_order.specs.Tables.{Table}
 use Rattle.msc_race.specs.Views.{races_of, wiring_of}
 use Rattle.msc_race.specs.Wired.{enforced_chart, EnforcedChart, IsEnforced}
-use Rattle.msc_reason.specs.Counting.{counting, listed, AreLacks}
+use Rattle.msc_reason.specs.Counting.{counting, listed, AreCauses}
 use Rattle.msc_reason.specs.LeftOut.{of_kinds}
-use Rattle.msc_reason.specs.Marked.{lack_in}
+use Rattle.msc_reason.specs.Marked.{cause_in}
 use Rattle.msc_reason.specs.declared.kinds.KindSet.{KindSet}
 use Rattle.msc_judge.specs.Findings.{AreShown, Texts}
 use Rattle.msc_judge.specs.Telling.{race_text, told_from}
-use Rattle.msc_judge.specs.declared.question.Question.{Question}
+use Rattle.msc_judge.specs.declared.options.CheckOptions.{CheckOptions}
 use Rattle.msc_report.specs.Texts.{text_line}
 use Rattle.msc_report.specs.Verdicts.{queues_line}
 use Rattle.msc_diagram.specs.Places.{above_with, fresh}
-use Rattle.msc_diagram.specs.declared.place.Place.{Place}
+use Rattle.msc_diagram.specs.declared.place.EventPlace.{EventPlace}
 use Rattle.msc_diagram.specs.declared.scenario.Scenario.{Scenario}
 
--- what is known of a scenario: an order of its chart's events, and of each two events the run that shows
--- them
+-- what is known of a scenario: an order of its chart's events, and of each two events the run that
+-- shows them
 pub record Case : Type 0 where
   pub scenario : Scenario
   pub order : Table
@@ -35,7 +35,7 @@ judged_in queues c = enforced_chart c.scenario.chart queues c.order
 pub record IsCase (queues : Queues) (short : Bool) (c : Case) : Type 0 where
   pub accepted : IsAccepted c.scenario.chart
   pub enforced : IsEnforced (judged_in queues c)
-  pub lacks : AreLacks (judged_in queues c) (lack_in (judged_in queues c))
+  pub causes : AreCauses (judged_in queues c) (cause_in (judged_in queues c))
   pub shown : AreShown short (wiring_of (judged_in queues c)) c.runs
 
 -- what is known of these scenarios, each by each
@@ -44,8 +44,8 @@ pub record AreCases (queues : Queues) (short : Bool) (scenarios : List Scenario)
   pub all : All (IsCase queues short) cases
 
 -- the races of a scenario that are asked for
-abbrev pub asked_of : Queues → Question → Case → List (ℕ × ℕ)
-asked_of queues q c = let e = judged_in queues c in listed e (of_kinds q.allowed) q.closest (lack_in e)
+abbrev pub asked_of : Queues → CheckOptions → Case → List (ℕ × ℕ)
+asked_of queues q c = let e = judged_in queues c in listed e (of_kinds q.allowed) q.closest (cause_in e)
 
 -- all races of a scenario
 abbrev pub all_of : Queues → Case → List (ℕ × ℕ)
@@ -53,10 +53,11 @@ all_of queues c = races_of (judged_in queues c)
 
 -- the races of a scenario that count: those of none of these kinds
 abbrev pub counting_of : Queues → KindSet → Case → List (ℕ × ℕ)
-counting_of queues kinds c = let e = judged_in queues c in counting e (of_kinds kinds) (lack_in e)
+counting_of queues kinds c = let e = judged_in queues c in counting e (of_kinds kinds) (cause_in e)
 
--- the places of the races of scenarios that are listed, of those that these are: of each two places once
-abbrev pub places_from : (Case → List (ℕ × ℕ)) → List (Place × Place) → List Case → List (Place × Place)
+-- the places of the races of scenarios that are listed, of those that these are: of each two places
+-- once
+abbrev pub places_from : (Case → List (ℕ × ℕ)) → List (EventPlace × EventPlace) → List Case → List (EventPlace × EventPlace)
 places_from pairs above [] = above
 places_from pairs above (c ∷ cases) = places_from pairs (above_with c.scenario above (pairs c)) cases
 
@@ -65,8 +66,8 @@ abbrev pub choices_text : List ℕ → List ℕ
 choices_text [] = []
 choices_text (x ∷ choices) = codes " choose " ++ (decimal x ++ flat_map (λ y. codes "," ++ decimal y) choices)
 
--- what stands above the first race of a scenario that is listed: its number, its choices, and the number of
--- all its races
+-- what stands above the first race of a scenario that is listed: its number, its choices, and the
+-- number of all its races
 abbrev pub scenario_head : ℕ → List ℕ → ℕ → List ℕ
 scenario_head i choices races =
     (codes "scenario " ++ (decimal i ++ text_line (choices_text choices))) ++ (codes "races " ++ text_line (decimal races))
@@ -76,15 +77,11 @@ abbrev pub head_text : Option ℕ → List ℕ → ℕ → List ℕ
 head_text None choices races = []
 head_text (Some i) choices races = scenario_head i choices races
 
--- what is written of these races of a scenario: nothing where there are none, else the head and the first that
--- are told, behind so many
+-- what is written of these races of a scenario: nothing where there are none, else the head and the
+-- first that are told, behind so many
 abbrev pub told_text : (ℕ → ℕ × ℕ → List ℕ) → List ℕ → ℕ → ℕ → List (ℕ × ℕ) → List ℕ
 told_text text head most n [] = []
 told_text text head most n (p ∷ pairs) = head ++ told_from text most n (p ∷ pairs)
-
--- the same of some of them, behind others of the scenario where they are not its first
-abbrev pub told_then : (ℕ → ℕ × ℕ → List ℕ) → List ℕ → ℕ → ℕ → Bool → List (ℕ × ℕ) → List ℕ
-told_then text head most n is_first pairs = cond is_first (told_text text head most n pairs) (told_from text most n pairs)
 
 -- how scenarios are told: by which texts, and whether with heads
 pub record Telling : Type 0 where
@@ -92,14 +89,14 @@ pub record Telling : Type 0 where
   pub heads : Bool
 
 -- what is written of a scenario by its number, below races of these places
-abbrev pub case_text : Telling → Queues → Question → ℕ → List (Place × Place) → Case → List ℕ
+abbrev pub case_text : Telling → Queues → CheckOptions → ℕ → List (EventPlace × EventPlace) → Case → List ℕ
 case_text t queues q i above c =
     told_text (race_text (t.texts c.scenario) (judged_in queues c) q c.runs)
     (head_text (cond t.heads (Some i) None) c.scenario.choices (length (all_of queues c)))
     q.most (length above) (fresh c.scenario above (asked_of queues q c))
 
 -- what is written of these scenarios, numbered from here on
-abbrev pub cases_text : Telling → Queues → Question → ℕ → List (Place × Place) → List Case → List ℕ
+abbrev pub cases_text : Telling → Queues → CheckOptions → ℕ → List (EventPlace × EventPlace) → List Case → List ℕ
 cases_text t queues q i above [] = []
 cases_text t queues q i above (c ∷ cases) =
     case_text t queues q i above c

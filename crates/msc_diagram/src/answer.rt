@@ -1,23 +1,23 @@
-//! The places of the races of all scenarios, from which all numbers are made.
+//! The places of the races of all scenarios: all numbers are made from them.
 
 ghost use Rattle.std.specs.Prelude.{◌≡◌, [], None, Some, cond, length};
 ghost use Rattle.msc_reason.specs.Kinds.{is_empty};
 ghost use Rattle.msc_diagram.specs.Counts.{counts_of, without};
 
 use crate::numbers::PlaceCounts;
-use crate::seen::Seen;
-use msc_judge::Question;
+use crate::reported::ReportedRaces;
+use msc_judge::CheckOptions;
 use std::alloc::Global;
 
 /// The places of races that were found in scenarios.
 #[derive(Drop)]
 pub(crate) struct Answer {
-    /// Those of all races.
-    pub all: Seen,
-    /// Those of races that count.
-    pub counting: Seen,
-    /// Those of races that are listed.
-    pub listed: Seen,
+    /// The places of all races.
+    pub all: ReportedRaces,
+    /// The places of races that count.
+    pub counting: ReportedRaces,
+    /// The places of races that are listed.
+    pub listed: ReportedRaces,
 }
 
 impl Answer {
@@ -28,33 +28,33 @@ impl Answer {
         ensures listed { result.listed ≡ [] }
     {
         Answer {
-            all: Seen::new(alloc),
-            counting: Seen::new(alloc),
-            listed: Seen::new(alloc),
+            all: ReportedRaces::new(alloc),
+            counting: ReportedRaces::new(alloc),
+            listed: ReportedRaces::new(alloc),
         }
     }
 
-    /// How many places are allowed, if some kinds are left out. It takes no memory.
-    fn count_allowed(&self, question: Question) -> Option<u32>
-        ensures { result ≡ cond (is_empty question.allowed) None
+    /// The number of allowed places, if some kinds are left out. It takes no memory.
+    fn count_allowed(&self, options: CheckOptions) -> Option<u32>
+        ensures { result ≡ cond (is_empty options.allowed) None
             (Some (length (without self.now.all self.now.counting))) }
     {
-        if question.allowed.is_empty() {
+        if options.allowed.is_empty() {
             return None;
         }
         Some(self.all.count_without(&self.counting))
     }
 
-    /// How many places there are of each kind. It takes no memory.
-    pub fn counts(&self, question: Question) -> PlaceCounts
+    /// The numbers of places. It takes no memory.
+    pub fn counts(&self, options: CheckOptions) -> PlaceCounts
         ensures { result
-            ≡ counts_of question self.now.all self.now.counting self.now.listed }
+            ≡ counts_of options self.now.all self.now.counting self.now.listed }
     {
         let listed = self.listed.len();
         PlaceCounts {
             races: self.all.len(),
-            allowed: self.count_allowed(question),
-            closest: if question.closest { Some(listed) } else { None },
+            allowed: self.count_allowed(options),
+            closest: if options.closest { Some(listed) } else { None },
             listed,
         }
     }

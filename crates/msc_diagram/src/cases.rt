@@ -1,213 +1,207 @@
 //! All scenarios, one below the other.
 
-ghost use Rattle.std.specs.Prelude.{◌≡◌, ℕ, List, None, OnOk, Some, cond, length};
-ghost use Rattle.msc_race.specs.Views.{wiring_of};
+ghost use Rattle.std.specs.Prelude.{◌≡◌, ◌++◌, ℕ, List, None, OnOk, Some, cond, length};
+ghost use Rattle.msc_race.specs.Views.{wiring_of, AreRacesOf};
 ghost use Rattle.msc_reason.specs.Counting.{listed};
-ghost use Rattle.msc_reason.specs.Marked.{lack_in};
+ghost use Rattle.msc_reason.specs.Marked.{cause_in};
 ghost use Rattle.msc_judge.specs.Findings.{AreShown};
-ghost use Rattle.msc_judge.specs.Pages.{Puts};
-ghost use Rattle.msc_judge.specs.Telling.{race_text};
-ghost use Rattle.msc_diagram.specs.Judging.{editors_of, lines_of};
+ghost use Rattle.msc_print.specs.Pages.{Puts};
+ghost use Rattle.msc_judge.specs.Telling.{race_text, told_from};
 ghost use Rattle.msc_diagram.specs.Places.{above_with, fresh};
 ghost use Rattle.msc_diagram.specs.Scenarios.{head_text, told_text};
 ghost use Rattle.msc_diagram.specs.Telling.{telling_by, TellsCase, TellsCases};
 
+use crate::counting::new_listed;
+use crate::place::places_of;
+use crate::reported::ReportedRaces;
 use crate::scenario::Scenario;
-use crate::seen::Seen;
-use crate::telling::{Head, put_scenario};
+use crate::source::Source;
+use crate::telling::{Head, NewPairs, print_scenario};
 use msc_chart::Queues;
-use msc_judge::{Page, Question, Teller, WriteFault};
+use msc_judge::{CheckOptions, RaceRows};
+use msc_print::{Page, WriteFault};
 use msc_race::Enforced;
-use msc_race::laws::{short_runs_show, the_chosen_run_reverses};
+use msc_race::laws::{short_witnesses_show, the_witness_reverses};
 use msc_reason::{LeftOut, Listing, count_counting};
 use msc_report::{Editor, Lines, Style};
 use std::alloc::Global;
 use std::io::Write;
 
-/// How scenarios are told: in lines, with runs in words where that is so; or in lines for editors.
+/// How scenarios are printed: in lines, with runs in words or by numbers; or in lines for editors.
 #[derive(Clone, Copy)]
-pub(crate) enum Shape {
+pub(crate) enum RaceFormat {
     Lines(bool),
     Editor,
 }
 
-/// What is asked of scenarios under an architecture, and how they are told.
+/// The options of a check of scenarios under an architecture, and the format of its answer.
 #[derive(Clone, Copy)]
 pub(crate) struct Asked {
     pub queues: Queues,
-    pub question: Question,
-    pub shape: Shape,
+    pub options: CheckOptions,
+    pub format: RaceFormat,
 }
 
-/// Puts a scenario behind a page in lines.
-fn put_lines<W: Write>(
-    alloc: Global,
-    writer: &mut W,
-    page: &mut Page,
-    seen: &mut Seen,
-    listing: &Listing<'_>,
-    question: Question,
-    scenario: &Scenario<'_>,
-    words: bool,
-    head: Head,
-) -> Result<(), WriteFault>
-    requires chart { listing.now.judged.chart ≡ scenario.now.chart }
-    ensures seen { OnOk result (seen.new ≡ above_with scenario.now seen.old
-        (listed listing.now.judged listing.now.allowed listing.now.closest
-        (lack_in listing.now.judged))) }
-    ensures put { (runs : ℕ × ℕ → List ℕ)
-        → AreShown question.short (wiring_of listing.now.judged) runs
-        → Puts result (W.contents writer.old) (W.contents writer.new)
-        page.old.bytes.items page.new.bytes.items (told_text
-        (race_text (lines_of words scenario.now) listing.now.judged question runs)
-        (head_text head.number scenario.now.choices head.races)
-        question.most (length seen.old) (fresh scenario.now seen.old
-        (listed listing.now.judged listing.now.allowed listing.now.closest
-        (lack_in listing.now.judged)))) }
-{
-    let style = Style {
-        sites: Some(&scenario.sites),
-        words,
-    };
-    let renderer = &Lines::of(alloc, &scenario.chart, head.races, style)?;
-    let teller = Teller {
-        listing,
-        question,
-        renderer,
-    };
-    put_scenario(alloc, writer, page, seen, &teller, scenario, head)
-}
-
-/// Puts a scenario behind a page in lines for editors.
-fn put_editor<W: Write>(
-    alloc: Global,
-    writer: &mut W,
-    page: &mut Page,
-    seen: &mut Seen,
-    listing: &Listing<'_>,
-    question: Question,
-    scenario: &Scenario<'_>,
-    head: Head,
-) -> Result<(), WriteFault>
-    requires chart { listing.now.judged.chart ≡ scenario.now.chart }
-    ensures seen { OnOk result (seen.new ≡ above_with scenario.now seen.old
-        (listed listing.now.judged listing.now.allowed listing.now.closest
-        (lack_in listing.now.judged))) }
-    ensures put { (runs : ℕ × ℕ → List ℕ)
-        → AreShown question.short (wiring_of listing.now.judged) runs
-        → Puts result (W.contents writer.old) (W.contents writer.new)
-        page.old.bytes.items page.new.bytes.items (told_text
-        (race_text (editors_of scenario.now) listing.now.judged question runs)
-        (head_text head.number scenario.now.choices head.races)
-        question.most (length seen.old) (fresh scenario.now seen.old
-        (listed listing.now.judged listing.now.allowed listing.now.closest
-        (lack_in listing.now.judged)))) }
-{
-    let renderer = &Editor {
-        sites: &scenario.sites,
-    };
-    let teller = Teller {
-        listing,
-        question,
-        renderer,
-    };
-    put_scenario(alloc, writer, page, seen, &teller, scenario, head)
-}
-
-/// Puts a scenario with so many races behind a page by its number, in the shape that is asked for.
-fn put_shape<W: Write>(
-    alloc: Global,
-    writer: &mut W,
-    page: &mut Page,
-    seen: &mut Seen,
-    listing: &Listing<'_>,
-    asked: Asked,
-    scenario: &Scenario<'_>,
+/// A scenario with its number, from 1, and the number of its races.
+#[derive(Clone, Copy)]
+struct Numbered<'s, 'f> {
+    scenario: &'s Scenario<'f>,
     number: usize,
     races: u32,
+}
+
+/// Appends the head of a scenario and its new races to a page in a format. Full pages go to the
+/// writer.
+fn print_new<W: Write>(
+    alloc: Global,
+    writer: &mut W,
+    page: &mut Page,
+    new: NewPairs<'_>,
+    listing: &Listing<'_>,
+    asked: Asked,
+    numbered: Numbered<'_, '_>,
 ) -> Result<(), WriteFault>
-    requires chart { listing.now.judged.chart ≡ scenario.now.chart }
-    ensures seen { OnOk result (seen.new ≡ above_with scenario.now seen.old
-        (listed listing.now.judged listing.now.allowed listing.now.closest
-        (lack_in listing.now.judged))) }
-    ensures put { (runs : ℕ × ℕ → List ℕ)
-        → AreShown asked.question.short (wiring_of listing.now.judged) runs
+    requires chart { listing.now.judged.chart ≡ numbered.scenario.now.chart }
+    requires races { AreRacesOf listing.now.judged new.pairs.now }
+    ensures { (runs : ℕ × ℕ → List ℕ)
+        → AreShown asked.options.short (wiring_of listing.now.judged) runs
         → Puts result (W.contents writer.old) (W.contents writer.new)
-        page.old.bytes.items page.new.bytes.items (told_text
-        (race_text ((telling_by asked.shape).texts scenario.now) listing.now.judged
-        asked.question runs)
-        (head_text (cond (telling_by asked.shape).heads (Some number) None)
-        scenario.now.choices races)
-        asked.question.most (length seen.old) (fresh scenario.now seen.old
-        (listed listing.now.judged listing.now.allowed listing.now.closest
-        (lack_in listing.now.judged)))) }
+        page.old.bytes.items page.new.bytes.items
+        (head_text (cond (telling_by asked.format).heads (Some numbered.entry.number) None)
+        numbered.entry.scenario.now.choices numbered.entry.races
+        ++ told_from (race_text ((telling_by asked.format).texts numbered.entry.scenario.now)
+        listing.now.judged asked.options runs) asked.options.most new.entry.first new.entry.pairs.now) }
 {
-    let question = asked.question;
-    match asked.shape {
-        Shape::Lines(words) => {
+    let Numbered {
+        scenario,
+        number,
+        races,
+    } = numbered;
+    let options = asked.options;
+    match asked.format {
+        RaceFormat::Lines(words) => {
+            let style = Style {
+                event_positions: Some(&scenario.event_positions),
+                words,
+            };
+            let rows = RaceRows {
+                listing,
+                options,
+                renderer: &Lines::of(alloc, &scenario.chart, races, style)?,
+            };
             let head = Head {
                 number: Some(number),
                 races,
             };
-            put_lines(
-                alloc, writer, page, seen, listing, question, scenario, words, head,
-            )
+            print_scenario(alloc, writer, page, &rows, new, scenario, head)
         }
-        Shape::Editor => {
+        RaceFormat::Editor => {
+            let rows = RaceRows {
+                listing,
+                options,
+                renderer: &Editor {
+                    event_positions: &scenario.event_positions,
+                },
+            };
             let head = Head {
                 number: None,
                 races,
             };
-            put_editor(alloc, writer, page, seen, listing, question, scenario, head)
+            print_scenario(alloc, writer, page, &rows, new, scenario, head)
         }
     }
 }
 
-/// Puts a scenario behind a page by its number, and answers how many of its races count.
-fn put_case<W: Write>(
+/// Appends a scenario to a page in a format, if it has a new race: only then the texts of its
+/// events are made. Full pages go to the writer.
+fn print_in_format<W: Write>(
     alloc: Global,
     writer: &mut W,
     page: &mut Page,
-    seen: &mut Seen,
+    reported: &mut ReportedRaces,
+    listing: &Listing<'_>,
+    asked: Asked,
+    numbered: Numbered<'_, '_>,
+) -> Result<(), WriteFault>
+    requires chart { listing.now.judged.chart ≡ numbered.scenario.now.chart }
+    ensures reported { OnOk result (reported.new ≡ above_with numbered.entry.scenario.now reported.old
+        (listed listing.now.judged listing.now.allowed listing.now.closest
+        (cause_in listing.now.judged))) }
+    ensures put { (runs : ℕ × ℕ → List ℕ)
+        → AreShown asked.options.short (wiring_of listing.now.judged) runs
+        → Puts result (W.contents writer.old) (W.contents writer.new)
+        page.old.bytes.items page.new.bytes.items (told_text
+        (race_text ((telling_by asked.format).texts numbered.entry.scenario.now)
+        listing.now.judged asked.options runs)
+        (head_text (cond (telling_by asked.format).heads (Some numbered.entry.number) None)
+        numbered.entry.scenario.now.choices numbered.entry.races)
+        asked.options.most (length reported.old) (fresh numbered.entry.scenario.now reported.old
+        (listed listing.now.judged listing.now.allowed listing.now.closest
+        (cause_in listing.now.judged)))) }
+{
+    listing.enforced().facts();
+    let places = places_of(alloc, numbered.scenario)?;
+    let first = reported.len();
+    let new = new_listed(alloc, reported, listing, places.as_slice())?;
+    if new.is_empty() {
+        return Ok(());
+    }
+    let new = NewPairs {
+        pairs: new.as_slice(),
+        first,
+    };
+    print_new(alloc, writer, page, new, listing, asked, numbered)
+}
+
+/// Appends the scenario of this number to a page, and returns how many of its races count.
+fn print_case<W: Write>(
+    alloc: Global,
+    writer: &mut W,
+    page: &mut Page,
+    reported: &mut ReportedRaces,
     asked: Asked,
     scenario: &Scenario<'_>,
     number: usize,
 ) -> Result<u32, WriteFault>
-    ensures { TellsCase asked number scenario.now seen.old seen.new
+    ensures { TellsCase asked number scenario.now reported.old reported.new
         (W.contents writer.old) (W.contents writer.new)
         page.old.bytes.items page.new.bytes.items result }
 {
-    the_chosen_run_reverses();
-    short_runs_show();
+    the_witness_reverses();
+    short_witnesses_show();
     let enforced = Enforced::of(alloc, &scenario.chart, asked.queues)?;
-    enforced.enforced();
+    enforced.facts();
     let races = enforced.count_races();
-    let left = LeftOut::of_kinds(asked.question.allowed);
+    let left = LeftOut::of_kinds(asked.options.allowed);
     let counting = count_counting(alloc, &enforced, left, races)?;
-    let listing = &Listing::of(alloc, enforced, left, asked.question.closest)?;
-    put_shape(
-        alloc, writer, page, seen, listing, asked, scenario, number, races,
-    )?;
+    let listing = &Listing::of(alloc, enforced, left, asked.options.closest)?;
+    let numbered = Numbered {
+        scenario,
+        number,
+        races,
+    };
+    print_in_format(alloc, writer, page, reported, listing, asked, numbered)?;
     Ok(counting)
 }
 
-/// Puts scenarios behind a page, one below the other, and answers how many of them have no race that
-/// counts. Full pages go out.
-pub(crate) fn put_cases<W: Write>(
+/// Appends scenarios to a page, one after another, and returns how many of them have no race that
+/// counts. Full pages go to the writer.
+pub(crate) fn print_cases<S: Source, W: Write>(
     alloc: Global,
     writer: &mut W,
     page: &mut Page,
-    seen: &mut Seen,
+    reported: &mut ReportedRaces,
     asked: Asked,
-    scenarios: &[Scenario<'_>],
+    scenarios: &S,
 ) -> Result<usize, WriteFault>
-    ensures { TellsCases asked scenarios.now seen.old seen.new
+    ensures { TellsCases asked (S.scenarios scenarios.now) reported.old reported.new
         (W.contents writer.old) (W.contents writer.new)
         page.old.bytes.items page.new.bytes.items result }
 {
     let mut passed = 0;
-    for (i, scenario) in scenarios.iter().enumerate() {
-        let counting = put_case(alloc, writer, page, seen, asked, scenario, i + 1)?;
+    for i in 0..scenarios.len() {
+        let scenario = scenarios.scenario(alloc, i)?;
+        let counting = print_case(alloc, writer, page, reported, asked, scenario.get(), i + 1)?;
         if counting == 0 {
             passed += 1;
         }

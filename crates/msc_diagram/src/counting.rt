@@ -1,49 +1,50 @@
-//! How many places of races scenarios have.
+//! Counts the places of races in scenarios.
 
 ghost use Rattle.std.specs.Prelude.{◌≡◌, IfOk, OnOk, length};
 ghost use Rattle.std.specs.List.{filter};
 ghost use Rattle.msc_race.specs.Views.{races_of, AreRacesOf};
 ghost use Rattle.msc_reason.specs.Counting.{counting, counts, listed};
-ghost use Rattle.msc_reason.specs.Marked.{lack_in};
+ghost use Rattle.msc_reason.specs.Marked.{cause_in};
 ghost use Rattle.msc_diagram.specs.Counts.{AreCountsOf};
-ghost use Rattle.msc_diagram.specs.Places.{above_with, AreAllPlaces};
+ghost use Rattle.msc_diagram.specs.Places.{above_with, fresh, AreAllPlaces};
 ghost use Rattle.msc_diagram.specs.Telling.{SeesCase, SeesCases};
 ghost use Rattle.msc_diagram.specs.declared.scenario.Scenario.{Scenario};
 
 use crate::answer::Answer;
 use crate::numbers::PlaceCounts;
-use crate::place::{Place, places_of};
+use crate::place::{EventPlace, places_of};
+use crate::reported::ReportedRaces;
 use crate::scenario::Scenario;
-use crate::seen::Seen;
+use crate::source::Source;
 use msc_chart::{Event, Queues};
-use msc_judge::Question;
-use msc_race::laws::{short_runs_show, the_chosen_run_reverses};
+use msc_judge::CheckOptions;
+use msc_race::laws::{short_witnesses_show, the_witness_reverses};
 use msc_race::{Enforced, Walk};
 use msc_reason::{LeftOut, Listing, Stream, counts};
 use std::alloc::{AllocError, Global};
 
-/// Sees all races of a scenario whose events have these places.
+/// Adds the places of all races of a scenario. `places` has the places of its events.
 fn see_all(
     alloc: Global,
-    seen: &mut Seen,
+    reported: &mut ReportedRaces,
     enforced: &Enforced<'_>,
-    places: &[Place],
+    places: &[EventPlace],
 ) -> Result<(), AllocError>
     requires { length places.now ≡ length enforced.now.chart.events }
     ensures { (s : Scenario) → AreAllPlaces s places.now
-        → OnOk result (seen.new ≡ above_with s seen.old (races_of enforced.now)) }
+        → OnOk result (reported.new ≡ above_with s reported.old (races_of enforced.now)) }
 {
     let mut walk = Walk::new();
     let mut races = Vec::new(alloc);
     let mut new = Vec::new(alloc);
     for e in 0..enforced.events() {
         enforced.next_races(&mut walk, &mut races, e)?;
-        seen.see(places, races.as_slice(), &mut new)?;
+        reported.see(places, races.as_slice(), &mut new)?;
     }
     Ok(())
 }
 
-/// Keeps those of these races that count.
+/// Keeps the races that count.
 fn keep_counting(
     list: &mut Vec<(Event, Event)>,
     enforced: &Enforced<'_>,
@@ -52,7 +53,7 @@ fn keep_counting(
 ) -> Result<(), AllocError>
     requires { AreRacesOf enforced.now races.now }
     ensures { OnOk result (list.new.items
-        ≡ filter (counts left.entry (lack_in enforced.now)) races.now) }
+        ≡ filter (counts left.entry (cause_in enforced.now)) races.now) }
 {
     list.clear();
     for race in races {
@@ -63,40 +64,61 @@ fn keep_counting(
     Ok(())
 }
 
-/// Sees the races of a scenario that are listed, whose events have these places.
+/// Adds the places of the listed races of a scenario, and returns the races whose places are new.
+pub(crate) fn new_listed(
+    alloc: Global,
+    reported: &mut ReportedRaces,
+    listing: &Listing<'_>,
+    places: &[EventPlace],
+) -> Result<Vec<(Event, Event)>, AllocError>
+    requires { length places.now ≡ length listing.now.judged.chart.events }
+    ensures list { (s : Scenario) → AreAllPlaces s places.now
+        → IfOk result (λ new. new.items ≡ fresh s reported.old (listed listing.now.judged
+        listing.now.allowed listing.now.closest (cause_in listing.now.judged))) }
+    ensures reported { (s : Scenario) → AreAllPlaces s places.now
+        → OnOk result (reported.new ≡ above_with s reported.old (listed listing.now.judged
+        listing.now.allowed listing.now.closest (cause_in listing.now.judged))) }
+{
+    listing.enforced().facts();
+    let mut stream = Stream::new(alloc);
+    let mut new = Vec::new(alloc);
+    let mut all = Vec::new(alloc);
+    for e in 0..listing.events() {
+        listing.next(&mut stream, e)?;
+        reported.see(places, stream.races.as_slice(), &mut new)?;
+        all.extend_from_slice(new.as_slice())?;
+    }
+    Ok(all)
+}
+
+/// Adds the places of the listed races of a scenario.
 fn see_listed(
     alloc: Global,
-    seen: &mut Seen,
+    reported: &mut ReportedRaces,
     listing: &Listing<'_>,
-    places: &[Place],
+    places: &[EventPlace],
 ) -> Result<(), AllocError>
     requires { length places.now ≡ length listing.now.judged.chart.events }
     ensures { (s : Scenario) → AreAllPlaces s places.now
-        → OnOk result (seen.new ≡ above_with s seen.old (listed listing.now.judged
-        listing.now.allowed listing.now.closest (lack_in listing.now.judged))) }
+        → OnOk result (reported.new ≡ above_with s reported.old (listed listing.now.judged
+        listing.now.allowed listing.now.closest (cause_in listing.now.judged))) }
 {
-    listing.enforced().enforced();
-    let mut stream = Stream::new(alloc);
-    let mut new = Vec::new(alloc);
-    for e in 0..listing.events() {
-        listing.next(&mut stream, e)?;
-        seen.see(places, stream.races.as_slice(), &mut new)?;
-    }
+    new_listed(alloc, reported, listing, places)?;
     Ok(())
 }
 
-/// Sees the races of a scenario that count, whose events have these places.
+/// Adds the places of the races of a scenario that count.
 fn see_counting(
     alloc: Global,
-    seen: &mut Seen,
+    reported: &mut ReportedRaces,
     enforced: &Enforced<'_>,
     left: LeftOut<'_>,
-    places: &[Place],
+    places: &[EventPlace],
 ) -> Result<(), AllocError>
     requires { length places.now ≡ length enforced.now.chart.events }
     ensures { (s : Scenario) → AreAllPlaces s places.now
-        → OnOk result (seen.new ≡ above_with s seen.old
-        (counting enforced.now left.entry (lack_in enforced.now))) }
+        → OnOk result (reported.new ≡ above_with s reported.old
+        (counting enforced.now left.entry (cause_in enforced.now))) }
 {
     let mut walk = Walk::new();
     let mut races = Vec::new(alloc);
@@ -105,29 +127,29 @@ fn see_counting(
     for e in 0..enforced.events() {
         enforced.next_races(&mut walk, &mut races, e)?;
         keep_counting(&mut counted, enforced, left, races.as_slice())?;
-        seen.see(places, counted.as_slice(), &mut new)?;
+        reported.see(places, counted.as_slice(), &mut new)?;
     }
     Ok(())
 }
 
-/// Sees the places of the races of a scenario: of all, of those that count, and of those that are
+/// Adds the places of the races of a scenario: of all, of those that count, and of those that are
 /// listed.
 fn see_case(
     alloc: Global,
     answer: &mut Answer,
     scenario: &Scenario<'_>,
     queues: Queues,
-    question: Question,
+    options: CheckOptions,
 ) -> Result<(), AllocError>
-    ensures { OnOk result (SeesCase scenario.now queues question answer.old answer.new) }
+    ensures { OnOk result (SeesCase scenario.now queues options answer.old answer.new) }
 {
-    the_chosen_run_reverses();
-    short_runs_show();
+    the_witness_reverses();
+    short_witnesses_show();
     let enforced = Enforced::of(alloc, &scenario.chart, queues)?;
-    enforced.enforced();
+    enforced.facts();
     let places = places_of(alloc, scenario)?;
     see_all(alloc, &mut answer.all, &enforced, places.as_slice())?;
-    let left = LeftOut::of_kinds(question.allowed);
+    let left = LeftOut::of_kinds(options.allowed);
     see_counting(
         alloc,
         &mut answer.counting,
@@ -135,36 +157,38 @@ fn see_case(
         left,
         places.as_slice(),
     )?;
-    let listing = Listing::of(alloc, enforced, left, question.closest)?;
+    let listing = Listing::of(alloc, enforced, left, options.closest)?;
     see_listed(alloc, &mut answer.listed, &listing, places.as_slice())
 }
 
-/// Sees the places of the races of scenarios.
-fn see_cases(
+/// Adds the places of the races of all scenarios.
+fn see_cases<S: Source>(
     alloc: Global,
     answer: &mut Answer,
-    scenarios: &[Scenario<'_>],
+    scenarios: &S,
     queues: Queues,
-    question: Question,
+    options: CheckOptions,
 ) -> Result<(), AllocError>
-    ensures { OnOk result (SeesCases scenarios.now queues question answer.old answer.new) }
+    ensures { OnOk result
+        (SeesCases (S.scenarios scenarios.now) queues options answer.old answer.new) }
 {
-    for scenario in scenarios {
-        see_case(alloc, answer, scenario, queues, question)?;
+    for i in 0..scenarios.len() {
+        let scenario = scenarios.scenario(alloc, i)?;
+        see_case(alloc, answer, scenario.get(), queues, options)?;
     }
     Ok(())
 }
 
-/// How many places of races these scenarios have.
-pub(crate) fn count_places(
+/// The numbers of places of races in these scenarios.
+pub(crate) fn count_places<S: Source>(
     alloc: Global,
-    scenarios: &[Scenario<'_>],
+    scenarios: &S,
     queues: Queues,
-    question: Question,
+    options: CheckOptions,
 ) -> Result<PlaceCounts, AllocError>
-    ensures { IfOk result (AreCountsOf scenarios.now queues question) }
+    ensures { IfOk result (AreCountsOf (S.scenarios scenarios.now) queues options) }
 {
     let mut answer = Answer::new(alloc);
-    see_cases(alloc, &mut answer, scenarios, queues, question)?;
-    Ok(answer.counts(question))
+    see_cases(alloc, &mut answer, scenarios, queues, options)?;
+    Ok(answer.counts(options))
 }

@@ -14,7 +14,7 @@ use msc_scenarios::SCENARIO_LIMIT;
 use std::io;
 use std::io::Write;
 
-/// Writes the line of a fault by its number, at a place of the text.
+/// Writes the line of a fault with this number, at a place of the text.
 fn write_at<W: Write>(writer: &mut W, number: u32, here: Position, words: &str) -> io::Result<()>
     ensures { OnOk result (Appends (W.contents writer.old) (W.contents writer.new)
         (import_line number here.line words.now)) }
@@ -30,7 +30,7 @@ fn write_wanted<W: Write>(writer: &mut W, here: Position, what: Expectation) -> 
     writeln!(writer, "import fault 2 at {}: expected {what}", here.line)
 }
 
-/// Writes the line for an arrow that is not taken.
+/// Writes the line of an arrow that is not supported.
 fn write_untaken<W: Write>(writer: &mut W, here: Position, head: Head) -> io::Result<()>
     ensures { OnOk result (Appends (W.contents writer.old) (W.contents writer.new)
         (import_fault_line (ImportFault.Unsupported here head) [])) }
@@ -42,7 +42,7 @@ fn write_untaken<W: Write>(writer: &mut W, here: Position, head: Head) -> io::Re
     )
 }
 
-/// Writes the line for a word that stands outside of its block.
+/// Writes the line of a word outside its block.
 fn write_outside<W: Write>(writer: &mut W, here: Position, word: Closer) -> io::Result<()>
     ensures { OnOk result (Appends (W.contents writer.old) (W.contents writer.new)
         (import_fault_line (ImportFault.Outside here word) [])) }
@@ -54,7 +54,8 @@ fn write_outside<W: Write>(writer: &mut W, here: Position, word: Closer) -> io::
     )
 }
 
-/// Writes the line of a diagram that has several scenarios, so many or more than are counted.
+/// Writes the line of a diagram that has several scenarios: `count` of them, or more than are
+/// counted.
 fn write_several<W: Write>(writer: &mut W, count: usize) -> io::Result<()>
     ensures { OnOk result (Appends (W.contents writer.old) (W.contents writer.new)
         (several_line count)) }
@@ -65,7 +66,7 @@ fn write_several<W: Write>(writer: &mut W, count: usize) -> io::Result<()>
     writer.write_all(b"import fault 12: more than 4096 scenarios, say --choose\n")
 }
 
-/// Writes the line for a choice of a block at a place of the text that is more than there are.
+/// Writes the line of a choice of a block at a place of the text that is greater than its last one.
 fn write_choice<W: Write>(
     writer: &mut W,
     here: Position,
@@ -82,7 +83,7 @@ fn write_choice<W: Write>(
     )
 }
 
-/// Writes a name, and the end of the line.
+/// Writes a name and the end of the line.
 fn write_name<W: Write>(writer: &mut W, name: &[u8]) -> io::Result<()>
     ensures { OnOk result (Appends (W.contents writer.old) (W.contents writer.new)
         (text_line name.now)) }
@@ -91,7 +92,7 @@ fn write_name<W: Write>(writer: &mut W, name: &[u8]) -> io::Result<()>
     writer.write_all(b"\n")
 }
 
-/// Writes the line for parallel branches at a place of the text that share a line of the diagram.
+/// Writes the line of parallel branches at a place of the text that share a line of the diagram.
 fn write_shared<W: Write>(writer: &mut W, here: Position, at: usize, name: &[u8]) -> io::Result<()>
     ensures { OnOk result (Appends (W.contents writer.old) (W.contents writer.new)
         (import_fault_line (ImportFault.Shared here at) name.now)) }
@@ -122,7 +123,7 @@ fn write_entity<W: Write>(writer: &mut W, here: Position, name: &[u8]) -> io::Re
     write_unsupported(writer, name)
 }
 
-/// Writes the line of a fault of an import, and of the name that it speaks of.
+/// Writes the line of a fault of an import, and the name in it.
 fn write_named<W: Write>(writer: &mut W, fault: ImportFault, name: &[u8]) -> io::Result<()>
     ensures { OnOk result (Appends (W.contents writer.old) (W.contents writer.new)
         (import_fault_line fault name.now)) }
@@ -163,7 +164,7 @@ fn write_named<W: Write>(writer: &mut W, fault: ImportFault, name: &[u8]) -> io:
     }
 }
 
-/// Writes the line of why nothing is imported of a text.
+/// Writes the line of the fault for which a text is not imported.
 pub fn write_import_fault<W: Write>(writer: &mut W, refused: &Refused) -> io::Result<()>
     ensures { OnOk result (Appends (W.contents writer.old) (W.contents writer.new)
         (import_refusal_line (seen refused.now))) }

@@ -1,4 +1,4 @@
-//! The lines above and below scenarios, and above the races of one.
+//! The lines above and below all scenarios, and above the races of one.
 
 ghost use Rattle.std.specs.Prelude.{[], ◌++◌, OnOk, codes};
 ghost use Rattle.std.specs.Fmt.{decimal};
@@ -11,7 +11,7 @@ ghost use Rattle.msc_diagram.specs.Scenarios.{choices_text, diagram_head, scenar
 
 use crate::numbers::{PlaceCounts, chooses};
 use msc_chart::Queues;
-use msc_judge::Question;
+use msc_judge::CheckOptions;
 use msc_report::write_queues_line;
 use std::io;
 use std::io::Write;
@@ -27,7 +27,7 @@ fn write_more<W: Write>(writer: &mut W, choices: &[usize]) -> io::Result<()>
     Ok(())
 }
 
-/// Writes the choices of a scenario, where it has some.
+/// Writes the choices of a scenario, if it has some.
 fn write_choices<W: Write>(writer: &mut W, choices: &[usize]) -> io::Result<()>
     ensures { OnOk result (Appends (W.contents writer.old) (W.contents writer.new)
         (choices_text choices.now)) }
@@ -39,8 +39,8 @@ fn write_choices<W: Write>(writer: &mut W, choices: &[usize]) -> io::Result<()>
     write_more(writer, more)
 }
 
-/// Writes what stands above the first race of a scenario that is listed: its number, its choices, and
-/// the number of all its races.
+/// Writes the lines above the first listed race of a scenario: its number, its choices, and the
+/// number of all its races.
 pub(crate) fn write_scenario_head<W: Write>(
     writer: &mut W,
     number: usize,
@@ -66,7 +66,7 @@ fn write_name<W: Write>(writer: &mut W, name: &[u8]) -> io::Result<()>
     writer.write_all(b"\n")
 }
 
-/// Writes what stands above all scenarios, of so many.
+/// Writes the lines above all scenarios, and their number.
 pub(crate) fn write_diagram_head<W: Write>(
     writer: &mut W,
     name: &[u8],
@@ -89,7 +89,7 @@ fn write_number<W: Write>(writer: &mut W, word: &str, number: u32) -> io::Result
     writeln!(writer, "{word}{number}")
 }
 
-/// Writes the line of a word and a number that an option asks for, if it does.
+/// Writes the line of a word and a number, if there is a number.
 fn write_option<W: Write>(writer: &mut W, word: &str, number: Option<u32>) -> io::Result<()>
     ensures { OnOk result (Appends (W.contents writer.old) (W.contents writer.new)
         (option_line word.now number)) }
@@ -100,7 +100,8 @@ fn write_option<W: Write>(writer: &mut W, word: &str, number: Option<u32>) -> io
     }
 }
 
-/// Writes how many places are allowed, and how many are those of closest races, as options ask.
+/// Writes how many places are allowed, and how many are those of closest races, if options ask for
+/// it.
 fn write_options<W: Write>(writer: &mut W, counts: PlaceCounts) -> io::Result<()>
     ensures { OnOk result (Appends (W.contents writer.old) (W.contents writer.new)
         (options_text counts)) }
@@ -109,24 +110,24 @@ fn write_options<W: Write>(writer: &mut W, counts: PlaceCounts) -> io::Result<()
     write_option(writer, "closest ", counts.closest)
 }
 
-/// Writes how many places there are, if options choose among the races and there are some.
+/// Writes how many places there are, if options select races and there are some.
 pub(crate) fn write_counts<W: Write>(
     writer: &mut W,
-    question: Question,
+    options: CheckOptions,
     counts: PlaceCounts,
 ) -> io::Result<()>
     ensures { OnOk result (Appends (W.contents writer.old) (W.contents writer.new)
-        (counts_text question counts)) }
+        (counts_text options counts)) }
 {
-    if !chooses(question) || counts.races == 0 {
+    if !chooses(options) || counts.races == 0 {
         return Ok(());
     }
     write_number(writer, "races ", counts.races)?;
     write_options(writer, counts)
 }
 
-/// Writes that a diagram has no race; and of one whose parallel branches are drawn one below the other
-/// that it is said of this drawing.
+/// Writes that a diagram has no race. If parallel branches are drawn one below the other, the line
+/// says that this holds for the drawing.
 fn write_pass<W: Write>(writer: &mut W, drawn: bool) -> io::Result<()>
     ensures { OnOk result (Appends (W.contents writer.old) (W.contents writer.new)
         (pass_line drawn)) }
@@ -146,7 +147,7 @@ fn write_listed<W: Write>(writer: &mut W, listed: u32, passed: usize) -> io::Res
     writeln!(writer, "passed {passed}")
 }
 
-/// Writes what stands below all scenarios: that there are no races, or how many places are listed and
+/// Writes the lines below all scenarios: that there are no races, or how many places are listed and
 /// how many scenarios pass.
 pub(crate) fn write_diagram_end<W: Write>(
     writer: &mut W,

@@ -1,4 +1,4 @@
-//! What is asked of the races of a diagram's scenarios, in bytes.
+//! Writes the races of all scenarios of a diagram.
 
 ghost use Rattle.std.specs.Prelude.{◌≡◌, ℕ, List, ◌++◌, IfOk, OnOk};
 ghost use Rattle.msc_report.specs.Counts.{tally_line};
@@ -8,56 +8,57 @@ ghost use Rattle.msc_diagram.specs.Judging.{tallied, BeginsScenarios, JudgesScen
 ghost use Rattle.msc_diagram.specs.Judging.{TellsScenarios};
 ghost use Rattle.msc_diagram.specs.Telling.{above_text, IsCountedAbove};
 
-use crate::cases::{Asked, Shape, put_cases};
+use crate::cases::{Asked, RaceFormat, print_cases};
 use crate::counting::count_places;
 use crate::heads::{write_counts, write_diagram_end, write_diagram_head};
 use crate::numbers::{PlaceCounts, chooses, counts_from};
-use crate::scenario::Scenario;
-use crate::seen::Seen;
+use crate::reported::ReportedRaces;
+use crate::source::Source;
 use msc_chart::Queues;
-use msc_judge::{Heading, Page, Question, WriteFault};
+use msc_judge::{CheckOptions, Heading};
+use msc_print::{Page, WriteFault};
 use msc_report::write_tally;
 use std::alloc::{AllocError, Global};
 use std::io::Write;
 
 /// How the lines of a diagram are printed.
 #[derive(Clone, Copy)]
-pub struct Look {
+pub struct DiagramStyle {
     /// Whether runs are printed in words.
     pub words: bool,
     /// Whether some parallel branches are drawn one below the other.
     pub drawn: bool,
 }
 
-/// How what is asked of the races of scenarios is written.
+/// The form of an answer on the races of scenarios.
 #[derive(Clone, Copy)]
-pub enum Form<'f> {
-    /// Lines above and below the scenarios, and of each that has a race which is listed.
-    Lines(Look),
-    /// One line for the file of this name, with the number of places at which a race is, and at which
-    /// a race is that is closest among those that count.
+pub enum DiagramFormat<'f> {
+    /// Lines above and below the scenarios, and of each scenario with a listed race.
+    Lines(DiagramStyle),
+    /// One line for the file of this name, with the number of places that have a race, and of those
+    /// that have a closest race among those that count.
     Count(&'f [u8]),
-    /// For each race that is listed the lines that editors read.
+    /// The lines for editors of each listed race.
     Editor,
 }
 
-/// How many places of races there are, if options choose among the races.
-fn counts_above(
+/// The numbers of places of races, if options select races.
+fn counts_above<S: Source>(
     alloc: Global,
-    scenarios: &[Scenario<'_>],
+    scenarios: &S,
     queues: Queues,
-    question: Question,
+    options: CheckOptions,
 ) -> Result<Option<PlaceCounts>, AllocError>
-    ensures { IfOk result (IsCountedAbove scenarios.now queues question) }
+    ensures { IfOk result (IsCountedAbove (S.scenarios scenarios.now) queues options) }
 {
-    if !chooses(question) {
+    if !chooses(options) {
         return Ok(None);
     }
-    Ok(Some(count_places(alloc, scenarios, queues, question)?))
+    Ok(Some(count_places(alloc, scenarios, queues, options)?))
 }
 
-/// Puts what stands above all scenarios, of so many, behind a page.
-fn put_top(page: &mut Page, name: &[u8], queues: Queues, count: usize) -> Result<(), AllocError>
+/// Appends the lines above all scenarios to a page.
+fn print_top(page: &mut Page, name: &[u8], queues: Queues, count: usize) -> Result<(), AllocError>
     ensures { OnOk result (page.new.bytes.items
         ≡ page.old.bytes.items ++ diagram_head name.now queues count) }
 {
@@ -67,26 +68,26 @@ fn put_top(page: &mut Page, name: &[u8], queues: Queues, count: usize) -> Result
     }
 }
 
-/// Puts how many places of races there are behind a page, if that is known above the scenarios.
-fn put_counts(
+/// Appends the numbers of places of races to a page, if they are known above the scenarios.
+fn print_counts(
     page: &mut Page,
-    question: Question,
+    options: CheckOptions,
     above: Option<PlaceCounts>,
 ) -> Result<(), AllocError>
     ensures { OnOk result (page.new.bytes.items
-        ≡ page.old.bytes.items ++ above_text question above) }
+        ≡ page.old.bytes.items ++ above_text options above) }
 {
     let Some(counts) = above else {
         return Ok(());
     };
-    match write_counts(page, question, counts) {
+    match write_counts(page, options, counts) {
         Ok(()) => Ok(()),
         Err(_) => Err(AllocError),
     }
 }
 
-/// Puts what stands below all scenarios behind a page.
-fn put_bottom(
+/// Appends the lines below all scenarios to a page.
+fn print_bottom(
     page: &mut Page,
     drawn: bool,
     counts: PlaceCounts,
@@ -101,67 +102,68 @@ fn put_bottom(
     }
 }
 
-/// Writes the races of all scenarios in lines; answers how many are listed.
-fn write_lines<W: Write>(
+/// Writes the races of all scenarios in lines; returns how many are listed.
+fn write_lines<S: Source, W: Write>(
     alloc: Global,
     name: &[u8],
-    scenarios: &[Scenario<'_>],
+    scenarios: &S,
     queues: Queues,
-    question: Question,
-    look: Look,
+    options: CheckOptions,
+    diagram_style: DiagramStyle,
     writer: &mut W,
 ) -> Result<u32, WriteFault>
     ensures { TellsScenarios W.contents
-        (JudgesScenarios name.now scenarios.now queues question (Form.Lines look))
-        (BeginsScenarios name.now scenarios.now queues question (Form.Lines look))
+        (JudgesScenarios name.now (S.scenarios scenarios.now) queues options (DiagramFormat.Lines diagram_style))
+        (BeginsScenarios name.now (S.scenarios scenarios.now) queues options (DiagramFormat.Lines diagram_style))
         result writer.old writer.new }
 {
     let asked = Asked {
         queues,
-        question,
-        shape: Shape::Lines(look.words),
+        options,
+        format: RaceFormat::Lines(diagram_style.words),
     };
-    let above = counts_above(alloc, scenarios, queues, question)?;
+    let above = counts_above(alloc, scenarios, queues, options)?;
+    let count = scenarios.len();
     let mut page = Page::new(alloc);
-    let mut seen = Seen::new(alloc);
-    put_top(&mut page, name, queues, scenarios.len())?;
-    put_counts(&mut page, question, above)?;
-    let passed = put_cases(alloc, writer, &mut page, &mut seen, asked, scenarios)?;
-    let counts = counts_from(above, seen.len());
-    put_bottom(&mut page, look.drawn, counts, passed)?;
+    let mut reported = ReportedRaces::new(alloc);
+    print_top(&mut page, name, queues, count)?;
+    print_counts(&mut page, options, above)?;
+    let passed = print_cases(alloc, writer, &mut page, &mut reported, asked, scenarios)?;
+    let counts = counts_from(above, reported.len());
+    print_bottom(&mut page, diagram_style.drawn, counts, passed)?;
     writer.write_all(page.bytes.as_slice())?;
     Ok(counts.listed)
 }
 
-/// Writes the races of all scenarios in lines for editors; answers how many are listed.
-fn write_editor<W: Write>(
+/// Writes the races of all scenarios in lines for editors; returns how many are listed.
+fn write_editor<S: Source, W: Write>(
     alloc: Global,
     name: &[u8],
-    scenarios: &[Scenario<'_>],
+    scenarios: &S,
     queues: Queues,
-    question: Question,
+    options: CheckOptions,
     writer: &mut W,
 ) -> Result<u32, WriteFault>
     ensures { TellsScenarios W.contents
-        (JudgesScenarios name.now scenarios.now queues question Form.Editor)
-        (BeginsScenarios name.now scenarios.now queues question Form.Editor)
+        (JudgesScenarios name.now (S.scenarios scenarios.now) queues options DiagramFormat.Editor)
+        (BeginsScenarios name.now (S.scenarios scenarios.now) queues options DiagramFormat.Editor)
         result writer.old writer.new }
 {
     let asked = Asked {
         queues,
-        question: question.for_editors(),
-        shape: Shape::Editor,
+        options: options.for_editors(),
+        format: RaceFormat::Editor,
     };
     let mut page = Page::new(alloc);
-    let mut seen = Seen::new(alloc);
-    put_cases(alloc, writer, &mut page, &mut seen, asked, scenarios)?;
+    let mut reported = ReportedRaces::new(alloc);
+    print_cases(alloc, writer, &mut page, &mut reported, asked, scenarios)?;
     writer.write_all(page.bytes.as_slice())?;
-    Ok(seen.len())
+    Ok(reported.len())
 }
 
-/// Puts the line of so many places of races, and so many of the closest of those that count, on a
-/// page.
-fn put_tally(
+/// Appends the line with the number of places of races to a page, and the number of those of
+/// closest races.
+fn print_tally(
     page: &mut Page,
     file: &[u8],
     queues: Queues,
@@ -185,50 +187,61 @@ fn put_tally(
     }
 }
 
-/// Writes the line of how many places of races the scenarios have; answers at how many places one counts that is closest.
-fn write_count<W: Write>(
+/// Writes the line with the number of places of races in the scenarios. Returns at how many of them
+/// a race counts that is closest.
+fn write_count<S: Source, W: Write>(
     alloc: Global,
-    scenarios: &[Scenario<'_>],
+    scenarios: &S,
     queues: Queues,
-    question: Question,
+    options: CheckOptions,
     file: &[u8],
     writer: &mut W,
 ) -> Result<u32, WriteFault>
     ensures { (name : List ℕ) → TellsScenarios W.contents
-        (JudgesScenarios name scenarios.now queues question (Form.Count file.entry))
-        (BeginsScenarios name scenarios.now queues question (Form.Count file.entry))
+        (JudgesScenarios name (S.scenarios scenarios.now) queues options (DiagramFormat.Count file.entry))
+        (BeginsScenarios name (S.scenarios scenarios.now) queues options (DiagramFormat.Count file.entry))
         result writer.old writer.new }
 {
-    let closest = Question::counted(question.allowed);
+    let closest = CheckOptions::counted(options.allowed);
     let counts = count_places(alloc, scenarios, queues, closest)?;
     let mut page = Page::new(alloc);
-    put_tally(&mut page, file, queues, counts.races, counts.listed)?;
+    print_tally(&mut page, file, queues, counts.races, counts.listed)?;
     writer.write_all(page.bytes.as_slice())?;
     Ok(counts.listed)
 }
 
-/// Writes what is asked of the races of all scenarios of a diagram in a form, each race once: if one
-/// above it has the places of its events, it is not listed. Answers how many are listed.
+/// Writes the races of all scenarios of a diagram in a form, each race once: a race is not listed
+/// again if an earlier one has the places of its events. Returns how many are listed.
 ///
-/// An error is `Memory` if a growth of memory was refused: a beginning may have been written then. It
-/// is `Device` if the writer fails.
-pub fn judge_scenarios<W: Write>(
+/// An error is `Memory` if a growth of memory was refused; a beginning may have been written then.
+/// It is `Device` if the writer fails.
+pub fn judge_scenarios<S: Source, W: Write>(
     alloc: Global,
     name: &[u8],
-    scenarios: &[Scenario<'_>],
+    scenarios: &S,
     queues: Queues,
-    question: Question,
-    form: Form<'_>,
+    options: CheckOptions,
+    form: DiagramFormat<'_>,
     writer: &mut W,
 ) -> Result<u32, WriteFault>
     ensures { TellsScenarios W.contents
-        (JudgesScenarios name.now scenarios.now queues question form.entry)
-        (BeginsScenarios name.now scenarios.now queues question form.entry)
+        (JudgesScenarios name.now (S.scenarios scenarios.now) queues options form.entry)
+        (BeginsScenarios name.now (S.scenarios scenarios.now) queues options form.entry)
         result writer.old writer.new }
 {
     match form {
-        Form::Lines(look) => { write_lines(alloc, name, scenarios, queues, question, look, writer) }
-        Form::Count(file) => write_count(alloc, scenarios, queues, question, file, writer),
-        Form::Editor => write_editor(alloc, name, scenarios, queues, question, writer),
+        DiagramFormat::Lines(diagram_style) => {
+            write_lines(
+                alloc,
+                name,
+                scenarios,
+                queues,
+                options,
+                diagram_style,
+                writer,
+            )
+        }
+        DiagramFormat::Count(file) => write_count(alloc, scenarios, queues, options, file, writer),
+        DiagramFormat::Editor => write_editor(alloc, name, scenarios, queues, options, writer),
     }
 }

@@ -2,8 +2,8 @@
 
 ghost use Rattle.msc_diagram.specs.Laws.{PlacesAddUp};
 
-/// If the closest races are not asked for, there are as many places of races as allowed and listed ones
-/// together.
+/// If the closest races are not selected, there are as many places of races as allowed and listed
+/// ones together.
 pub fn places_add_up()
     ensures { PlacesAddUp }
 {}

@@ -1,5 +1,27 @@
-//! What is printed of diagrams of other languages: the lines of faults of imports, and the races of a
-//! diagram's scenarios, each once.
+//! Prints the races of a diagram's scenarios, each once, and the lines of faults of imports.
+//!
+//! # Choices
+//!
+//! - A race of a diagram is told apart by its two places: its instance, and the position and the
+//!   end of each arrow. Scenarios give the same race other events, and rounds other names. A lost
+//!   arrow has the place of its output, so a race is printed once if the arrow is lost in one
+//!   scenario and arrives in another.
+//! - Numbers over all scenarios count places; pairs of events would count how often a block is met.
+//!   `races N` of a scenario counts pairs, as `check` of its chart does.
+//! - A place is allowed only if all its races are, in every scenario. So no filter hides a place
+//!   with a race that counts, and such a race is listed in the next scenario in which it counts.
+//! - With `--allow` or `--closest` the scenarios are judged twice: first for the numbers above
+//!   them, then for the list. Only places are kept in between, and a proof says that both find the
+//!   same.
+//! - Which races of a scenario are new depends on the earlier ones, so they are made as a list
+//!   before they are printed. Their places are kept anyway, some 70 bytes for each.
+//! - A scenario and its chart are kept by the source, or made when it is printed and dropped before
+//!   the next, as its order is. If memory runs out in between, contracts speak of the scenarios so
+//!   far.
+//! - `--most` shortens only the list: `listed L`, the heads of scenarios and the status stay.
+//! - A run is printed only with `--show`, `--words` or `--short`: runs of all scenarios are long.
+//! - Parallel branches drawn one below the other are found by planning each walk again with such
+//!   branches refused, as the definition says it.
 #![tactic(auto)]
 
 mod answer;
@@ -9,14 +31,18 @@ mod fault;
 mod heads;
 mod judging;
 pub mod laws;
+mod lent;
 mod numbers;
 mod passing;
 mod place;
+mod reported;
 mod scenario;
-mod seen;
+mod source;
 mod telling;
 
 pub use fault::write_import_fault;
-pub use judging::{Form, Look, judge_scenarios};
+pub use judging::{DiagramFormat, DiagramStyle, judge_scenarios};
+pub use lent::Lent;
 pub use passing::scenarios_pass;
 pub use scenario::Scenario;
+pub use source::Source;

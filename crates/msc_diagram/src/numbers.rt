@@ -1,24 +1,26 @@
-//! How many places of races a diagram has.
+//! The numbers of places of races in a diagram.
 
 ghost use Rattle.std.specs.Prelude.{◌≡◌, unwrap_or};
 ghost use Rattle.msc_diagram.specs.Counts.{chooses, counts_of_all};
 
-use msc_judge::Question;
+use msc_judge::CheckOptions;
 
-/// How many places of races a diagram has, whatever is cut from the list.
+/// The numbers of places of races in a diagram, however many the list has.
 #[derive(Clone, Copy)]
 pub(crate) struct PlaceCounts {
-    /// All.
+    /// All places.
     pub races: u32,
-    /// Those at which all races of all scenarios are of kinds that are left out, if some kinds are.
+    /// The places at which all races of all scenarios are of kinds that are left out, if some kinds
+    /// are.
     pub allowed: Option<u32>,
-    /// Those of the closest races, if only these are listed.
+    /// The places of closest races, if only these are listed.
     pub closest: Option<u32>,
-    /// Those that are listed.
+    /// The places that are listed.
     pub listed: u32,
 }
 
-/// The numbers that are known above the scenarios; else so many places, if all races are listed.
+/// The numbers that are known above the scenarios; otherwise `races` places, if all races are
+/// listed.
 pub(crate) fn counts_from(above: Option<PlaceCounts>, races: u32) -> PlaceCounts
     ensures { result ≡ unwrap_or above (counts_of_all races) }
 {
@@ -33,9 +35,9 @@ pub(crate) fn counts_from(above: Option<PlaceCounts>, races: u32) -> PlaceCounts
     }
 }
 
-/// Whether options choose among the races.
-pub(crate) fn chooses(question: Question) -> bool
-    ensures { result ≡ chooses question }
+/// Whether options select races.
+pub(crate) fn chooses(options: CheckOptions) -> bool
+    ensures { result ≡ chooses options }
 {
-    question.closest || !question.allowed.is_empty()
+    options.closest || !options.allowed.is_empty()
 }

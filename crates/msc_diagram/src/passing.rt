@@ -4,13 +4,14 @@ ghost use Rattle.std.specs.Prelude.{IfOk};
 ghost use Rattle.msc_diagram.specs.Judging.{PassesCase, PassesScenarios};
 
 use crate::scenario::Scenario;
+use crate::source::Source;
 use msc_chart::Queues;
 use msc_race::Enforced;
-use msc_race::laws::{short_runs_show, the_chosen_run_reverses};
+use msc_race::laws::{short_witnesses_show, the_witness_reverses};
 use msc_reason::{KindSet, LeftOut, none_counts};
 use std::alloc::{AllocError, Global};
 
-/// Whether no race of a scenario counts, where these kinds are left out.
+/// Whether no race of a scenario counts, if these kinds are left out.
 fn scenario_passes(
     alloc: Global,
     scenario: &Scenario<'_>,
@@ -19,25 +20,26 @@ fn scenario_passes(
 ) -> Result<bool, AllocError>
     ensures { IfOk result (PassesCase scenario.now queues allowed) }
 {
-    the_chosen_run_reverses();
-    short_runs_show();
+    the_witness_reverses();
+    short_witnesses_show();
     let enforced = Enforced::of(alloc, &scenario.chart, queues)?;
-    enforced.enforced();
+    enforced.facts();
     none_counts(alloc, &enforced, LeftOut::of_kinds(allowed))
 }
 
-/// Whether no race of any scenario counts, where these kinds are left out. It stops at the first that
+/// Whether no race of any scenario counts, if these kinds are left out. It stops at the first that
 /// does, and makes no text. An error is a growth of memory that was refused.
-pub fn scenarios_pass(
+pub fn scenarios_pass<S: Source>(
     alloc: Global,
-    scenarios: &[Scenario<'_>],
+    scenarios: &S,
     queues: Queues,
     allowed: KindSet,
 ) -> Result<bool, AllocError>
-    ensures { IfOk result (PassesScenarios scenarios.now queues allowed) }
+    ensures { IfOk result (PassesScenarios (S.scenarios scenarios.now) queues allowed) }
 {
-    for scenario in scenarios {
-        if !scenario_passes(alloc, scenario, queues, allowed)? {
+    for i in 0..scenarios.len() {
+        let scenario = scenarios.scenario(alloc, i)?;
+        if !scenario_passes(alloc, scenario.get(), queues, allowed)? {
             return Ok(false);
         }
     }

@@ -1,4 +1,4 @@
--- Which events are ends of the races from a segment, and the marks of these.
+-- Which events are ends of the races from a segment, and the bars of these.
 use Rattle.std.proofs.Common.{◌≡◌, ℕ, ◌+◌, ◌<◌, Bool, true, false, cond, ◌&&◌, ◌||◌, List, [], ◌∷◌, ◌++◌, length, get_or, Option, None, Some, eqb, inl, inr, refl, sym, ap, ◌∙◌, arith}
 use Rattle.std.specs.Prelude.{slice_set}
 use Rattle.std.specs.List.{All, range_with_len}
@@ -8,10 +8,10 @@ use Rattle.std.proofs.lemmas.List.{get_or-set_other, get_or-set_same}
 use Rattle.std.proofs.lemmas.List.Elements.{filter_agree}
 use Rattle.std.proofs.lemmas.List.Folds.{list_any-append, list_any_none}
 use Rattle.msc_chart.specs.declared.event.ChartEvent.{ChartEvent}
-use Rattle.msc_picture.specs.declared.scene.Mark.{Mark}
-use Rattle.msc_picture.specs.Marks.{end_of, ends_of, is_end_of, is_from, mark_at, mark_over}
+use Rattle.msc_picture.specs.declared.scene.RaceBar.{RaceBar}
+use Rattle.msc_picture.specs.Bars.{end_of, ends_of, is_end_of, is_from, bar_at, bar_over}
 use Rattle.msc_picture.specs.Rows.{begins_segment, grown, reach_of}
-use Rattle.msc_draw.specs.Marking.{mark_by}
+use Rattle.msc_draw.specs.Marking.{bar_by}
 use Rattle.msc_draw.specs.Notes.{noted}
 use Rattle.msc_draw.proofs.Lists.{reach_push, same_kept}
 
@@ -38,18 +38,18 @@ module _ (events : List ChartEvent) where
       ∙ ap (λ (b : Bool). is_end_of events races e lower x || ((b && eqb (end_of lower p) x) || false)) other
       ∙ or-false (is_end_of events races e lower x)
 
-  -- the mark of the same ends over the same range
+  -- the bar of the same ends over the same range
   over_same : (a b : List (ℕ × ℕ)) (e : ℕ) (o : Option (ℕ × ℕ))
       → ends_of events a e false ≡ ends_of events b e false
       → ends_of events a e true ≡ ends_of events b e true
-      → mark_over events a e o ≡ mark_over events b e o
+      → bar_over events a e o ≡ bar_over events b e o
   over_same a b e None upper lower = refl
   over_same a b e (Some reach) upper lower = cc
 
-  -- the mark of a segment, after a race from another one
-  pub mark_same : (races : List (ℕ × ℕ)) (p : ℕ × ℕ) (e : ℕ) → is_from events e p ≡ false
-      → mark_at events (races ++ p ∷ []) e ≡ mark_at events races e
-  mark_same races p e other =
+  -- the bar of a segment, after a race from another one
+  pub bar_same : (races : List (ℕ × ℕ)) (p : ℕ × ℕ) (e : ℕ) → is_from events e p ≡ false
+      → bar_at events (races ++ p ∷ []) e ≡ bar_at events races e
+  bar_same races p e other =
       let test = is_from events e in
       let kept = λ (lower : Bool). filter_agree (is_end_of events (races ++ p ∷ []) e lower)
       (is_end_of events races e lower) (end_same races p e lower other)
@@ -58,17 +58,17 @@ module _ (events : List ChartEvent) where
       reach_push test None 0 races p
       ∙ ap (λ (b : Bool). cond b (Some (grown (reach_of test races) (0 + length races)))
       (reach_of test races)) other in
-      ap (λ (l : List Mark). cond (begins_segment events e) l [])
-      (ap (mark_over events (races ++ p ∷ []) e) reach
+      ap (λ (l : List RaceBar). cond (begins_segment events e) l [])
+      (ap (bar_over events (races ++ p ∷ []) e) reach
       ∙ over_same (races ++ p ∷ []) races e (reach_of test races) (kept false) (kept true))
 
-  -- the mark of what is noted is that of the races
-  pub mark_noted : (races : List (ℕ × ℕ)) (upper lower : List Bool) (e : ℕ) (o : Option (ℕ × ℕ))
+  -- the bar of what is noted is that of the races
+  pub bar_noted : (races : List (ℕ × ℕ)) (upper lower : List Bool) (e : ℕ) (o : Option (ℕ × ℕ))
       → noted upper (length events) ≡ ends_of events races e false
       → noted lower (length events) ≡ ends_of events races e true
-      → mark_by events upper lower e o ≡ mark_over events races e o
-  mark_noted races upper lower e None u l = refl
-  mark_noted races upper lower e (Some reach) u l = cc
+      → bar_by events upper lower e o ≡ bar_over events races e o
+  bar_noted races upper lower e None u l = refl
+  bar_noted races upper lower e (Some reach) u l = cc
 
   -- the tables note the ends of the races
   pub noted_ends : (races : List (ℕ × ℕ)) (table : List Bool) (e : ℕ) (lower : Bool)

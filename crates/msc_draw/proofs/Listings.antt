@@ -1,7 +1,6 @@
 -- What is listed event by event is all that is listed.
-use Rattle.std.proofs.Common.{◌≡◌, ℕ, zero, suc, ◌+◌, Bool, List, [], ◌∷◌, ◌++◌, filter, length, refl, sym, ap, ◌∙◌, ◌<◌, append-nil, arith}
+use Rattle.std.proofs.Common.{◌≡◌, ℕ, ◌+◌, Bool, List, [], ◌∷◌, ◌++◌, filter, length, refl, sym, ap, ◌∙◌, ◌<◌, arith}
 use Rattle.std.specs.List.{range_with_len, flat_map}
-use Rattle.std.proofs.lemmas.Grind.{flat_map-append}
 use Rattle.std.proofs.lemmas.List.Elements.{filter-append}
 use Rattle.std.proofs.lemmas.List.Elements.{All-filter, All-map}
 use Rattle.std.proofs.lemmas.List.FromFn.{get_or-range_with_len, length-range_with_len}
@@ -11,7 +10,7 @@ use Rattle.msc_draw.specs.Marking.{AreOf}
 use Rattle.msc_reason.specs.Selected.{Selected}
 use Rattle.msc_race.specs.Wired.{EnforcedChart}
 use Rattle.msc_reason.specs.Counting.{listed}
-use Rattle.msc_reason.specs.Marked.{lack_in, listed_from}
+use Rattle.msc_reason.specs.Marked.{cause_in, listed_from}
 use Rattle.msc_reason.specs.declared.left_out.LeftOut.{LeftOut}
 
 -- what passes of lists that stand one behind the other
@@ -21,27 +20,6 @@ filter_flat p f [] = refl
 filter_flat {X} {Y} p f (x ∷ xs) =
     filter-append p (f x) (flat_map f xs)
     ∙ ap (λ (l : List Y). filter p (f x) ++ l) (filter_flat p f xs)
-
--- a range with its last number apart
-range_last : (n : ℕ) (a j : ℕ) → a + n ≡ j → range_with_len a (suc n) ≡ range_with_len a n ++ j ∷ []
-range_last zero a j e = let same : a ≡ j = omega arith in ap (λ k. k ∷ []) same
-range_last (suc n) a j e = ap (λ l. a ∷ l) (range_last n (a + 1) j (omega arith))
-
--- one more number
-range_more : (n : ℕ) → range_with_len 0 (n + 1) ≡ range_with_len 0 n ++ n ∷ []
-range_more n =
-    let on : n + 1 ≡ suc n = omega arith in
-    ap (range_with_len 0) on ∙ range_last n 0 n (omega arith)
-
--- the items of one more number
-pub flat_next : {X : Type 0} (f : ℕ → List X) (n : ℕ) (now next : List X)
-    → now ≡ flat_map f (range_with_len 0 n) → next ≡ now ++ f n
-    → next ≡ flat_map f (range_with_len 0 (n + 1))
-flat_next {X} f n now next so_far more =
-    more ∙ ap (λ (l : List X). l ++ f n) so_far
-    ∙ ap (λ (l : List X). flat_map f (range_with_len 0 n) ++ l) (sym (append-nil (f n)))
-    ∙ sym (flat_map-append f (range_with_len 0 n) (n ∷ []))
-    ∙ ap (flat_map f) (sym (range_more n))
 
 -- the races that are listed of an event lead from it to events
 pub listed_are_of : (s : Selected) (x : ℕ) → AreOf (length s.judged.chart.events) x (listed_at s x)
@@ -57,6 +35,6 @@ listed_are_of s x =
 -- what is listed of all events
 pub listed_whole : (e : EnforcedChart) (allowed : LeftOut) (closest : Bool)
     → flat_map (listed_from e allowed closest) (range_with_len 0 (length e.chart.events))
-    ≡ listed e allowed closest (lack_in e)
+    ≡ listed e allowed closest (cause_in e)
 unfolding pairs_of
 listed_whole e allowed closest = sym (filter_flat _ _ (range_with_len 0 (length e.chart.events)))

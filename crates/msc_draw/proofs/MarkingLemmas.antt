@@ -1,4 +1,4 @@
--- Marks that are made of the races of one event after the other.
+-- Bars that are made of the races of one event after the other.
 use Rattle.std.proofs.Common.{◌≡◌, ℕ, ◌+◌, ◌-◌, ◌<◌, ◌≤◌, ◌⊎◌, Bool, true, false, cond, List, [], ◌∷◌, ◌++◌, length, get_or, Option, None, Some, inl, inr, refl, sym, ap, subst, ◌∙◌, arith}
 use Rattle.std.specs.Prelude.{replicate, slice_set}
 use Rattle.std.specs.List.{All, flat_map, range_with_len}
@@ -8,39 +8,39 @@ use Rattle.std.proofs.lemmas.List.Elements.{All-append, All-cons, All-nil}
 use Rattle.msc_chart.specs.declared.event.ChartEvent.{ChartEvent}
 use Rattle.msc_chart.specs.Charts.{IsInTextOrder}
 use Rattle.msc_chart.proofs.ListLemmas.{clash}
-use Rattle.msc_picture.specs.declared.scene.Mark.{Mark}
-use Rattle.msc_picture.specs.Marks.{is_from, mark_at, mark_over, marks_of}
+use Rattle.msc_picture.specs.declared.scene.RaceBar.{RaceBar}
+use Rattle.msc_picture.specs.Bars.{is_from, bar_at, bar_over, bars_of}
 use Rattle.msc_picture.specs.Rows.{begins_segment, grown, reach_of, share_segment}
 use Rattle.msc_picture.proofs.MarkLemmas.{share_on}
 use Rattle.msc_picture.proofs.Ranges.{flat_next}
 use Rattle.msc_picture.proofs.SegmentLemmas.{apart, of_above, share_back, share_own}
-use Rattle.msc_draw.specs.Marking.{mark_by, IsMarking}
-use Rattle.msc_draw.proofs.EndLemmas.{mark_noted, mark_same, no_end, noted_ends, noted_more}
+use Rattle.msc_draw.specs.Marking.{bar_by, IsMarking}
+use Rattle.msc_draw.proofs.EndLemmas.{bar_noted, bar_same, no_end, noted_ends, noted_more}
 use Rattle.msc_draw.proofs.Lists.{made_quiet, reach_push, reach_quiet, same_made}
 
-module _ (events : List ChartEvent) (n : ℕ) (races : List (ℕ × ℕ)) (marks : List Mark)
+module _ (events : List ChartEvent) (n : ℕ) (races : List (ℕ × ℕ)) (bars : List RaceBar)
     (upper lower : List Bool) (begun : ℕ) (reach : Option (ℕ × ℕ)) (told : ℕ)
-    (h : IsMarking events n races marks upper lower begun reach told) where
-  -- with the mark of the segment at hand, these are the marks of the segments of all events so far
+    (h : IsMarking events n races bars upper lower begun reach told) where
+  -- with the bar of the segment at hand, these are the bars of the segments of all events so far
   pub closed : 0 < n
-      → marks ++ mark_by events upper lower begun reach
-      ≡ flat_map (mark_at events races) (range_with_len 0 n)
+      → bars ++ bar_by events upper lower begun reach
+      ≡ flat_map (bar_at events races) (range_with_len 0 n)
   closed some =
-      let at = mark_at events races in
-      let over = mark_over events races begun (reach_of (is_from events begun) races) in
-      let same : mark_by events upper lower begun reach ≡ at begun =
-      ap (mark_by events upper lower begun) h.reached
-      ∙ mark_noted events races upper lower begun (reach_of (is_from events begun) races)
+      let at = bar_at events races in
+      let over = bar_over events races begun (reach_of (is_from events begun) races) in
+      let same : bar_by events upper lower begun reach ≡ at begun =
+      ap (bar_by events upper lower begun) h.reached
+      ∙ bar_noted events races upper lower begun (reach_of (is_from events begun) races)
       (noted_ends events races upper begun false h.uppers)
       (noted_ends events races lower begun true h.lowers)
       ∙ ap (λ (b : Bool). cond b over []) (sym h.begins) in
       let here : begun < n = omega (arith, h.within) in
       let left = n - (begun + 1) in
       let sum : (begun + 1) + left ≡ n = omega arith in
-      ap (λ (l : List Mark). marks ++ l) same
-      ∙ flat_next at begun marks (marks ++ at begun) h.marked refl
+      ap (λ (l : List RaceBar). bars ++ l) same
+      ∙ flat_next at begun bars (bars ++ at begun) h.marked refl
       ∙ made_quiet at left (begun + 1) n sum (λ x low high.
-      ap (λ (b : Bool). cond b (mark_over events races x (reach_of (is_from events x) races)) [])
+      ap (λ (b : Bool). cond b (bar_over events races x (reach_of (is_from events x) races)) [])
       (h.rest x (omega (arith, low)) high))
 
 -- before the first event
@@ -61,12 +61,12 @@ nothing_marked events = record {
   long_lower = length-replicate _ _;
 }
 
-module _ (events : List ChartEvent) (e : ℕ) (races : List (ℕ × ℕ)) (marks : List Mark)
+module _ (events : List ChartEvent) (e : ℕ) (races : List (ℕ × ℕ)) (bars : List RaceBar)
     (upper lower : List Bool) (begun : ℕ) (reach : Option (ℕ × ℕ)) (told : ℕ)
-    (h : IsMarking events e races marks upper lower begun reach told) where
+    (h : IsMarking events e races bars upper lower begun reach told) where
   -- an event that begins no segment is of the one at hand
   pub turned_same : (e ≡ 0) ⊎ (begins_segment events e ≡ false)
-      → IsMarking events (e + 1) races marks upper lower begun reach told
+      → IsMarking events (e + 1) races bars upper lower begun reach told
   turned_same inner = record {
     marked = h.marked;
     uppers = h.uppers;
@@ -106,7 +106,7 @@ module _ (events : List ChartEvent) (e : ℕ) (races : List (ℕ × ℕ)) (marks
   -- an event that begins a segment closes the one at hand
   pub turned_new : IsInTextOrder events → 0 < e → e < length events
       → begins_segment events e ≡ true
-      → IsMarking events (e + 1) races (marks ++ mark_by events upper lower begun reach)
+      → IsMarking events (e + 1) races (bars ++ bar_by events upper lower begun reach)
       (replicate (length events) false) (replicate (length events) false) e None told
   turned_new order some below begins =
       let none : All (λ p. is_from events e p ≡ false) races =
@@ -118,7 +118,7 @@ module _ (events : List ChartEvent) (e : ℕ) (races : List (ℕ × ℕ)) (marks
       get_or-replicate (length events) x false false inside
       ∙ sym (no_end events races e lower_is x none) in
       record {
-        marked = closed events e races marks upper lower begun reach told h some;
+        marked = closed events e races bars upper lower begun reach told h some;
         uppers = empty false;
         lowers = empty true;
         reached = sym (reach_quiet (is_from events e) None 0 races none);
@@ -134,13 +134,13 @@ module _ (events : List ChartEvent) (e : ℕ) (races : List (ℕ × ℕ)) (marks
       }
 
 -- one more race of the event that was reached last
-pub added : (events : List ChartEvent) (e f : ℕ) (races : List (ℕ × ℕ)) (marks : List Mark)
+pub added : (events : List ChartEvent) (e f : ℕ) (races : List (ℕ × ℕ)) (bars : List RaceBar)
     (upper lower : List Bool) (begun : ℕ) (reach : Option (ℕ × ℕ)) (told : ℕ) → IsInTextOrder events
     → e < length events → f < length events
-    → IsMarking events (e + 1) races marks upper lower begun reach told
-    → IsMarking events (e + 1) (races ++ (e, f) ∷ []) marks (slice_set upper e true)
+    → IsMarking events (e + 1) races bars upper lower begun reach told
+    → IsMarking events (e + 1) (races ++ (e, f) ∷ []) bars (slice_set upper e true)
     (slice_set lower f true) begun (Some (grown reach told)) (told + 1)
-added events e f races marks upper lower begun reach told order below inside h =
+added events e f races bars upper lower begun reach told order below inside h =
     let p : ℕ × ℕ = (e, f) in
     let here : (e + 1) - 1 ≡ e = omega arith in
     let own : is_from events begun p ≡ true =
@@ -149,8 +149,8 @@ added events e f races marks upper lower begun reach told order below inside h =
     let test = is_from events begun in
     record {
       marked = h.marked
-          ∙ sym (same_made (mark_at events (races ++ p ∷ [])) (mark_at events races) begun 0
-          (λ x low high. mark_same events races p x
+          ∙ sym (same_made (bar_at events (races ++ p ∷ [])) (bar_at events races) begun 0
+          (λ x low high. bar_same events races p x
           (apart events order x begun e (omega (arith, high)) first below h.begins)));
       uppers = noted_more events races p begun false upper own h.long_upper below h.uppers;
       lowers = noted_more events races p begun true lower own h.long_lower inside h.lowers;
@@ -177,36 +177,36 @@ added events e f races marks upper lower begun reach told order below inside h =
     firsts_more = All-append (λ q. q.0 < e + 1) races ((e, f) ∷ []) h.firsts
         (All-cons (λ q. q.0 < e + 1) (e, f) [] (omega arith) (All-nil (λ q. q.0 < e + 1)))
 
--- the marks of all events
-pub all_marked : (events : List ChartEvent) (races : List (ℕ × ℕ)) (marks : List Mark)
+-- the bars of all events
+pub all_marked : (events : List ChartEvent) (races : List (ℕ × ℕ)) (bars : List RaceBar)
     (upper lower : List Bool) (begun : ℕ) (reach : Option (ℕ × ℕ)) (told : ℕ)
-    → IsMarking events (length events) races marks upper lower begun reach told → 0 < length events
-    → marks ++ mark_by events upper lower begun reach ≡ marks_of events races
-all_marked events races marks upper lower begun reach told h some =
-    closed events (length events) races marks upper lower begun reach told h some
+    → IsMarking events (length events) races bars upper lower begun reach told → 0 < length events
+    → bars ++ bar_by events upper lower begun reach ≡ bars_of events races
+all_marked events races bars upper lower begun reach told h some =
+    closed events (length events) races bars upper lower begun reach told h some
 
 -- the same, in equal parts
-pub same_marking : (events : List ChartEvent) (n : ℕ) (races : List (ℕ × ℕ)) (marks marks' : List Mark)
+pub same_marking : (events : List ChartEvent) (n : ℕ) (races : List (ℕ × ℕ)) (bars bars' : List RaceBar)
     (upper upper' lower lower' : List Bool) (begun begun' : ℕ) (reach reach' : Option (ℕ × ℕ))
-    (told told' : ℕ) → marks' ≡ marks → upper' ≡ upper → lower' ≡ lower → begun' ≡ begun
-    → reach' ≡ reach → told' ≡ told → IsMarking events n races marks upper lower begun reach told
-    → IsMarking events n races marks' upper' lower' begun' reach' told'
-same_marking events n races marks marks' upper upper' lower lower' begun begun' reach reach' told told' a b c d e f h =
-    subst (λ (x : List Mark). IsMarking events n races x upper' lower' begun' reach' told') (sym a)
-    (subst (λ (x : List Bool). IsMarking events n races marks x lower' begun' reach' told') (sym b)
-    (subst (λ (x : List Bool). IsMarking events n races marks upper x begun' reach' told') (sym c)
-    (subst (λ (x : ℕ). IsMarking events n races marks upper lower x reach' told') (sym d)
-    (subst (λ (x : Option (ℕ × ℕ)). IsMarking events n races marks upper lower begun x told') (sym e)
-    (subst (λ (x : ℕ). IsMarking events n races marks upper lower begun reach x) (sym f) h)))))
+    (told told' : ℕ) → bars' ≡ bars → upper' ≡ upper → lower' ≡ lower → begun' ≡ begun
+    → reach' ≡ reach → told' ≡ told → IsMarking events n races bars upper lower begun reach told
+    → IsMarking events n races bars' upper' lower' begun' reach' told'
+same_marking events n races bars bars' upper upper' lower lower' begun begun' reach reach' told told' a b c d e f h =
+    subst (λ (x : List RaceBar). IsMarking events n races x upper' lower' begun' reach' told') (sym a)
+    (subst (λ (x : List Bool). IsMarking events n races bars x lower' begun' reach' told') (sym b)
+    (subst (λ (x : List Bool). IsMarking events n races bars upper x begun' reach' told') (sym c)
+    (subst (λ (x : ℕ). IsMarking events n races bars upper lower x reach' told') (sym d)
+    (subst (λ (x : Option (ℕ × ℕ)). IsMarking events n races bars upper lower begun x told') (sym e)
+    (subst (λ (x : ℕ). IsMarking events n races bars upper lower begun reach x) (sym f) h)))))
 
 -- both cases are one
 both : {X : Type 0} (b : Bool) (x : X) → cond b x x ≡ x
 both true x = refl
 both false x = refl
 
--- of no races there are no marks
-pub no_marks : (events : List ChartEvent) → [] ≡ marks_of events []
-no_marks events =
-    let none : List Mark = [] in
-    made_quiet (mark_at events []) (length events) 0 (length events) (omega arith)
+-- of no races there are no bars
+pub no_bars : (events : List ChartEvent) → [] ≡ bars_of events []
+no_bars events =
+    let none : List RaceBar = [] in
+    made_quiet (bar_at events []) (length events) 0 (length events) (omega arith)
     (λ x low high. both (begins_segment events x) none)

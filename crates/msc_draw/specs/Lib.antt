@@ -1,5 +1,5 @@
 -- what is promised
-pub mod Forms
+pub mod PictureFormats
 pub mod Verdicts
 pub mod Pictures
 -- what the code keeps

@@ -11,19 +11,19 @@ use Rattle.msc_race.specs.Reversals.{IsReversingRun}
 use Rattle.msc_race.specs.Views.{races_of}
 use Rattle.msc_race.specs.Wired.{enforced_chart, IsEnforced}
 use Rattle.msc_reason.specs.Closest.{IsClosestList}
-use Rattle.msc_draw.specs.declared.form.Form.{Form}
-use Rattle.msc_draw.specs.Forms.{text_in}
+use Rattle.msc_draw.specs.declared.picture_format.PictureFormat.{PictureFormat}
+use Rattle.msc_draw.specs.PictureFormats.{text_in}
 use Rattle.msc_draw.specs.Verdicts.{reversal_text, verdict_text}
 
--- the picture of a draft's chart, without marks
-pub record PrintsChart (draft : Tree) (d : Drawing) (form : Form) (printed : List ℕ) : Type 0 where
+-- the picture of a draft's chart, without bars
+pub record PrintsChart (draft : Tree) (d : Drawing) (picture_format : PictureFormat) (printed : List ℕ) : Type 0 where
   pub scene : Scene
   pub right : IsSceneOf draft d [] scene
-  pub text : printed ≡ text_in form scene []
+  pub text : printed ≡ text_in picture_format scene []
 
--- the picture of a draft's chart with the marks of its closest races under an architecture, below the
--- verdict over it: how many races the enforced order leaves, and how many of them are closest
-pub record PrintsJudged (draft : Tree) (d : Drawing) (queues : Queues) (form : Form) (printed : List ℕ) : Type 0 where
+-- the picture of a draft's chart with the bars of its closest races under an architecture, below
+-- the verdict over it: how many races the enforced order leaves, and how many of them are closest
+pub record PrintsJudged (draft : Tree) (d : Drawing) (queues : Queues) (picture_format : PictureFormat) (printed : List ℕ) : Type 0 where
   pub order : Table
   pub by_order : IsEnforced (enforced_chart d queues order)
   pub closest : List (ℕ × ℕ)
@@ -31,29 +31,29 @@ pub record PrintsJudged (draft : Tree) (d : Drawing) (queues : Queues) (form : F
   pub scene : Scene
   pub right : IsSceneOf draft d closest scene
   pub text : printed
-      ≡ text_in form scene
+      ≡ text_in picture_format scene
       (verdict_text queues (length (races_of (enforced_chart d queues order))) (length closest))
 
 -- the one or the other, as an architecture is named
-abbrev pub PrintsPicture : Tree → Drawing → Option Queues → Form → List ℕ → Type 0
-PrintsPicture draft d None form printed = PrintsChart draft d form printed
-PrintsPicture draft d (Some queues) form printed = PrintsJudged draft d queues form printed
+abbrev pub PrintsPicture : Tree → Drawing → Option Queues → PictureFormat → List ℕ → Type 0
+PrintsPicture draft d None picture_format printed = PrintsChart draft d picture_format printed
+PrintsPicture draft d (Some queues) picture_format printed = PrintsJudged draft d queues picture_format printed
 
--- the picture of a run of a draft's chart under an architecture that has f before e, with a mark of the
--- two
-pub record PrintsRun (draft : Tree) (d : Drawing) (queues : Queues) (form : Form) (e f : ℕ) (printed : List ℕ) : Type 0 where
+-- the picture of a run of a draft's chart under an architecture that has f before e, with a bar of
+-- the two
+pub record PrintsRun (draft : Tree) (d : Drawing) (queues : Queues) (picture_format : PictureFormat) (e f : ℕ) (printed : List ℕ) : Type 0 where
   pub run : List ℕ
   pub reverses : IsReversingRun (wired queues d) e f run
   pub scene : Scene
   pub shows : IsPopulated draft d scene
   pub laid_out : IsRunLaidOut (wired queues d) run e f 0 scene
-  pub text : printed ≡ text_in form scene (reversal_text queues e f)
+  pub text : printed ≡ text_in picture_format scene (reversal_text queues e f)
 
 -- the two events are no race of a chart under an architecture
 abbrev pub IsNoRace : Drawing → Queues → ℕ → ℕ → Type 0
 IsNoRace d queues e f = IsRace (wired queues d) e f → ⊥
 
 -- they are one, and such a run is printed
-pub record PrintsReversal (draft : Tree) (d : Drawing) (queues : Queues) (form : Form) (e f : ℕ) (printed : List ℕ) : Type 0 where
+pub record PrintsReversal (draft : Tree) (d : Drawing) (queues : Queues) (picture_format : PictureFormat) (e f : ℕ) (printed : List ℕ) : Type 0 where
   pub race : IsRace (wired queues d) e f
-  pub run : PrintsRun draft d queues form e f printed
+  pub run : PrintsRun draft d queues picture_format e f printed

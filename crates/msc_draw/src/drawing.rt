@@ -6,19 +6,19 @@ ghost use Rattle.msc_chart.specs.Drawings.{chart_of};
 ghost use Rattle.msc_draw.specs.Pictures.{PrintsChart, PrintsJudged, PrintsPicture};
 ghost use Rattle.msc_draw.specs.Verdicts.{counts_text, races_word, verdict_text};
 
-use crate::closest::closest_marks;
-use crate::form::{Form, page_in};
+use crate::closest::closest_bars;
+use crate::picture_format::{PictureFormat, page_in};
 use itoa::Buffer;
 use listed::Listed;
 use msc_chart::{Chart, Queues};
-use msc_judge::Page;
 use msc_parser::Draft;
 use msc_picture::chart_scene;
+use msc_print::Page;
 use msc_race::Enforced;
 use std::alloc::{AllocError, Global};
 
-/// Puts how many races there are behind a text.
-fn put_races(text: &mut Vec<u8>, races: usize) -> Result<(), AllocError>
+/// Appends the number of races to a text.
+fn print_races(text: &mut Vec<u8>, races: usize) -> Result<(), AllocError>
     ensures { OnOk result
         (text.new.items ≡ text.old.items ++ (decimal races ++ races_word races)) }
 {
@@ -30,17 +30,18 @@ fn put_races(text: &mut Vec<u8>, races: usize) -> Result<(), AllocError>
     text.extend_from_slice(b" races, ")
 }
 
-/// Puts how many races there are, and how many of them are closest, behind a text.
-fn put_counts(text: &mut Vec<u8>, races: usize, closest: usize) -> Result<(), AllocError>
+/// Appends the number of races, and the number of closest races among them, to a text.
+fn print_counts(text: &mut Vec<u8>, races: usize, closest: usize) -> Result<(), AllocError>
     ensures { OnOk result (text.new.items ≡ text.old.items ++ counts_text races closest) }
 {
-    put_races(text, races)?;
+    print_races(text, races)?;
     let mut buffer = Buffer::new();
     text.extend_from_slice(buffer.format(closest).as_bytes())?;
     text.extend_from_slice(b" closest")
 }
 
-/// The verdict over a chart with so many races. An error is a growth of memory that was refused.
+/// The verdict above a chart with this number of races. An error is a growth of memory that was
+/// refused.
 pub fn verdict(
     alloc: Global,
     queues: Queues,
@@ -55,50 +56,50 @@ pub fn verdict(
         text.extend_from_slice(b"pass")?;
         return Ok(text);
     }
-    put_counts(&mut text, races, closest)?;
+    print_counts(&mut text, races, closest)?;
     Ok(text)
 }
 
-/// The picture of a chart with the marks of its closest races under an architecture.
+/// The picture of a chart with the bars of its closest races under an architecture.
 fn draw_judged(
     alloc: Global,
     draft: &Draft,
     chart: &Chart,
     queues: Queues,
-    form: Form,
+    picture_format: PictureFormat,
 ) -> Result<Page, AllocError>
     requires { chart.now ≡ chart_of draft.now }
     ensures { IfOk result (λ page.
-        PrintsJudged draft.now chart.now queues form page.bytes.items) }
+        PrintsJudged draft.now chart.now queues picture_format page.bytes.items) }
 {
-    chart.accepted();
+    chart.facts();
     let enforced = Enforced::of(alloc, chart, queues)?;
-    enforced.enforced();
+    enforced.facts();
     let races = enforced.count_races() as usize;
-    let (marks, closest) = closest_marks(alloc, enforced)?;
+    let (bars, closest) = closest_bars(alloc, enforced)?;
     let more = verdict(alloc, queues, races, closest)?;
-    let scene = chart_scene(alloc, draft, chart, marks)?;
-    let page = page_in(alloc, form, &scene, more.as_slice())?;
+    let scene = chart_scene(alloc, draft, chart, bars)?;
+    let page = page_in(alloc, picture_format, &scene, more.as_slice())?;
     Ok(page)
 }
 
-/// The picture of a draft's chart, in a form; with the marks of its closest races under an
-/// architecture, where one is named. An error is a growth of memory that was refused.
+/// The picture of a draft's chart, in a format; with the bars of its closest races under an
+/// architecture, if one is given. An error is a growth of memory that was refused.
 pub fn draw_chart(
     alloc: Global,
     draft: &Draft,
     chart: &Chart,
     queues: Option<Queues>,
-    form: Form,
+    picture_format: PictureFormat,
 ) -> Result<Page, AllocError>
     requires { chart.now ≡ chart_of draft.now }
     ensures { IfOk result (λ page.
-        PrintsPicture draft.now chart.now queues form page.bytes.items) }
+        PrintsPicture draft.now chart.now queues picture_format page.bytes.items) }
 {
     if let Some(queues) = queues {
-        return draw_judged(alloc, draft, chart, queues, form);
+        return draw_judged(alloc, draft, chart, queues, picture_format);
     }
     let scene = chart_scene(alloc, draft, chart, Listed::from_vec(Vec::new(alloc)))?;
-    let page = page_in(alloc, form, &scene, b"")?;
+    let page = page_in(alloc, picture_format, &scene, b"")?;
     Ok(page)
 }

@@ -1,17 +1,24 @@
-//! What is drawn of a chart under an architecture: its picture, with the marks of its closest
-//! races, and a run that reverses one of them; in text or in SVG.
+//! Draws a chart under an architecture, with the bars of its closest races, or a run that reverses
+//! one of its races; in text or in SVG.
 //!
 //! Events are numbered from 0, over all lines. Both forms are this project's own.
+//!
+//! # Choices
+//!
+//! - Closest races come from `msc_reason` event by event, and each segment needs two tables for its
+//!   bars. So memory does not grow with the number of races.
+//! - [`draw_reversal`] returns none if and only if the pair is no race. It requires two events; its
+//!   callers refuse other numbers.
 #![tactic(auto)]
 
 mod closest;
 mod drawing;
-mod form;
 mod marking;
 mod notes;
+mod picture_format;
 mod reversing;
 
-pub use closest::marks_listed;
+pub use closest::bars_listed;
 pub use drawing::{draw_chart, verdict};
-pub use form::Form;
+pub use picture_format::PictureFormat;
 pub use reversing::draw_reversal;

@@ -1,27 +1,27 @@
-//! The marks of closest races, made of the races of one event after the other: so no list of all
+//! The bars of closest races, made of the races of one event after the other. So no list of all
 //! races is held.
 
 ghost use Rattle.std.specs.Prelude.{◌≡◌, ◌<◌, ◌≤◌, ◌+◌, ◌++◌, ◌∷◌, [], IfOk, List, OnOk, Some};
 ghost use Rattle.std.specs.Prelude.{cond, false, filter, get_or, length, slice_set, true, ℕ};
 ghost use Rattle.std.specs.List.{range_with_len};
 ghost use Rattle.msc_chart.specs.Charts.{line};
-ghost use Rattle.msc_picture.specs.Marks.{marks_of};
+ghost use Rattle.msc_picture.specs.Bars.{bars_of};
 ghost use Rattle.msc_picture.specs.Rows.{grown};
 ghost use Rattle.msc_draw.specs.Marking.{AreOf, HasTables, HoldsMarking, IsAdded};
-ghost use Rattle.msc_draw.specs.Marking.{IsFresh, mark_by};
+ghost use Rattle.msc_draw.specs.Marking.{IsFresh, bar_by};
 
 use crate::notes::Notes;
 use listed::Listed;
 use msc_chart::{Chart, Event};
-use msc_picture::{Mark, begins_segment, grow, plus};
+use msc_picture::{RaceBar, begins_segment, grow, plus};
 use std::alloc::{AllocError, Global};
 
-/// The marks of the segments above the one at hand, and of the closest races from that: which
-/// events are the first, or the second, of one, and which places the first and the last of them
-/// have among all.
+/// The bars of the segments above the current one, and the closest races from the current one: the
+/// events that are the first, or the second, of one, and the places of the first and the last of
+/// these races among all.
 #[derive(Drop)]
 pub struct Marking {
-    marks: Vec<Mark>,
+    bars: Vec<RaceBar>,
     upper: Notes,
     lower: Notes,
     begun: Event,
@@ -30,13 +30,13 @@ pub struct Marking {
 }
 
 impl Marking {
-    /// No race yet, and the first segment at hand.
+    /// No race yet; the first segment is the current one.
     pub fn start(alloc: Global, chart: &Chart) -> Result<Marking, AllocError>
         ensures { IfOk result (HoldsMarking chart.now.events 0 []) }
     {
         let many = chart.events();
         Ok(Marking {
-            marks: Vec::new(alloc),
+            bars: Vec::new(alloc),
             upper: Notes::none(alloc, many)?,
             lower: Notes::none(alloc, many)?,
             begun: 0,
@@ -45,12 +45,12 @@ impl Marking {
         })
     }
 
-    /// Puts the mark of the segment at hand behind the marks, where races lead from it.
+    /// Appends the bar of the current segment to the bars, if races lead from it.
     fn close(&mut self, alloc: Global, chart: &Chart) -> Result<(), AllocError>
         requires tables { HasTables chart.now.events self.old }
         requires some { 0 < length chart.now.events }
-        ensures marks { OnOk result (self.new.marks.items ≡ self.old.marks.items
-            ++ mark_by chart.now.events self.old.upper self.old.lower self.old.begun
+        ensures bars { OnOk result (self.new.bars.items ≡ self.old.bars.items
+            ++ bar_by chart.now.events self.old.upper self.old.lower self.old.begun
             self.old.reach) }
         ensures tables { OnOk result (HasTables chart.now.events self.new) }
         ensures told { OnOk result (self.new.told ≡ self.old.told) }
@@ -58,7 +58,7 @@ impl Marking {
         let Some((first, last)) = self.reach else {
             return Ok(());
         };
-        self.marks.push(Mark {
+        self.bars.push(RaceBar {
             instance: chart.instance_of(self.begun),
             upper: self.upper.list(alloc)?,
             lower: self.lower.list(alloc)?,
@@ -68,12 +68,12 @@ impl Marking {
         Ok(())
     }
 
-    /// Goes on to the segment that event `e` begins.
+    /// Proceeds to the segment that event `e` begins.
     fn begin(&mut self, alloc: Global, chart: &Chart, e: Event) -> Result<(), AllocError>
         requires tables { HasTables chart.now.events self.old }
         requires some { 0 < length chart.now.events }
-        ensures marks { OnOk result (self.new.marks.items ≡ self.old.marks.items
-            ++ mark_by chart.now.events self.old.upper self.old.lower self.old.begun
+        ensures bars { OnOk result (self.new.bars.items ≡ self.old.bars.items
+            ++ bar_by chart.now.events self.old.upper self.old.lower self.old.begun
             self.old.reach) }
         ensures fresh { OnOk result (IsFresh chart.now.events e self.new) }
         ensures told { OnOk result (self.new.told ≡ self.old.told) }
@@ -86,7 +86,7 @@ impl Marking {
         Ok(())
     }
 
-    /// Event `e` is reached.
+    /// Reaches event `e`.
     fn turn(&mut self, alloc: Global, chart: &Chart, e: Event) -> Result<(), AllocError>
         requires known { e < length chart.now.events }
         requires tables { HasTables chart.now.events self.old }
@@ -96,14 +96,14 @@ impl Marking {
             → HoldsMarking chart.now.events (e + 1) told self.new) }
         ensures tables { OnOk result (HasTables chart.now.events self.new) }
     {
-        chart.accepted();
+        chart.facts();
         if e > 0 && begins_segment(chart, e) {
             self.begin(alloc, chart, e)?;
         }
         Ok(())
     }
 
-    /// Notes a race from the segment at hand.
+    /// Notes a race from the current segment.
     fn add(&mut self, race: (Event, Event)) -> Result<(), AllocError>
         requires upper { race.0 < length self.old.upper }
         requires lower { race.1 < length self.old.lower }
@@ -116,7 +116,7 @@ impl Marking {
         Ok(())
     }
 
-    /// Notes the races of event `e`, which is reached.
+    /// Notes the races of event `e`, which it reaches.
     pub fn take(
         &mut self,
         alloc: Global,
@@ -131,7 +131,7 @@ impl Marking {
         ensures { OnOk result ((told : List (ℕ × ℕ)) → HoldsMarking chart.now.events e told self.old
             → HoldsMarking chart.now.events (e + 1) (told ++ races.now) self.new) }
     {
-        chart.accepted();
+        chart.facts();
         self.turn(alloc, chart, e)?;
         for race in races {
             self.add(*race)?;
@@ -139,18 +139,22 @@ impl Marking {
         Ok(())
     }
 
-    /// All marks, and how many races they are made of.
-    pub fn finish(self, alloc: Global, chart: &Chart) -> Result<(Listed<Mark>, usize), AllocError>
+    /// All bars, and the number of their races.
+    pub fn finish(
+        self,
+        alloc: Global,
+        chart: &Chart,
+    ) -> Result<(Listed<RaceBar>, usize), AllocError>
         requires tables { HasTables chart.now.events self }
-        ensures marks { IfOk result (λ p. (told : List (ℕ × ℕ))
+        ensures bars { IfOk result (λ p. (told : List (ℕ × ℕ))
             → HoldsMarking chart.now.events (length chart.now.events) told self
-            → p.0 ≡ marks_of chart.now.events told) }
+            → p.0 ≡ bars_of chart.now.events told) }
         ensures told { IfOk result (λ p. p.1 ≡ self.told) }
     {
         let mut all = self;
         if chart.events() > 0 {
             all.close(alloc, chart)?;
         }
-        Ok((Listed::from_vec(all.marks), all.told))
+        Ok((Listed::from_vec(all.bars), all.told))
     }
 }

@@ -1,5 +1,5 @@
-//! Which events are noted: a table with a place for each, which is gone through only from the first
-//! noted event to the last.
+//! Noted events: a table with a place for each event. Passes over it go only from the first noted
+//! event to the last.
 
 ghost use Rattle.std.specs.Prelude.{◌≡◌, ◌<◌, ◌≤◌, ◌++◌, ◌∷◌, [], IfOk, OnOk, cond, false, get_or};
 ghost use Rattle.std.specs.Prelude.{length, replicate, slice_set, true, ℕ};
@@ -10,8 +10,8 @@ use msc_chart::Event;
 use std::alloc::{AllocError, Global};
 use std::marker::Model;
 
-/// Which of the events are noted: those of the table's true places, all of which stand from `low` on
-/// and below `high`. Contracts see the table.
+/// The noted events: the true places of the table, all of them from `low` on and below `high`.
+/// Contracts see the table.
 #[derive(Drop)]
 pub struct Notes {
     table: Vec<bool>,
@@ -30,8 +30,8 @@ impl Model for Notes {
     ghost invariant = { λ n. AreWithin n.table.items n.low n.high };
 }
 
-/// Puts event `x` behind the events, where it is noted.
-fn put_if(events: &mut Vec<Event>, x: Event, is_noted: bool) -> Result<(), AllocError>
+/// Appends event `x` to the events, if it is noted.
+fn print_if(events: &mut Vec<Event>, x: Event, is_noted: bool) -> Result<(), AllocError>
     ensures { OnOk result (events.new.items ≡ events.old.items ++ cond is_noted (x ∷ []) []) }
 {
     if is_noted {
@@ -40,7 +40,7 @@ fn put_if(events: &mut Vec<Event>, x: Event, is_noted: bool) -> Result<(), Alloc
     Ok(())
 }
 
-/// The events that are noted in a table, ascending, where all stand between two numbers.
+/// The noted events of a table, ascending, all of which are between two numbers.
 fn noted_within(
     alloc: Global,
     table: &[bool],
@@ -52,12 +52,12 @@ fn noted_within(
 {
     let mut events = Vec::new(alloc);
     for x in low..high {
-        put_if(&mut events, x, table[x as usize])?;
+        print_if(&mut events, x, table[x as usize])?;
     }
     Ok(Listed::from_vec(events))
 }
 
-/// Takes the notes of a table back, all of which stand between two numbers.
+/// Clears the notes of a table, all of which are between two numbers.
 fn take_back(table: &mut Vec<bool>, low: Event, high: Event)
     requires { AreWithin table.old.items low high }
     ensures { table.new.items ≡ replicate (length table.old.items) false }
@@ -68,7 +68,7 @@ fn take_back(table: &mut Vec<bool>, low: Event, high: Event)
 }
 
 impl Notes {
-    /// No note of so many events.
+    /// No note of `many` events.
     pub fn none(alloc: Global, many: Event) -> Result<Notes, AllocError>
         ensures { IfOk result (λ notes. notes ≡ replicate many false) }
     {
@@ -96,7 +96,7 @@ impl Notes {
         noted_within(alloc, &self.table, self.low, self.high)
     }
 
-    /// Takes all notes back. It takes no memory.
+    /// Clears all notes. It takes no memory.
     pub fn clear(&mut self)
         ensures { self.new ≡ replicate (length self.old) false }
     {

@@ -10,17 +10,17 @@ ghost use Rattle.msc_reason.specs.Pairs.{AreTwoEvents};
 ghost use Rattle.msc_draw.specs.Pictures.{IsNoRace, PrintsReversal, PrintsRun};
 ghost use Rattle.msc_draw.specs.Verdicts.{reversal_text};
 
-use crate::form::{Form, page_in};
+use crate::picture_format::{PictureFormat, page_in};
 use itoa::Buffer;
 use msc_chart::{Chart, Event, Queues};
-use msc_judge::Page;
 use msc_parser::Draft;
 use msc_picture::{Reversed, run_scene};
+use msc_print::Page;
 use msc_race::Enforced;
 use msc_reason::is_race;
 use std::alloc::{AllocError, Global};
 
-/// What stands above the picture of a run with event `f` before event `e`.
+/// The text above the picture of a run with event `f` before event `e`.
 fn reversal(alloc: Global, queues: Queues, e: Event, f: Event) -> Result<Vec<u8>, AllocError>
     ensures { IfOk result (λ text. text.items ≡ reversal_text queues e f) }
 {
@@ -38,7 +38,7 @@ fn run_of(alloc: Global, enforced: &Enforced, e: Event, f: Event) -> Result<Vec<
     requires { IsRace (wiring_of enforced.now) e f }
     ensures { IfOk result (λ run. IsReversingRun (wiring_of enforced.now) e f run.items) }
 {
-    enforced.enforced();
+    enforced.facts();
     match enforced.reversing_run(alloc, e, f)? {
         Some(run) => Ok(run),
         None => Err(AllocError),
@@ -46,21 +46,21 @@ fn run_of(alloc: Global, enforced: &Enforced, e: Event, f: Event) -> Result<Vec<
 }
 
 /// The picture of a run with event `f` before event `e`, the race (`e`, `f`) of a draft's chart
-/// under an architecture, in a form. An error is a growth of memory that was refused.
+/// under an architecture, in a format. An error is a growth of memory that was refused.
 fn draw_run(
     alloc: Global,
     draft: &Draft,
     enforced: &Enforced,
-    form: Form,
+    picture_format: PictureFormat,
     e: Event,
     f: Event,
 ) -> Result<Page, AllocError>
     requires drawn { enforced.now.chart ≡ chart_of draft.now }
     requires race { IsRace (wiring_of enforced.now) e f }
     ensures { IfOk result (λ page. PrintsRun draft.now enforced.now.chart enforced.now.queues
-        form e f page.bytes.items) }
+        picture_format e f page.bytes.items) }
 {
-    enforced.enforced();
+    enforced.facts();
     let run = run_of(alloc, enforced, e, f)?;
     let race = Reversed {
         first: e,
@@ -70,31 +70,31 @@ fn draw_run(
     let wiring = enforced.wiring();
     let scene = run_scene(alloc, draft, &wiring, run.as_slice(), race)?;
     let more = reversal(alloc, enforced.queues(), e, f)?;
-    let page = page_in(alloc, form, &scene, more.as_slice())?;
+    let page = page_in(alloc, picture_format, &scene, more.as_slice())?;
     Ok(page)
 }
 
 /// The picture of a run with event `f` before event `e`, two events of a draft's chart under an
-/// architecture, in a form; none exactly where (`e`, `f`) is no race. An error is a growth of
+/// architecture, in a format; none if and only if (`e`, `f`) is no race. An error is a growth of
 /// memory that was refused.
 pub fn draw_reversal(
     alloc: Global,
     draft: &Draft,
     chart: &Chart,
     queues: Queues,
-    form: Form,
+    picture_format: PictureFormat,
     e: Event,
     f: Event,
 ) -> Result<Option<Page>, AllocError>
     requires drawn { chart.now ≡ chart_of draft.now }
     requires events { AreTwoEvents chart.now e f }
     ensures { IfOk result (λ page. MatchOption page (IsNoRace chart.now queues e f)
-        (λ page. PrintsReversal draft.now chart.now queues form e f page.bytes.items)) }
+        (λ page. PrintsReversal draft.now chart.now queues picture_format e f page.bytes.items)) }
 {
     let enforced = Enforced::of(alloc, chart, queues)?;
     if !is_race(&enforced, e, f) {
         return Ok(None);
     }
-    let page = draw_run(alloc, draft, &enforced, form, e, f)?;
+    let page = draw_run(alloc, draft, &enforced, picture_format, e, f)?;
     Ok(Some(page))
 }

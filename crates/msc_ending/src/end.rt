@@ -7,10 +7,10 @@ pub enum End {
     Finished,
     /// Some event is not logged, and every sender of its queues has ended.
     Starved,
-    /// Some event is not logged, and so many rounds of takes in a row have found nothing.
+    /// Some event is not logged, and this number of rounds of takes in a row have found nothing.
     Impatient,
-    /// The gate said no, or the instance's clock was spent.
+    /// The gate refused an event, or the instance's clock was spent.
     Stopped,
-    /// A message came that is not of the chart in its queue, or that was taken before.
+    /// A message came that is not in its queue in the chart, or that was taken before.
     Foreign(u32),
 }

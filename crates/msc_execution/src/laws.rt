@@ -1,6 +1,6 @@
-//! Laws of executions, over the definitions alone. The functions do nothing when they run: a caller
-//! calls one to rest its own proof on the law. Each law holds under each architecture, and those
-//! that speak of what is in a chart hold of every accepted chart.
+//! Laws of executions, over the definitions only. The functions do nothing when they run: a caller
+//! that needs a law calls its function. Each law holds under each architecture; the laws that
+//! mention the contents of a chart hold for every accepted chart.
 
 ghost use Rattle.msc_chart.specs.Drawings.{IsAccepted};
 ghost use Rattle.msc_execution.specs.ClockLaws.{ClocksAreBounded, EveryExecutionHasAMerge};
@@ -27,17 +27,17 @@ pub fn outputs_have_outlets()
     ensures { OutputsHaveOutlets }
 {}
 
-/// A log sends no more to a queue than the quota.
+/// A log sends to a queue at most its quota.
 pub fn logs_keep_quotas()
     ensures { LogsKeepQuotas }
 {}
 
-/// The messages of a queue from which an instance takes come to it.
+/// Each message of a queue from which an instance takes comes to that instance.
 pub fn inlets_bring_own()
     ensures { InletsBringOwn }
 {}
 
-/// How the fresh ends come about, queue by queue.
+/// How fresh ends are made, queue by queue.
 pub fn wiring_grows()
     ensures { WiringGrows }
 {}
@@ -47,8 +47,7 @@ pub fn senders_are_ranked()
     ensures { SendersAreRanked }
 {}
 
-/// Before settling: among all that came back each queue with a message has one inlet and all its
-/// outlets.
+/// Before settling, the returned parts have one inlet and all outlets of each queue with a message.
 pub fn runs_hold_queues()
     ensures { RunsHoldQueues }
 {}
@@ -59,7 +58,7 @@ pub fn settled_runs_are_executions()
     ensures { SettledRunsAreExecutions }
 {}
 
-/// Where all instances have finished, all logs are whole and nothing is left in a queue.
+/// If all instances have finished, all logs are whole and nothing is left in a queue.
 pub fn finished_executions_leave_nothing()
     ensures { FinishedExecutionsLeaveNothing }
 {}
@@ -80,7 +79,7 @@ pub fn clocks_are_bounded()
     charts_are_seated();
 }
 
-/// The logs and the settled places of an execution fit one another, with their clocks.
+/// The logs and the settled places of an execution agree, with their clocks.
 pub fn executions_are_timed()
     ensures { ExecutionsAreTimed }
 {
@@ -88,7 +87,7 @@ pub fn executions_are_timed()
 }
 
 /// The events of an execution, sorted by their keys, are a run of the chart whose lines are the
-/// logs; so some run has the logs as its lines.
+/// logs. So some run has the logs as its lines.
 pub fn executions_are_runs()
     ensures run { ExecutionsAreRuns }
     ensures merge { ExecutionsHaveAMerge }
@@ -96,8 +95,8 @@ pub fn executions_are_runs()
     charts_are_seated();
 }
 
-/// No clock of an execution is greater than the number of messages that are put, which are no more
-/// than those of the chart; so with an open gate no instance is stopped.
+/// No clock of an execution is greater than the number of messages that are put, which is at most
+/// the number of messages of the chart. So with an open gate no instance is stopped.
 pub fn no_clock_is_spent()
     ensures puts { NoMoreIsPut }
     ensures clocks { NoClockIsSpent }
@@ -107,9 +106,9 @@ pub fn no_clock_is_spent()
     charts_are_seated();
 }
 
-/// What an execution has to meet can be met: the chart `charts/own_message.msc`, with a message to
-/// oneself, an action and a mailbox of two senders, has one in which messages are put and taken
-/// against the drawn order.
+/// The conditions on an execution can be met: the chart `charts/own_message.msc`, with a message to
+/// oneself, an action and a mailbox of two senders, has an execution in which messages are put and
+/// taken against the drawn order.
 pub fn a_sample_is_an_execution()
     ensures drawn { TheSampleIsDrawn }
     ensures accepted { IsAccepted own_chart }

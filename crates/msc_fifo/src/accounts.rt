@@ -1,4 +1,5 @@
-//! What each sender of a settled queue put, what of it was taken and what is left.
+//! The messages that each sender of a settled queue put, those of them that were taken, and those
+//! that are left.
 
 ghost use Rattle.std.specs.Prelude.{◌≡◌, ◌≤◌, ◌++◌, [], ℕ, List, length, vec_capacity, IfOk};
 ghost use Rattle.msc_fifo.specs.Entries.{messages_of};
@@ -9,21 +10,22 @@ use listed::Listed;
 use std::alloc::{AllocError, Global};
 use std::marker::Model;
 
-/// The account of one sender, in messages: what it put is what was taken and then what is left.
+/// The account of one sender, in messages: those that it put are those that were taken, followed by
+/// those that are left.
 #[derive(Drop)]
 pub struct Account {
-    /// What the sender put, in order.
+    /// The messages that the sender put, in order.
     pub put: Listed<u32>,
-    /// What the receiver took of it, in order.
+    /// The messages of it that the receiver took, in order.
     pub taken: Listed<u32>,
-    /// What nobody took.
+    /// The messages that nobody took.
     pub left: Listed<u32>,
     /// Whether the sender had closed its outlet.
     pub closed: bool,
 }
 
 impl Account {
-    /// An account of nothing. It takes no memory.
+    /// An empty account. It takes no memory.
     pub(crate) fn blank(alloc: Global) -> Account {
         Account {
             put: Listed::from_vec(Vec::new(alloc)),
@@ -39,11 +41,11 @@ impl Account {
 pub struct Settled {
     /// The account of each sender, by its number.
     pub senders: Vec<Account>,
-    /// What stands at the places 0, 1 and so on that were claimed.
+    /// The places 0, 1 and so on that were claimed.
     pub places: Vec<Place>,
 }
 
-/// Room for the account of a sender that put so many messages. Contracts see that number.
+/// Room for the account of a sender that put this number of messages. Contracts see the number.
 #[derive(Drop)]
 pub(crate) struct Room {
     messages: usize,
@@ -66,7 +68,7 @@ impl Model for Room {
 }
 
 impl Room {
-    /// Room for so many messages.
+    /// Room for `messages` messages.
     pub(crate) fn new(alloc: Global, messages: usize) -> Result<Room, AllocError>
         ensures { IfOk result (λ r. r ≡ messages) }
     {
@@ -79,8 +81,8 @@ impl Room {
         })
     }
 
-    /// The account of a sender that put these messages, where the receiver got these entries. It
-    /// takes no memory.
+    /// The account of a sender that put these messages, if the receiver got these entries. It takes
+    /// no memory.
     pub(crate) fn account(self, got: &[Entry], sender: u32, put: Vec<u32>, closed: bool) -> Account
         requires room { length put.items ≤ self }
         requires prefix { (rest : List ℕ) × (put.items ≡ messages_of sender got.now ++ rest) }
@@ -101,7 +103,7 @@ impl Room {
     }
 }
 
-/// The messages of a sender, in the room that was made for them.
+/// The messages of a sender, in the room made for them.
 fn pick(got: &[Entry], sender: u32, mut room: Vec<u32>) -> Vec<u32>
     requires empty { room.items ≡ [] }
     requires room { length (messages_of sender got.now) ≤ vec_capacity room }
@@ -120,7 +122,7 @@ fn pick(got: &[Entry], sender: u32, mut room: Vec<u32>) -> Vec<u32>
     room
 }
 
-/// A copy, in the room that was made for it.
+/// A copy, in the room made for it.
 fn copy(messages: &[u32], mut room: Vec<u32>) -> Vec<u32>
     requires empty { room.items ≡ [] }
     requires room { length messages.now ≤ vec_capacity room }

@@ -2,8 +2,8 @@
 
 use thiserror::Error;
 
-/// Why no queue was made, lowest first: the lowest that stands is answered, and `Memory` only where
-/// neither of the others does.
+/// Why no queue was made. The first of the first two variants that applies is returned, and
+/// `Memory` only if neither applies.
 #[derive(Clone, Copy, Debug, PartialEq, Eq, Error)]
 pub enum QueueFault {
     /// No quota was given.
@@ -17,11 +17,11 @@ pub enum QueueFault {
     Memory,
 }
 
-/// Why a message was not sent, lowest first: the lowest that stands is answered. Each hands the
+/// Why a message was not sent. The first of these variants that applies is returned. Each hands the
 /// message back.
 #[derive(Clone, Copy, Debug, PartialEq, Eq, Error)]
 pub enum SendFault {
-    /// The outlet is closed, whatever is left of its quota.
+    /// The outlet is closed, whatever remains of its quota.
     #[error("message {0} was not sent: the outlet is closed")]
     Closed(u32),
     /// The outlet is open and has put its quota.

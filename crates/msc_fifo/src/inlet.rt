@@ -1,7 +1,7 @@
 //! The end of the one receiver.
 //!
-//! It keeps the list of what it has got beside the queue's words, and a ticket whose view is that
-//! list with the clocks that it read. Contracts see an `InletState`.
+//! Next to the queue's words, it keeps the list of the entries that it got, and a ticket whose view
+//! is that list with the clocks that it read. Contracts see an `InletState`.
 
 ghost use Rattle.std.specs.Prelude.{◌≡◌, ◌<◌, ◌≤◌, ◌+◌, ◌++◌, [], ℕ, All, map, max, length};
 ghost use Rattle.std.specs.Prelude.{vec_len, vec_capacity};
@@ -20,18 +20,18 @@ use crate::rule::{Shelf, Ticket};
 use crate::steps::{count, learn, look};
 use std::marker::Model;
 
-/// The end of the one receiver of a queue. It is made by [`queue`](crate::queue) alone.
+/// The end of the one receiver of a queue. Only [`queue`](crate::queue) makes it.
 #[derive(Drop)]
 pub struct Inlet {
     row: Shelf,
     ticket: Ticket,
-    /// How many senders the queue has.
+    /// The number of senders of the queue.
     senders: u32,
-    /// What was taken, with room for all that may be put.
+    /// The entries that were taken, with room for all that may be put.
     got: Vec<Entry>,
-    /// How many senders have no end mark there.
+    /// The number of senders without an end mark among these.
     unended: u32,
-    /// How many takes in a row have found nothing since then, as contracts see it.
+    /// The number of takes in a row that have found nothing since then, as contracts see it.
     idle: u32,
 }
 
@@ -62,7 +62,7 @@ impl Model for Inlet {
 }
 
 impl Inlet {
-    /// A new inlet, whose list has the room that `got` has.
+    /// A new inlet, whose list has the room of `got`.
     pub(crate) fn new(row: Shelf, ticket: Ticket, senders: u32, got: Vec<Entry>) -> Inlet
         requires seat { IsTicketOf (arc_value row) ticket }
         requires view { (room : ℕ)
@@ -83,7 +83,7 @@ impl Inlet {
     }
 
     /// Settles the queue, in the room that was made: takes in the outlets' tickets, reads the claim
-    /// word and the places, and answers the accounts from the lists of the ends.
+    /// word and the places, and returns the accounts made from the lists of the ends.
     pub(crate) fn settle(
         self,
         outlets: Vec<Outlet>,
@@ -124,9 +124,9 @@ impl Inlet {
         Settled { senders, places }
     }
 
-    /// Takes what is first in the queue: a message or an end mark, each with its sender, or
+    /// Takes the first entry of the queue: a message or an end mark, each with its sender, or
     /// nothing. A message raises the clock that is handed in to that of its place. It takes no
-    /// memory, and does not wait for something to come.
+    /// memory, and does not wait for an entry.
     pub fn take(&mut self, clock: u64) -> Taken
         ensures got { self.new.got ≡ self.old.got ++ entries_of result }
         ensures clocks { Clocked self.old clock result self.new }
@@ -157,7 +157,7 @@ impl Inlet {
         }
     }
 
-    /// How many places the queue has.
+    /// The number of places of the queue.
     pub(crate) fn places(&self) -> usize
         ensures { self.now.queue.table.words ≡ result + result + 2 }
     {
@@ -175,7 +175,7 @@ impl Inlet {
         Taken::Nothing
     }
 
-    /// How many senders have no end mark among what was got. It takes no memory.
+    /// The number of senders whose end mark the inlet has not got. It takes no memory.
     pub fn unended(&self) -> u32
         ensures count { result ≡ unended_in self.now }
         ensures orderly { IsOrderly self.now.senders self.now.got }

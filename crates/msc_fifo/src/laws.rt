@@ -1,5 +1,5 @@
-//! Laws of the ends of a queue, over their definitions alone. The functions have no code: a caller
-//! calls one to rest its own proof on the law.
+//! Laws of the ends of a queue, over their definitions only. The functions have no code: a caller
+//! that needs a law calls its function.
 
 ghost use Rattle.std.specs.Prelude.{◌≡◌};
 ghost use Rattle.msc_fifo.specs.Laws.{NumberedOutletsAreWhole};

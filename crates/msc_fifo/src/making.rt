@@ -1,4 +1,4 @@
-//! Making a queue: all its ends, with all the room that they will ever need.
+//! Making a queue: all its ends, with all the room that they will need.
 
 ghost use Rattle.std.specs.Prelude.{◌≡◌, ◌↔◌, ◌<◌, ◌≤◌, ◌+◌, ◌-◌, [], length, sum, Err, IfOk, OnOk};
 ghost use Rattle.std.specs.Prelude.{MatchOption};
@@ -19,13 +19,13 @@ use std::sync::Arc;
 
 /// A new queue: an outlet for each quota, in order, of the senders 0, 1 and so on, and one inlet. A
 /// quota is the number of messages that its sender may put, and may be 0; the end mark has a place
-/// of its own beside it. All room that the ends need is made here.
+/// besides. All room that the ends need is made here.
 pub fn queue(alloc: Global, quotas: &[u32]) -> Result<(Vec<Outlet>, Inlet), QueueFault>
     ensures no_sender { (result ≡ Err QueueFault.NoSender) ↔ (quotas.now ≡ []) }
     ensures too_large { (result ≡ Err QueueFault.TooLarge) ↔ IsTooLarge quotas.now }
     ensures inlet { IfOk result (λ r. r.1 ≡ new_inlet r.1.queue (length quotas.now)) }
     ensures outlets { IfOk result (λ r. r.0.items ≡ new_outlets r.1.queue 0 quotas.now) }
-    // So the ends may be settled at any time, as long as they are kept together.
+    // So the ends may be settled at any time, if they are kept together.
     ensures whole { IfOk result (λ r. AreOutletsOf r.1 r.0.items) }
 {
     if quotas.is_empty() {
@@ -58,7 +58,7 @@ fn total(quotas: &[u32]) -> Option<usize>
     Some(sum)
 }
 
-/// The ends of a queue with room for so many messages and an end mark for each sender.
+/// The ends of a queue with room for `messages` messages and an end mark for each sender.
 fn ends(alloc: Global, quotas: &[u32], messages: usize) -> Result<(Vec<Outlet>, Inlet), AllocError>
     requires some { 0 < length quotas.now }
     requires few { length quotas.now ≤ SENDER_LIMIT }
@@ -102,7 +102,7 @@ fn outlets(
     Ok(outlets)
 }
 
-/// The words of a queue with so many places, all empty, and the inlet's ticket.
+/// The words of a queue with `places` places, all empty, and the inlet's ticket.
 fn row(alloc: Global, places: usize) -> Result<(Shelf, Ticket), AllocError>
     requires { places ≤ most_places }
     ensures seat { IfOk result (λ r. IsTicketOf (arc_value r.0) r.1) }

@@ -1,8 +1,8 @@
 //! The end of a sender.
 //!
-//! It keeps the list of what it has put beside the queue's words, and a ticket whose view is that
-//! list and its claims: so the rule of the words says what of it is still on its way
-//! (`specs/Views`). Contracts see an `OutletState`.
+//! Next to the queue's words, it keeps the list of the messages that it put, and a ticket whose
+//! view is that list and its claims. So the rule of the words determines which of them are not yet
+//! taken (`specs/Views`). Contracts see an `OutletState`.
 
 ghost use Rattle.std.specs.Prelude.{◌≡◌, ◌↔◌, ◌+◌, ◌<◌, ◌≤◌, [], ◌∷◌, ◌++◌, ℕ, true, false, length};
 ghost use Rattle.std.specs.Prelude.{Err, OnOk, OnErr, IfOk, IsOk, IsTrue, vec_capacity};
@@ -24,25 +24,25 @@ use crate::rule::{Row, Shelf, Ticket};
 use crate::steps::{join, put, put_mark};
 use std::marker::{Brand, Model};
 
-/// Where a message was put.
+/// The place and the clock of a message that was put.
 #[derive(Clone, Copy, Debug, PartialEq, Eq)]
 pub struct Sent {
     /// Its place in the queue, from 0, in the order of all senders.
     pub place: u32,
-    /// The clock of the place: above the one that was handed in.
+    /// The clock of the place: above the clock that was handed in.
     pub clock: u64,
 }
 
-/// The end of one sender of a queue. It is made by [`queue`](crate::queue) alone.
+/// The end of one sender of a queue. Only [`queue`](crate::queue) makes it.
 #[derive(Drop)]
 pub struct Outlet {
     row: Shelf,
     ticket: Ticket,
     /// The number of the sender, from 0.
     sender: u32,
-    /// How many messages may be put in all.
+    /// The number of messages that may be put in all.
     quota: u32,
-    /// What was put, with room for the quota.
+    /// The messages that were put, with room for the quota.
     put: Vec<u32>,
     /// Whether the end mark was put.
     closed: bool,
@@ -100,7 +100,7 @@ impl Outlet {
         }
     }
 
-    /// How many messages were put.
+    /// The number of messages that were put.
     pub(crate) fn messages(&self) -> usize
         ensures { result ≡ length self.now.put }
     {
@@ -135,14 +135,14 @@ impl Outlet {
     }
 
     /// Puts message `m` at the back of the queue, unless the outlet is closed, has put its quota or
-    /// is handed the greatest clock. It offers the clock handed in and one; the place's clock is at
-    /// least every offer that was made for it or a place before it. A refusal hands the message
-    /// back and changes nothing. It takes no memory.
+    /// gets the greatest clock. It offers the given clock plus one; the place's clock is at least
+    /// every offer for it or an earlier place. A refusal hands the message back and changes
+    /// nothing. It takes no memory.
     pub fn send(&mut self, m: u32, clock: u64) -> Result<Sent, SendFault>
         ensures accepted { IsOk result → HasRoom self.old }
         ensures going { IsOk result → clock < greatest_clock }
         ensures room { HasRoom self.old → clock < greatest_clock → IsOk result }
-        // A closed outlet is reported as such, even where its quota or the clock is spent.
+        // A closed outlet is reported as such, even if its quota or the clock is spent.
         ensures closed { (result ≡ Err (SendFault.Closed m)) ↔ IsTrue self.old.closed }
         ensures full { (result ≡ Err (SendFault.Full m)) ↔ IsSpent self.old }
         ensures spent { (result ≡ Err (SendFault.ClockSpent m))
@@ -175,8 +175,8 @@ impl Outlet {
         })
     }
 
-    /// Puts the end mark at the back of the queue, unless that is done: a second close changes
-    /// nothing. It takes no memory.
+    /// Puts the end mark at the back of the queue, unless the outlet is closed: a second close
+    /// changes nothing. It takes no memory.
     pub fn close(&mut self)
         ensures closed { IsTrue self.new.closed }
         ensures put { self.new.put ≡ self.old.put }
@@ -193,7 +193,7 @@ impl Outlet {
         self.closed = true;
     }
 
-    /// How many messages of the quota were not yet put. It takes no memory.
+    /// The number of messages of the quota that were not yet put. It takes no memory.
     pub fn left(&self) -> u32
         ensures { length self.now.put + result ≡ self.now.quota }
     {

@@ -9,7 +9,7 @@ use crate::accounts::Room;
 use crate::outlet::Outlet;
 use crate::rule::{Row, Ticket};
 
-/// What is left of an outlet once its ticket was taken in, and room for its account.
+/// The rest of an outlet whose ticket was taken in, and room for its account.
 #[derive(Drop)]
 pub(crate) struct Part {
     pub sender: u32,

@@ -1,4 +1,4 @@
-//! The places of a settled queue: what was claimed there, in the order of all senders.
+//! The places of a settled queue: the entries that were claimed, in the order of all senders.
 
 ghost use Rattle.std.specs.Prelude.{◌≡◌, ◌≤◌, [], Some, true, vec_len, vec_capacity};
 ghost use Rattle.msc_fifo.specs.Entries.{sender_of};
@@ -10,7 +10,7 @@ use crate::entry::Entry;
 use crate::rule::{Row, Ticket};
 use crate::steps::read;
 
-/// What stands at a place of a queue: a message or an end mark, and the clock of the place.
+/// A place of a queue: a message or an end mark, and the clock of the place.
 #[derive(Clone, Copy, Debug, PartialEq, Eq)]
 pub struct Place {
     /// The number of the sender, from 0.
@@ -22,7 +22,7 @@ pub struct Place {
 }
 
 impl Place {
-    /// The place with this entry and this clock; with no entry nobody asks for it.
+    /// The place with this entry and this clock; without an entry it is never read.
     pub(crate) fn of(entry: Option<Entry>, clock: u64) -> Place
         ensures { (e : Entry) → entry ≡ Some e
             → result ≡ record { sender = sender_of e; message = message_of e; clock = clock } }
@@ -47,7 +47,7 @@ impl Place {
     }
 }
 
-/// The places that were claimed, in the room that was made for them.
+/// The places that were claimed, in the room made for them.
 pub(crate) fn read_places(
     row: &Row,
     ticket: &mut Ticket,

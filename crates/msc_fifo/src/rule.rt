@@ -1,12 +1,12 @@
-//! How a queue is held: a row of shared words under a rule of this crate's own.
+//! The rule of a queue: a row of shared words under a rule of this crate's own.
 //!
 //! Word 0, the claim word, counts the places that were claimed; word 1, the clock word, is the
-//! greatest offer; words 2k + 2 and 2k + 3 are the entry and the clock of place k, 0 while it has
-//! none. Each end holds a ticket, a token of no bytes, whose view is what that end knows. The rule
-//! (`specs/World`, `specs/Views`) says of the words and of all views that nothing is lost, repeated
-//! or reordered, and that a clock is at least each offer up to its place. What each step tells is
-//! in `specs/Moves`; each keeps the rule whatever the other threads did before
-//! (`proofs/OutletSteps`, `proofs/InletSteps`). The steps themselves are in `steps`.
+//! greatest offer; words 2k + 2 and 2k + 3 are the entry and the clock of place k, and are 0 before
+//! they are stored. Each end holds a ticket, a token of no bytes, whose view is the knowledge of
+//! that end. The rule (`specs/World`, `specs/Views`) requires of the words and of all views that
+//! nothing is lost, repeated or reordered, and that a clock is at least each offer up to its place.
+//! `specs/Moves` has the result of each step. Each step keeps the rule, whatever the other threads
+//! did before (`proofs/OutletSteps`, `proofs/InletSteps`). The steps themselves are in `steps`.
 
 ghost use Rattle.std.specs.Prelude.{ℕ};
 
@@ -18,15 +18,15 @@ use std::collections::LinkedList;
 use std::marker::{Brand, PhantomData};
 use std::sync::Arc;
 
-/// What is known of a sender. No value of it is made: it is seen by the rule alone.
+/// The facts on a sender. No value of it is made: only the rule uses it.
 pub struct Sender {
     /// Its number.
     pub from: u64,
-    /// How many places the queue has.
+    /// The number of places of the queue.
     pub places: u64,
-    /// What it has put.
+    /// The messages that it put.
     pub put: LinkedList<u64>,
-    /// Whether it has put its end mark.
+    /// Whether it put its end mark.
     pub closed: bool,
     /// Its claims whose entries are stored.
     pub claims: LinkedList<Claim>,
@@ -36,29 +36,29 @@ pub struct Sender {
     pub offers: LinkedList<u64>,
     /// The offer for the next place that it claims.
     pub ready: u64,
-    /// What it has stored as the clock of the place whose entry is not stored yet.
+    /// The value that it stored as the clock of the place whose entry is not stored yet.
     pub shown: u64,
 }
 
-/// What a ticket knows. No value of it is made: it is seen by the rule alone.
+/// The knowledge of a ticket. No value of it is made: only the rule uses it.
 pub struct TicketView {
     /// Whether it is the inlet's.
     pub gets: bool,
-    /// The inlet: how many senders it has made.
+    /// The inlet: the number of senders that it has made.
     pub made: u64,
-    /// The inlet: how many places the queue has.
+    /// The inlet: the number of places of the queue.
     pub places: u64,
-    /// The inlet: what it has got.
+    /// The inlet: the entries that it got.
     pub got: LinkedList<Entry>,
     /// The inlet: the clocks of these places.
     pub clocks: LinkedList<u64>,
-    /// How many places may still be claimed with it.
+    /// The number of places that may still be claimed with it.
     pub room: u64,
-    /// Of an outlet its sender; of the inlet the senders whose tickets it has taken in.
+    /// An outlet: its sender. The inlet: the senders whose tickets it has taken in.
     pub senders: LinkedList<Sender>,
 }
 
-/// The rule of the row, for so many places.
+/// The rule of the row, for this number of places.
 pub struct InOrder;
 
 impl TableRule<(), TicketView, usize> for InOrder {
@@ -70,7 +70,7 @@ impl TableRule<(), TicketView, usize> for InOrder {
     ghost first = { λ places. receives places places 0 [] [] };
 }
 
-/// What a claim is for, in proofs alone. A call at `Brand` picks it.
+/// The entry of a claim, only in proofs. A call at `Brand` picks it.
 pub trait Said {
     ghost use Rattle.msc_fifo.specs.declared.entry.Entry.{Entry};
 
@@ -83,7 +83,7 @@ impl Said for Brand {
     ghost item = { Ended 0 };
 }
 
-/// How many places an outlet may claim, in proofs alone. A call at `Brand` picks it.
+/// The number of places that an outlet may claim, only in proofs. A call at `Brand` picks it.
 pub trait Due {
     ghost room: { ℕ };
 }
@@ -184,7 +184,7 @@ impl Play<(), TicketView> for Settles {
     ghost then = { SettlesIt };
 }
 
-/// The inlet makes the next sender, which may claim so many places.
+/// The inlet makes the next sender, which may claim this number of places.
 pub struct NextSender<D> {
     due: PhantomData<D>,
 }
@@ -198,7 +198,7 @@ impl<D: Due> Split<TicketView> for NextSender<D> {
     ghost right = { λ v. outlet_view D.room (new_sender v.places v.made) };
 }
 
-/// The inlet takes in what an outlet knows.
+/// The inlet takes in the knowledge of an outlet.
 pub struct TakesIn;
 
 impl Join<TicketView> for TakesIn {
@@ -209,7 +209,7 @@ impl Join<TicketView> for TakesIn {
     ghost spent = { nobody };
 }
 
-/// What an end of a queue holds of the rule.
+/// The part of the rule that an end of a queue holds.
 pub type Ticket = Seat<(), TicketView>;
 
 /// The words of a queue.

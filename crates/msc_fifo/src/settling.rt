@@ -1,5 +1,5 @@
-//! Settling a queue, once its ends are together again: what each sender put, what of it was taken
-//! and what is left, and what stands at each place.
+//! Settling a queue, once its ends are together again: the messages that each sender put, those
+//! that were taken and those that are left, and the entry of each place.
 
 ghost use Rattle.std.specs.Prelude.{◌≡◌, length, map, vec_len, All, IfOk, IfErr};
 ghost use Rattle.msc_fifo.specs.Ends.{AreOutletsOf};
@@ -13,7 +13,7 @@ use std::alloc::{AllocError, Global};
 
 /// Settles a queue: an account for each sender, by its number, and the places that were claimed.
 /// The list holds each outlet of the inlet's queue once and no other, in any order, open or closed.
-/// All room is made before anything is touched: where memory is refused, all ends come back as they
+/// All room is made before anything is changed: if memory is refused, all ends come back as they
 /// were.
 pub fn settle(
     alloc: Global,
@@ -54,7 +54,7 @@ fn rooms(alloc: Global, outlets: &[Outlet]) -> Result<Vec<Room>, AllocError>
     Ok(rooms)
 }
 
-/// So many empty accounts.
+/// `count` empty accounts.
 fn blanks(alloc: Global, count: usize) -> Result<Vec<Account>, AllocError>
     ensures { IfOk result (λ r. vec_len r ≡ count) }
 {

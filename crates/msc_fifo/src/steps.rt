@@ -1,4 +1,4 @@
-//! The steps on the words of a queue, each one atomic call. None waits, and none tries again.
+//! The steps on the words of a queue. Each is one atomic call; none waits, and none is tried again.
 
 ghost use Rattle.std.specs.Prelude.{◌≡◌, ◌+◌, ◌-◌, ◌<◌, ◌≤◌, [], ◌∷◌, ◌++◌, ℕ, true, false, None};
 ghost use Rattle.std.specs.Prelude.{Some, length, MatchOption};
@@ -20,7 +20,7 @@ use crate::rule::{
 };
 
 /// Makes the offer, claims the next place for the message, and stores the clock of the place and
-/// the message there. It answers the place and its clock.
+/// the message there. Returns the place and its clock.
 pub fn put<W: Said>(row: &Row, ticket: &mut Ticket, entry: Entry, offer: u64) -> (u64, u64)
     requires said { W.item ≡ entry }
     requires seat { IsTicketOf row.now ticket.old }
@@ -43,7 +43,7 @@ pub fn put<W: Said>(row: &Row, ticket: &mut Ticket, entry: Entry, offer: u64) ->
     (place, clock)
 }
 
-/// Claims the next place for the end mark, and stores it there. It answers the place.
+/// Claims the next place for the end mark, and stores it there. Returns the place.
 pub fn put_mark<W: Said>(row: &Row, ticket: &mut Ticket, entry: Entry) -> u64
     requires said { W.item ≡ entry }
     requires seat { IsTicketOf row.now ticket.old }
@@ -62,7 +62,7 @@ pub fn put_mark<W: Said>(row: &Row, ticket: &mut Ticket, entry: Entry) -> u64
     mark
 }
 
-/// The entry at the next place, where something stands there.
+/// The entry at the next place, if there is one.
 pub fn look(row: &Row, ticket: &mut Ticket, place: usize) -> Option<Entry>
     requires seat { IsTicketOf row.now ticket.old }
     requires inlet { ((knows ticket.old).gets ≡ true)
@@ -109,7 +109,7 @@ pub fn deal<D: Due>(row: &Row, ticket: &mut Ticket) -> Ticket
     row.shared.split_seat::<NextSender<D>>(ticket)
 }
 
-/// Takes in what an outlet's ticket knows.
+/// Takes in the knowledge of an outlet's ticket.
 pub fn join(row: &Row, ticket: &mut Ticket, own: Ticket)
     requires seat { IsTicketOf row.now ticket.old }
     requires own { IsTicketOf row.now own }
@@ -121,7 +121,7 @@ pub fn join(row: &Row, ticket: &mut Ticket, own: Ticket)
     row.shared.join_seat::<TakesIn>(ticket, own);
 }
 
-/// How many places were claimed.
+/// The number of places that were claimed.
 pub fn count(row: &Row, ticket: &mut Ticket) -> u64
     requires seat { IsTicketOf row.now ticket.old }
     requires inlet { (knows ticket.old).gets ≡ true }
@@ -132,7 +132,7 @@ pub fn count(row: &Row, ticket: &mut Ticket) -> u64
     row.shared.load::<Settles>(ticket, 0)
 }
 
-/// What stands at a place that was claimed, once the outlets' tickets were taken in.
+/// The entry and the clock of a place that was claimed, after the outlets' tickets were taken in.
 pub fn read(row: &Row, ticket: &mut Ticket, place: usize) -> Place
     requires seat { IsTicketOf row.now ticket.old }
     requires inlet { (knows ticket.old).gets ≡ true }
@@ -147,7 +147,8 @@ pub fn read(row: &Row, ticket: &mut Ticket, place: usize) -> Place
     Place::of(entry, clock)
 }
 
-/// The word of an entry: of message m of sender i 2(2^32 i + m) + 1, of its end mark 2(i + 1).
+/// The word of an entry: 2(2^32 i + m) + 1 for message m of sender i, and 2(i + 1) for its end
+/// mark.
 fn code_of(entry: Entry) -> u64
     requires { IsSmall entry }
     ensures { result ≡ code entry }
@@ -158,7 +159,7 @@ fn code_of(entry: Entry) -> u64
     }
 }
 
-/// The entry of a word; there is none while it is 0.
+/// The entry of a word; none if the word is 0.
 fn entry_of(word: u64) -> Option<Entry>
     ensures none { word ≡ 0 → result ≡ None }
     ensures some { (e : Entry) → IsSmall e → word ≡ code e → result ≡ Some e }

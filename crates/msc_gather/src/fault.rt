@@ -9,7 +9,7 @@ use thiserror::Error;
 /// Why logs are not gathered.
 #[derive(Clone, Copy, Debug, PartialEq, Eq, Error)]
 pub enum GatherFault {
-    /// No run of the chart has the logs as its lines.
+    /// No run of the chart has these logs as its lines.
     #[error("no run has these logs")]
     NoMerge,
     /// A growth of memory was refused.

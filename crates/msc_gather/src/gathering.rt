@@ -31,9 +31,9 @@ fn are_done(marks: &[bool], done: &[bool]) -> bool
     true
 }
 
-/// The run of the chart that has these logs as its lines; of several, the one that is least event
-/// by event. There is a log for each instance, by its number. `NoMerge` is answered only where no
-/// run has these logs, `Memory` where a growth of memory was refused.
+/// The run of the chart that has these logs as its lines; if there are several, the least of them,
+/// event by event. There is a log for each instance, by its number. `NoMerge` is returned only if
+/// no run has these logs, `Memory` if a growth of memory was refused.
 pub fn gather(
     alloc: Global,
     chart: &Chart,
@@ -46,7 +46,7 @@ pub fn gather(
         (length chart.now.instances) (map (λ v. v.items) logs.now) }
 {
     charts_are_seated();
-    chart.accepted();
+    chart.facts();
     if logs.len() != chart.instances() as usize {
         return Err(GatherFault::NoMerge);
     }

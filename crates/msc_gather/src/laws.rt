@@ -1,6 +1,6 @@
-//! Laws of the logs of a chart, over the definitions alone. The functions do nothing when they run:
-//! a caller calls one to rest its own proof on the law. Each law holds of every accepted chart
-//! under each architecture.
+//! Laws of the logs of a chart, over the definitions only. The functions do nothing when they run:
+//! a caller that needs a law calls its function. Each law holds of every accepted chart under each
+//! architecture.
 
 ghost use Rattle.msc_gather.specs.Laws.{ChartsAreSeated, FollowersAreHeads, LinksTellFollowers};
 ghost use Rattle.msc_gather.specs.Laws.{LogsAreGatheredOrNone, OneRunGathers};
@@ -19,15 +19,15 @@ pub fn charts_are_seated()
     inputs_share_lines();
 }
 
-/// The runs with these lines are the lists that have the logged events once and keep what comes
-/// first; and there is one only where the logs are logs of the chart.
+/// The runs with these lines are the lists that have each logged event once and keep the order of
+/// what has to come first. There is such a run only if the logs are logs of the chart.
 pub fn runs_with_these_lines_are_schedules()
     ensures { RunsWithTheseLinesAreSchedules }
 {
     charts_are_seated();
 }
 
-/// The least events that may follow one another gather the logs. Where an event is missing and none
+/// The least events that may follow one another gather the logs. If an event is missing and none
 /// may follow, or the logs are no logs of the chart, no run has them as its lines.
 pub fn the_least_events_gather()
     ensures gathers { TheLeastEventsGather }
@@ -45,8 +45,8 @@ pub fn logs_are_gathered_or_none()
     charts_are_seated();
 }
 
-/// An event that may follow is the first that is left in its log, and that one may follow exactly
-/// where its link has occurred.
+/// An event that may follow is the first that is left in its log, and the first that is left in a
+/// log may follow if and only if its link has occurred.
 pub fn heads_and_links_tell()
     ensures head { FollowersAreHeads }
     ensures link { LinksTellFollowers }

@@ -1,4 +1,4 @@
-//! The link of each event: the last of what crosses to it from another log.
+//! The link of each event: the last event of another log that has to precede it.
 
 ghost use Rattle.std.specs.List.{concat};
 ghost use Rattle.std.specs.Prelude.{◌++◌, ◌<◌, ◌∷◌, ◌≡◌, [], false, IfOk, IsTrue, length, List};
@@ -27,8 +27,8 @@ fn joined(alloc: Global, logs: &[Vec<Event>]) -> Result<Vec<Event>, AllocError>
     Ok(all)
 }
 
-/// What was taken from the queues: of each queue the last output, and for each output whose input
-/// was met the output that was taken from its queue before it.
+/// The state of the queues: for each queue the last output whose message was taken, and for each
+/// output whose input was met the output that was taken from its queue before it.
 #[derive(Drop)]
 struct TakenSoFar {
     last: Vec<Option<Event>>,
@@ -56,7 +56,7 @@ impl TakenSoFar {
             → TookFrom w.now (list ++ r ∷ []) self.new }
     {
         ends_share_queues();
-        w.chart.accepted();
+        w.chart.facts();
         if w.chart.is_controlled(r) {
             return;
         }
@@ -66,7 +66,7 @@ impl TakenSoFar {
         self.last[q] = Some(s);
     }
 
-    /// What was taken after these events.
+    /// The state after these events.
     fn of(alloc: Global, w: &Wiring, events: &[Event]) -> Result<TakenSoFar, AllocError>
         requires known { (e : ℕ) → IsTrue (occurs events.now e) → e < size w.now }
         requires once { IsOnce events.now }
@@ -79,7 +79,7 @@ impl TakenSoFar {
         Ok(taken)
     }
 
-    /// The link of event `x`, where all logs were met.
+    /// The link of event `x`, if all logs were met.
     fn link(&self, w: &Wiring, marks: &[bool], x: Event) -> Option<Event>
         requires known { x < size w.now }
         requires marks { length marks.now ≡ size w.now }

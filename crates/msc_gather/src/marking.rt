@@ -1,5 +1,5 @@
-//! The events of logs, marked: each on its line and once, a controlled event after all that is
-//! drawn before it, an input with its output.
+//! The events of logs, marked: each on its line and once, a controlled event after all events drawn
+//! before it, an input with its output.
 
 ghost use Rattle.std.specs.Prelude.{◌<◌, ◌^◌, ◌↔◌, ◌≡◌, ◌≤◌, [], Err, get_or, IfOk, IsTrue};
 ghost use Rattle.std.specs.Prelude.{length, OnOk, ℕ};
@@ -37,8 +37,8 @@ fn first_open(marks: &[bool], start: u32) -> u32
     count
 }
 
-/// Whether the log of line `i`, whose events so far are marked, may go on with `e`. Here `front` is
-/// the first event from the start of the line on that is not marked.
+/// Whether the log of line `i`, whose events so far are marked, may continue with `e`. Here `front`
+/// is the first event from the start of the line on that is not marked.
 fn may_be_marked(w: &Wiring, i: u32, marks: &[bool], start: Event, front: Event, e: Event) -> bool
     requires long { length marks.now ≡ size w.now }
     requires line { IsLineFrom (wired_by w.now) i start }
@@ -63,7 +63,7 @@ fn may_be_marked(w: &Wiring, i: u32, marks: &[bool], start: Event, front: Event,
     !w.chart.before(front, e)
 }
 
-/// Marks the events of a log of line `i`, up to the first that may not be there.
+/// Marks the events of a log of line `i`, up to the first that may not be in it there.
 fn mark_log(w: &Wiring, i: u32, log: &[Event], marks: &mut [bool]) -> bool
     requires instance { i < length w.now.chart.now.instances }
     requires long { length marks.old ≡ size w.now }
@@ -71,7 +71,7 @@ fn mark_log(w: &Wiring, i: u32, log: &[Event], marks: &mut [bool]) -> bool
     ensures told { IsTrue result ↔ IsLineLog (wired_by w.now) i log.now }
     ensures marked { IsTrue result → AreMarkedBeside marks.old marks.new log.now }
 {
-    w.chart.accepted();
+    w.chart.facts();
     let start = w.chart.line(i).0;
     let mut front = first_open(marks, start);
     for e in log {
@@ -84,7 +84,7 @@ fn mark_log(w: &Wiring, i: u32, log: &[Event], marks: &mut [bool]) -> bool
     true
 }
 
-/// The events of the logs, marked, where each log is one of its line.
+/// The events of the logs, marked, if each log is one of its line.
 fn marks_of_lines(alloc: Global, w: &Wiring, logs: &[Vec<Event>]) -> Result<Vec<bool>, GatherFault>
     requires seated { IsSeated (wired_by w.now) (length logs.now) }
     requires many { length logs.now ≡ length w.now.chart.now.instances }
@@ -102,7 +102,7 @@ fn marks_of_lines(alloc: Global, w: &Wiring, logs: &[Vec<Event>]) -> Result<Vec<
     Ok(marks)
 }
 
-/// Whether the output of `r` is marked, where `r` is an input and marked.
+/// Whether the output of `r` is marked, if `r` is an input and marked.
 fn has_output(w: &Wiring, marks: &[bool], r: Event) -> bool
     requires long { length marks.now ≡ size w.now }
     requires known { r < size w.now }
@@ -127,7 +127,7 @@ fn have_outputs(w: &Wiring, marks: &[bool]) -> bool
     true
 }
 
-/// The events of the logs, marked, where they are logs of the chart.
+/// The events of the logs, marked, if they are logs of the chart.
 pub fn marks_of(alloc: Global, w: &Wiring, logs: &[Vec<Event>]) -> Result<Vec<bool>, GatherFault>
     requires seated { IsSeated (wired_by w.now) (length logs.now) }
     requires many { length logs.now ≡ length w.now.chart.now.instances }

@@ -11,8 +11,8 @@ use crate::marking::log_at;
 use msc_chart::{Event, Wiring};
 use std::alloc::{AllocError, Global};
 
-/// A part of the least run: its events, how many events of each log are among them, and for each
-/// event whether it is.
+/// A part of the least run: its events, the number of events of each log among them, and for each
+/// event whether it is among them.
 #[derive(Drop)]
 pub struct Merge {
     pub past: Vec<Event>,
@@ -20,7 +20,7 @@ pub struct Merge {
     pub done: Vec<bool>,
 }
 
-/// The lesser of two events, where there are two.
+/// The lesser of two events, or the only one.
 fn lesser(a: Option<Event>, b: Option<Event>) -> Option<Event>
     ensures none { a ≡ None → result ≡ b }
     ensures other { b ≡ None → result ≡ a }
@@ -53,7 +53,7 @@ impl Merge {
         })
     }
 
-    /// The first event that is left in log `i`, where it may follow: where its link is done.
+    /// The first event that is left in log `i`, if it may follow: if its link is done.
     fn head(
         &self,
         w: &Wiring,

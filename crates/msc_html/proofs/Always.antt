@@ -7,8 +7,8 @@ use Rattle.msc_chart.proofs.Drawn.{not_both, partner_of_input}
 use Rattle.msc_chart.proofs.ListLemmas.{by_test}
 use Rattle.msc_order.specs.Caused.{Caused}
 use Rattle.msc_order.proofs.Once.{caused_enforced, enters, once}
-use Rattle.msc_reason.specs.declared.lack.Lack.{Lack}
-use Rattle.msc_reason.specs.Lacks.{needed, share_queue, IsLackOf}
+use Rattle.msc_reason.specs.declared.cause.Cause.{Cause}
+use Rattle.msc_reason.specs.Causes.{needed, share_queue, IsCauseOf}
 use Rattle.msc_reason.proofs.OnePair.{needed_itself, needed_output, race_input, sent_before, share_parts}
 
 module _ (chart : WiredChart) (is_wired : IsWired chart) where
@@ -27,7 +27,8 @@ module _ (chart : WiredChart) (is_wired : IsWired chart) where
     | inr more ↦ caused_enforced chart x (partner chart.events y) more
   ]
 
-  -- where an input is enforced before an input of its queue, its output is before the output of that
+  -- where an input is enforced before an input of its queue, its output is before the output of
+  -- that
   outputs_too : (f e : ℕ) → is_input chart.events f ≡ true → is_input chart.events e ≡ true
       → Enforced chart f e → Enforced chart (partner chart.events f) (partner chart.events e)
   outputs_too f e input_f input_e h =
@@ -46,9 +47,9 @@ module _ (chart : WiredChart) (is_wired : IsWired chart) where
       ]
 
   -- what a race lacks that is always reversed is enforced in the other order
-  pub lacks_for_good : (e f : ℕ) (lack : Lack) → IsRace chart e f → IsLackOf chart e f lack
-      → Enforced chart f e → Enforced chart lack.output lack.needed
-  lacks_for_good e f lack race is h =
+  pub lacks_for_good : (e f : ℕ) (cause : Cause) → IsRace chart e f → IsCauseOf chart e f cause
+      → Enforced chart f e → Enforced chart cause.output cause.needed
+  lacks_for_good e f cause race is h =
       let input_f = race_input chart e f race in
       let all : Enforced chart (partner chart.events f) (needed chart e f) =
       by_test (share_queue chart e f)
@@ -58,5 +59,5 @@ module _ (chart : WiredChart) (is_wired : IsWired chart) where
       (outputs_too f e input_f parts.0 h))
       (λ apart. subst (λ (z : ℕ). Enforced chart (partner chart.events f) z)
       (sym (needed_itself chart e f apart)) (joined (sent_before chart is_wired f input_f) h)) in
-      subst (λ (z : ℕ). Enforced chart z lack.needed) (sym is.second)
+      subst (λ (z : ℕ). Enforced chart z cause.needed) (sym is.second)
       (subst (λ (z : ℕ). Enforced chart (partner chart.events f) z) (sym is.first) all)

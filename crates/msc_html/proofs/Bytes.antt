@@ -1,8 +1,8 @@
 -- The bytes of sentences, and items that are put one behind the other.
 use Rattle.std.proofs.Common.{◌≡◌, ◌<◌, ℕ, List, [], ◌∷◌, ◌++◌, codes, length, map, refl, sym, ap, ◌∙◌, append_assoc, append-nil, arith}
-use Rattle.msc_html.specs.declared.part.Look.{Look}
+use Rattle.msc_html.specs.declared.part.SentenceStyle.{SentenceStyle}
 use Rattle.msc_html.specs.declared.part.Part.{Part}
-use Rattle.msc_html.specs.Parts.{code, words, look_attributes, part_node, part_text, parts_text, sentence}
+use Rattle.msc_html.specs.Parts.{code, words, style_attributes, part_node, part_text, parts_text, sentence}
 use Rattle.std.proofs.lemmas.Grind.{flat_map-append}
 use Rattle.msc_tree.specs.Trees.{Attribute, attribute_text, attributes_text, children, line_text, nodes_text}
 
@@ -23,21 +23,21 @@ shape : (o g p s n e l : List ℕ)
 shape o g p s n e l = simp append_assoc
 
 -- a sentence without parts
-pub empty_sentence : (name : List ℕ) (look : Look) (parts : List Part) → length parts ≡ 0
-    → ((codes "<" ++ name) ++ attributes_text (look_attributes look)) ++ codes "/>\n"
-    ≡ line_text (sentence name look parts)
-empty_sentence name look [] none =
-    sym (append_assoc ((codes "<" ++ name) ++ attributes_text (look_attributes look)) (codes "/>") (codes "\n"))
-empty_sentence name look (p ∷ ps) none = absurd (omega (arith, none))
+pub empty_sentence : (name : List ℕ) (style : SentenceStyle) (parts : List Part) → length parts ≡ 0
+    → ((codes "<" ++ name) ++ attributes_text (style_attributes style)) ++ codes "/>\n"
+    ≡ line_text (sentence name style parts)
+empty_sentence name style [] none =
+    sym (append_assoc ((codes "<" ++ name) ++ attributes_text (style_attributes style)) (codes "/>") (codes "\n"))
+empty_sentence name style (p ∷ ps) none = absurd (omega (arith, none))
 
 -- a sentence with parts
-pub some_sentence : (name : List ℕ) (look : Look) (parts : List Part) → 0 < length parts
-    → ((codes "<" ++ name) ++ attributes_text (look_attributes look))
+pub some_sentence : (name : List ℕ) (style : SentenceStyle) (parts : List Part) → 0 < length parts
+    → ((codes "<" ++ name) ++ attributes_text (style_attributes style))
     ++ ((((codes ">" ++ parts_text parts) ++ codes "</") ++ name) ++ codes ">\n")
-    ≡ line_text (sentence name look parts)
-some_sentence name look [] some = absurd (omega (arith, some))
-some_sentence name look (p ∷ ps) some =
-    let o = (codes "<" ++ name) ++ attributes_text (look_attributes look) in
+    ≡ line_text (sentence name style parts)
+some_sentence name style [] some = absurd (omega (arith, some))
+some_sentence name style (p ∷ ps) some =
+    let o = (codes "<" ++ name) ++ attributes_text (style_attributes style) in
     sym (ap (λ (l : List ℕ). (((o ++ codes ">") ++ (part_text p ++ l)) ++ ((codes "</" ++ name) ++ codes ">")) ++ codes "\n")
     (parts_are_children ps)
     ∙ shape o (codes ">") (parts_text (p ∷ ps)) (codes "</") name (codes ">") (codes "\n"))

@@ -8,13 +8,13 @@ use Rattle.msc_picture.specs.declared.scene.Scene.{Scene}
 use Rattle.msc_svg.proofs.Chains.{then_line}
 use Rattle.msc_race.specs.Views.{wiring_of}
 use Rattle.msc_tree.specs.Trees.{line_text, lines_text, Node}
-use Rattle.msc_html.specs.declared.article.Told.{Told}
+use Rattle.msc_html.specs.declared.article.ShownRace.{ShownRace}
 use Rattle.msc_html.specs.declared.races.Progress.{Progress}
 use Rattle.msc_html.specs.declared.races.Source.{Source}
 use Rattle.msc_html.specs.Articles.{article, Article, article_node}
 use Rattle.msc_html.specs.Findings.{race_of, rows_drawn, run_rows, AreDrawn, AreNumbered, IsRightlyTold, LacksRoom}
 use Rattle.msc_html.specs.Progress.{judged, GoesOn, HasTold, ShowsIn}
-use Rattle.msc_html.specs.Progress.GoesOn.{draws, lacks, left}
+use Rattle.msc_html.specs.Progress.GoesOn.{draws, causes, left}
 
 -- numbering goes on
 numbered_more : (k : ℕ) (articles : List Article) (a : Article) → AreNumbered k articles
@@ -45,7 +45,7 @@ at_end (x ∷ xs) a b (suc k) at = elim (at_end xs a b k at) [
   | inr end ↦ inr (ap suc end.0, end.1)
 ]
 
-module _ (shows : Told → Scene → Type 0) (many : ℕ) (articles : List Article) (a : Article)
+module _ (shows : ShownRace → Scene → Type 0) (many : ℕ) (articles : List Article) (a : Article)
     (h : AreDrawn shows many articles) where
   -- one more article
   longer : length (articles ++ a ∷ []) ≡ length articles + 1
@@ -83,9 +83,9 @@ module _ (shows : Told → Scene → Type 0) (many : ℕ) (articles : List Artic
       let rows : run_rows a.run ≡ 0 = ap run_rows is in omega (arith, rows_more articles a, rows)
 
   -- there is no room for the run of the next one
-  drawn_lacks : many ≡ length articles → a.run ≡ None
+  drawn_causes : many ≡ length articles → a.run ≡ None
       → LacksRoom shows (1500 - rows_drawn articles) a.told → AreDrawn shows many (articles ++ a ∷ [])
-  drawn_lacks all is lacking = record {
+  drawn_causes all is lacking = record {
     few = omega (arith, all, longer);
     some = λ k b at less. elim (at_end articles b a k at) [
       | inl front ↦ h.some k b front.1 less
@@ -125,14 +125,14 @@ module _ (shows : Told → Scene → Type 0) (many : ℕ) (articles : List Artic
   }
 
 -- what is drawn after one more article
-record Goes (shows : Told → Scene → Type 0) (articles : List Article) (room : ℕ) (full : Bool) : Type 0 where
+record Goes (shows : ShownRace → Scene → Type 0) (articles : List Article) (room : ℕ) (full : Bool) : Type 0 where
   many : ℕ
   drawn : AreDrawn shows many articles
   left_is : room + rows_drawn articles ≡ 1500
   all : full ≡ false → many ≡ length articles
   cut : full ≡ true → many < length articles
 
-goes : (shows : Told → Scene → Type 0) (t : Told) (old new : Progress) (run : Option Scene) (many : ℕ)
+goes : (shows : ShownRace → Scene → Type 0) (t : ShownRace) (old new : Progress) (run : Option Scene) (many : ℕ)
     (articles : List Article) → GoesOn shows t old new run → AreDrawn shows many articles
     → old.room + rows_drawn articles ≡ 1500 → (old.full ≡ false → many ≡ length articles)
     → (old.full ≡ true → many < length articles)
@@ -149,7 +149,7 @@ goes shows t old new (Some run) many articles (draws s open_is right fits room f
       all = λ f. omega (arith, here, long);
       cut = λ f. absurd (true≢false (sym f ∙ full));
     }
-goes shows t old new None many articles (lacks s open_is right wide room full) h left_is all cut =
+goes shows t old new None many articles (causes s open_is right wide room full) h left_is all cut =
     let a = article t None in
     let here = all open_is in
     let long = longer shows many articles a h in
@@ -157,7 +157,7 @@ goes shows t old new None many articles (lacks s open_is right wide room full) h
     let wider : 1500 - rows_drawn articles < length s.rows = omega (arith, left_is, wide) in
     record {
       many = many;
-      drawn = drawn_lacks shows many articles a h here refl (record { scene = s; right = right; wide = wider });
+      drawn = drawn_causes shows many articles a h here refl (record { scene = s; right = right; wide = wider });
       left_is = omega (arith, same, left_is, room);
       all = λ f. absurd (true≢false (sym full ∙ f));
       cut = λ f. omega (arith, here, long);
@@ -198,7 +198,7 @@ races_more races race articles a are is few =
 
 -- one more race is told
 pub one_more : (source : Source) (base page next : List ℕ) (races : List (ℕ × ℕ)) (race : ℕ × ℕ)
-    (p q new : Progress) (t : Told) (run : Option Scene) → HasTold source base page races p
+    (p q new : Progress) (t : ShownRace) (run : Option Scene) → HasTold source base page races p
     → p.told < 50 → GoesOn (ShowsIn source) t p q run → new.told ≡ p.told + 1 → new.room ≡ q.room
     → new.full ≡ q.full → t.number ≡ p.told + 1 → (t.first, t.second) ≡ race
     → IsRightlyTold (wiring_of (judged source)) (article t run)

@@ -3,7 +3,7 @@ use Rattle.std.proofs.Common.{◌≡◌, ◌<◌, ℕ, zero, suc, List, [], ◌�
 use Rattle.std.specs.List.{flat_map, range_with_len}
 use Rattle.msc_picture.specs.declared.scene.Scene.{Scene}
 use Rattle.msc_svg.specs.declared.layout.Layout.{Layout}
-use Rattle.msc_svg.specs.Elements.{arrow_node, instance_nodes, mark_nodes, picture_nodes, upper_nodes}
+use Rattle.msc_svg.specs.Elements.{arrow_node, instance_nodes, bar_nodes, picture_nodes, upper_nodes}
 use Rattle.msc_html.specs.Reports.{main_nodes, Report}
 use Rattle.msc_tree.specs.Trees.{Node}
 
@@ -16,7 +16,7 @@ pub record HasFirst (nodes : List Node) : Type 0 where
 -- the elements, by the number of instances
 by_number : Scene → Layout → ℕ → List Node
 by_number s l n =
-    (((flat_map (instance_nodes s l) (range_with_len 0 n) ++ flat_map (mark_nodes s l) s.marks)
+    (((flat_map (instance_nodes s l) (range_with_len 0 n) ++ flat_map (bar_nodes s l) s.bars)
     ++ map (arrow_node s l) s.arrows) ++ upper_nodes s l)
 
 -- what stands behind the first item
@@ -44,10 +44,10 @@ instances_first s l (suc n) some =
 pub picture_first : (s : Scene) (l : Layout) → 0 < length s.heads → HasFirst (picture_nodes s l [])
 picture_first s l some =
     let instances = flat_map (instance_nodes s l) (range_with_len 0 (length s.heads)) in
-    let marks = flat_map (mark_nodes s l) s.marks in
+    let bars = flat_map (bar_nodes s l) s.bars in
     let arrows = map (arrow_node s l) s.arrows in
-    joined ((instances ++ marks) ++ arrows) (upper_nodes s l) (joined (instances ++ marks) arrows
-    (joined instances marks (instances_first s l (length s.heads) some)))
+    joined ((instances ++ bars) ++ arrows) (upper_nodes s l) (joined (instances ++ bars) arrows
+    (joined instances bars (instances_first s l (length s.heads) some)))
 
 -- what a page tells has a first element, its title
 pub main_first : (r : Report) → HasFirst (main_nodes r)

@@ -18,8 +18,8 @@ use Rattle.msc_parser.specs.declared.tree.Section.{Section}
 use Rattle.msc_parser.specs.declared.tree.Signal.{Signal}
 use Rattle.msc_parser.specs.declared.tree.Statement.{Statement}
 use Rattle.msc_parser.specs.declared.tree.Statement.TheVariants as statements
-use Rattle.msc_parser.specs.declared.tree.Way.{Way}
-use Rattle.msc_parser.specs.declared.tree.Way.TheVariants.{Output, Input}
+use Rattle.msc_parser.specs.declared.tree.Direction.{Direction}
+use Rattle.msc_parser.specs.declared.tree.Direction.TheVariants.{Output, Input}
 use Rattle.msc_picture.specs.declared.scene.Head.{Head}
 use Rattle.msc_picture.specs.Plain.{HasPlainNames, IsPlain, is_plain, is_plain_byte}
 use Rattle.msc_picture.specs.Scenes.{head_of, kind_text, message_text, next_name, number_text}
@@ -72,12 +72,12 @@ IsNamedAct (Action text) = IsPlain []
 abbrev IsNamedEvent : DraftEvent → Type 0
 IsNamedEvent e = IsNamedAct e.act
 
-end_named : (way : Way) (own : List ℕ) (s : Signal) → IsSignalNamed s → IsNamedAct (OfMessage (end_by way own s))
+end_named : (way : Direction) (own : List ℕ) (s : Signal) → IsSignalNamed s → IsNamedAct (OfMessage (end_by way own s))
 end_named Output own s is = (is.name, is.number)
 end_named Input own s is = (is.name, is.number)
 
 statement_named : (line : ℕ) (own : List ℕ) (segment : ℕ) (s : Statement) → IsStatementNamed s → IsNamedEvent (drawn line own segment s)
-statement_named line own segment (statements.Message s) is = end_named s.way own s is
+statement_named line own segment (statements.Message s) is = end_named s.direction own s is
 statement_named line own segment (statements.Action text) is = plain_by [] refl
 
 coregion_named : (line : ℕ) (own : List ℕ) (segment : ℕ) (ss : List Statement) → AllByRecursion IsStatementNamed ss

@@ -7,11 +7,11 @@ use Rattle.msc_chart.specs.Architectures.{queues_word}
 use Rattle.msc_chart.specs.Drawings.{chart_of}
 use Rattle.msc_chart.specs.Lists.{StandsAt}
 use Rattle.msc_chart.specs.declared.queue.Queues.{Queues}
-use Rattle.msc_draw.specs.Forms.{text_in}
+use Rattle.msc_draw.specs.PictureFormats.{text_in}
 use Rattle.msc_draw.specs.Pictures.{PrintsPicture, PrintsReversal}
 use Rattle.msc_draw.specs.Verdicts.{reversal_text}
-use Rattle.msc_draw.specs.declared.form.Form.{Form}
-use Rattle.msc_draw.specs.declared.form.Form.TheVariants.{Text, Svg}
+use Rattle.msc_draw.specs.declared.picture_format.PictureFormat.{PictureFormat}
+use Rattle.msc_draw.specs.declared.picture_format.PictureFormat.TheVariants.{Text, Svg}
 use Rattle.msc_parser.specs.Canonical.{canonical}
 use Rattle.msc_parser.specs.Drafts.{IsDraft}
 use Rattle.msc_parser.specs.Grammar.{Tree}
@@ -48,12 +48,12 @@ module _ (texts : TextsOfPicturesArePlain) (pictures : PicturesArePlain) (svgs :
   scene_plain : (s : Scene) → IsPopulated draft (chart_of draft) s → HasPlainTexts s
   scene_plain s shows = texts draft (chart_of draft) s (names_plain draft is) shows
 
-  form_plain : (form : Form) (s : Scene) (more : List ℕ) → IsPopulated draft (chart_of draft) s → IsPlain more → IsPlain (text_in form s more)
+  form_plain : (form : PictureFormat) (s : Scene) (more : List ℕ) → IsPopulated draft (chart_of draft) s → IsPlain more → IsPlain (text_in form s more)
   form_plain Text s more shows over = pictures s (scene_plain s shows)
   form_plain Svg s more shows over = svgs s more (scene_plain s shows) over
 
   -- a picture is plain
-  pub picture_printed : (queues : Option Queues) (form : Form) (printed : List ℕ)
+  pub picture_printed : (queues : Option Queues) (form : PictureFormat) (printed : List ℕ)
       → PrintsPicture draft (chart_of draft) queues form printed → IsPlain printed
   picture_printed None form printed says =
       subst IsPlain (sym says.text) (form_plain form says.scene [] says.right.shows (plain_by [] refl))
@@ -61,7 +61,7 @@ module _ (texts : TextsOfPicturesArePlain) (pictures : PicturesArePlain) (svgs :
       subst IsPlain (sym says.text) (form_plain form says.scene _ says.right.shows (over_plain queues _ _))
 
   -- and so is one of a run
-  pub reversal_printed : (queues : Queues) (form : Form) (e f : ℕ) (printed : List ℕ)
+  pub reversal_printed : (queues : Queues) (form : PictureFormat) (e f : ℕ) (printed : List ℕ)
       → PrintsReversal draft (chart_of draft) queues form e f printed → IsPlain printed
   reversal_printed queues form e f printed says =
       subst IsPlain (sym says.run.text) (form_plain form says.run.scene _ says.run.shows (run_over_plain queues e f))

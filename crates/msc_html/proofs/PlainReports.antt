@@ -16,15 +16,15 @@ use Rattle.msc_svg.proofs.PlainSvg.{elements_plain, size_plain, tip_plain}
 use Rattle.msc_svg.proofs.PlainTrees.{PlainAttributes, PlainLines, PlainNode, block_plain, both_plain, choice_lines, class_plain, empty_plain, held_plain, join_lines, line_plain, more_plain, next_line, no_lines, none_plain, opened_plain, valued_plain}
 use Rattle.msc_tree.specs.Trees.{Attribute, Node, children, opened}
 use Rattle.msc_tree.specs.Trees.Node.{block}
-use Rattle.msc_html.specs.declared.article.Told.{Told}
-use Rattle.msc_html.specs.declared.part.Look.TheVariants.{Plain, Soft, Verdict, Pass, Scrolled}
+use Rattle.msc_html.specs.declared.article.ShownRace.{ShownRace}
+use Rattle.msc_html.specs.declared.part.SentenceStyle.TheVariants.{Plain, Soft, Verdict, Pass, Scrolled}
 use Rattle.msc_html.specs.Articles.{Article, article_node, open_attributes, place_text, run_node, run_text, run_told, told_nodes}
 use Rattle.msc_html.specs.Figures.{drawing_attributes, drawing_node, figure_node, figure_of}
 use Rattle.msc_html.specs.Front.{advice_nodes, head_node, named_meta, sheet, store_node}
 use Rattle.msc_html.specs.Parts.{code, words}
 use Rattle.msc_html.specs.Plain.{ArePlainRuns}
 use Rattle.msc_html.specs.Reports.{Report, begin_nodes, body_node, caption_text, chart_node, chart_nodes, checked_text, count_text, counted_nodes, end_nodes, front_nodes, if_any, main_nodes, more_node, more_nodes, passed_nodes, queues_text, race_text, races_nodes, races_title, report_node, report_text, shown_node, text_byte, title_text, verdict_nodes, version_node}
-use Rattle.msc_html.proofs.PlainSentences.{drawn_plain, lacks_plain, next_part, no_parts, one_part, queues_plain, reason_plain, sentence_plain, title_plain}
+use Rattle.msc_html.proofs.PlainSentences.{drawn_plain, causes_plain, next_part, no_parts, one_part, queues_plain, reason_plain, sentence_plain, title_plain}
 
 -- a block, which may be empty
 block_any : (name : List ℕ) (attributes : List Attribute) (xs : List Node) → looks_plain name ≡ true
@@ -59,13 +59,13 @@ figure_plain s label below texts p q =
     (next_line (drawing_node s label) below (drawing_plain s label texts p) q))
 
 -- an article
-run_plain : (t : Told) → is_plain (run_text t) ≡ true
+run_plain : (t : ShownRace) → is_plain (run_text t) ≡ true
 run_plain t =
     plain_join _ (decimal t.first) (plain_join _ (codes " before event ")
     (plain_join (codes "A run with event ") (decimal t.second) (plain_by _ refl)
     (plain_decimal t.second)) (plain_by _ refl)) (plain_decimal t.first)
 
-told_plain : (queues : Queues) (t : Told) → PlainNode (run_told queues t)
+told_plain : (queues : Queues) (t : ShownRace) → PlainNode (run_told queues t)
 told_plain queues t =
     sentence_plain (codes "p") Plain _ refl
     (next_part (words _) _ (plain_join (run_text t) (codes ": ") (run_plain t) (plain_by _ refl))
@@ -79,7 +79,7 @@ attributes_choice : (b : Bool) (xs ys : List Attribute) → PlainAttributes xs �
 attributes_choice true xs ys p q = p
 attributes_choice false xs ys p q = q
 
-run_node_plain : (queues : Queues) (t : Told) (o : Option Scene)
+run_node_plain : (queues : Queues) (t : ShownRace) (o : Option Scene)
     → ((run : Scene) → o ≡ Some run → HasPlainTexts run) → PlainNode (run_node queues t o)
 run_node_plain queues t None texts = told_plain queues t
 run_node_plain queues t (Some run) texts =
@@ -98,11 +98,11 @@ article_plain s queues a texts runs =
     (plain_join (codes "race-") (decimal t.number) (plain_by _ refl) (plain_decimal t.number)))
     none_plain)
     (join_lines (told_nodes s t) (run_node queues t a.run ∷ [])
-    (next_line _ _ (sentence_plain (codes "h3") Plain _ refl (title_plain s texts t.number t.first t.lack))
+    (next_line _ _ (sentence_plain (codes "h3") Plain _ refl (title_plain s texts t.number t.first t.cause))
     (next_line _ _ (sentence_plain (codes "p") Plain _ refl (drawn_plain s texts t.first t.second))
     (next_line _ _ (sentence_plain (codes "p") Plain _ refl
-    (reason_plain s texts t.first t.second t.lack))
-    (next_line _ [] (sentence_plain (codes "p") Plain _ refl (lacks_plain s texts t.lack)) no_lines))))
+    (reason_plain s texts t.first t.second t.cause))
+    (next_line _ [] (sentence_plain (codes "p") Plain _ refl (causes_plain s texts t.cause)) no_lines))))
     (next_line _ [] (run_node_plain queues t a.run runs) no_lines))
 
 articles_plain : (s : Scene) (queues : Queues) (articles : List Article) → HasPlainTexts s

@@ -13,19 +13,19 @@ use Rattle.msc_picture.specs.declared.scene.Spot.{Spot}
 use Rattle.msc_picture.specs.Columns.{short_text}
 use Rattle.msc_picture.specs.Plain.{HasPlainTexts, IsPlainAct, is_plain}
 use Rattle.msc_picture.proofs.PlainBytes.{looks_plain, plain_by, plain_choice, plain_decimal, plain_join, plain_take}
-use Rattle.msc_reason.specs.declared.lack.Lack.{Lack}
-use Rattle.msc_reason.specs.declared.lack.RaceKind.{RaceKind}
-use Rattle.msc_reason.specs.declared.lack.RaceKind.TheVariants.{Early, Queues as TwoQueues, Unordered, Overtaken}
-use Rattle.msc_reason.specs.Lacks.{kind_word}
+use Rattle.msc_reason.specs.declared.cause.Cause.{Cause}
+use Rattle.msc_reason.specs.declared.cause.RaceKind.{RaceKind}
+use Rattle.msc_reason.specs.declared.cause.RaceKind.TheVariants.{Early, Queues as TwoQueues, Unordered, Overtaken}
+use Rattle.msc_reason.specs.Causes.{kind_word}
 use Rattle.msc_svg.proofs.PlainTrees.{PlainAttributes, PlainNode, class_plain, closed_plain, empty_plain, holding_plain, more_plain, none_plain, opened_plain, plain_escaped, valued_plain}
 use Rattle.msc_tree.specs.Trees.{children, closed, node_text, nodes_text, opened}
-use Rattle.msc_html.specs.declared.part.Look.{Look}
-use Rattle.msc_html.specs.declared.part.Look.TheVariants.{Plain, Soft, Verdict, Pass, Scrolled}
+use Rattle.msc_html.specs.declared.part.SentenceStyle.{SentenceStyle}
+use Rattle.msc_html.specs.declared.part.SentenceStyle.TheVariants.{Plain, Soft, Verdict, Pass, Scrolled}
 use Rattle.msc_html.specs.declared.part.Part.{Part}
 use Rattle.msc_html.specs.declared.part.Tag.{Tag}
 use Rattle.msc_html.specs.declared.part.Tag.TheVariants.{Words, Code, Number}
-use Rattle.msc_html.specs.Parts.{code, look_attributes, part_node, sentence, tagged, words}
-use Rattle.msc_html.specs.Telling.{act_done, act_label, act_other, act_text, action_text, can_parts, done, drawn_parts, event_text, helping_parts, home, hopeless_parts, label, label_at, label_of, lacks_parts, name_at, number_words, often_text, order_text, other, reason_parts, sender_at, sender_of, spot_done, spot_home, spot_label, spot_other, spot_text, taker_at, taker_of, title_parts, two_parts, way_text}
+use Rattle.msc_html.specs.Parts.{code, style_attributes, part_node, sentence, tagged, words}
+use Rattle.msc_html.specs.Telling.{act_done, act_label, act_other, act_text, action_text, can_parts, done, drawn_parts, event_text, helping_parts, home, hopeless_parts, label, label_at, label_of, causes_parts, name_at, number_words, often_text, order_text, other, reason_parts, sender_at, sender_of, spot_done, spot_home, spot_label, spot_other, spot_text, taker_at, taker_of, title_parts, two_parts, way_text}
 
 -- each of several parts
 unfoldable pub AreParts : List Part → Type 0
@@ -67,24 +67,24 @@ parts_plain (x ∷ xs) p =
     plain_join (node_text (part_node x)) (nodes_text (children (map part_node xs)))
     (tagged_plain x.tag x.text p.0) (parts_plain xs p.1)
 
-look_plain : (look : Look) → PlainAttributes (look_attributes look)
-look_plain Plain = none_plain
-look_plain Soft = more_plain _ [] (class_plain (codes "soft") (plain_by _ refl)) none_plain
-look_plain Verdict = more_plain _ [] (class_plain (codes "verdict") (plain_by _ refl)) none_plain
-look_plain Pass = more_plain _ [] (class_plain (codes "verdict pass") (plain_by _ refl)) none_plain
-look_plain Scrolled =
+style_plain : (style : SentenceStyle) → PlainAttributes (style_attributes style)
+style_plain Plain = none_plain
+style_plain Soft = more_plain _ [] (class_plain (codes "soft") (plain_by _ refl)) none_plain
+style_plain Verdict = more_plain _ [] (class_plain (codes "verdict") (plain_by _ refl)) none_plain
+style_plain Pass = more_plain _ [] (class_plain (codes "verdict pass") (plain_by _ refl)) none_plain
+style_plain Scrolled =
     more_plain _ [] (valued_plain (codes "tabindex") (codes "0") refl (plain_by _ refl)) none_plain
 
 -- a sentence
-pub sentence_plain : (name : List ℕ) (look : Look) (parts : List Part) → looks_plain name ≡ true
-    → AreParts parts → PlainNode (sentence name look parts)
+pub sentence_plain : (name : List ℕ) (style : SentenceStyle) (parts : List Part) → looks_plain name ≡ true
+    → AreParts parts → PlainNode (sentence name style parts)
 unfolding PlainNode AreParts
-sentence_plain name look [] p q = empty_plain name (look_attributes look) p (look_plain look)
-sentence_plain name look (x ∷ xs) p q =
+sentence_plain name style [] p q = empty_plain name (style_attributes style) p (style_plain style)
+sentence_plain name style (x ∷ xs) p q =
     plain_join _ (closed name)
-    (plain_join (opened name (look_attributes look) ++ codes ">") _
-    (plain_join (opened name (look_attributes look)) (codes ">")
-    (opened_plain name (look_attributes look) p (look_plain look)) (plain_by _ refl))
+    (plain_join (opened name (style_attributes style) ++ codes ">") _
+    (plain_join (opened name (style_attributes style)) (codes ">")
+    (opened_plain name (style_attributes style) p (style_plain style)) (plain_by _ refl))
     (plain_join (node_text (part_node x)) (nodes_text (children (map part_node xs)))
     (tagged_plain x.tag x.text q.0) (parts_plain xs q.1))) (closed_plain name p)
 
@@ -202,11 +202,11 @@ module _ (s : Scene) (texts : HasPlainTexts s) where
   kind_plain Unordered = plain_by _ refl
   kind_plain Overtaken = plain_by _ refl
 
-  pub title_plain : (k e : ℕ) (lack : Lack) → AreParts (title_parts s k e lack)
-  title_plain k e lack =
-      (next_part _ _ (plain_by _ refl) (next_part _ _ (plain_decimal k) (next_part _ _ (plain_by _ refl) (next_part _ _ (home_of_event e) (next_part _ _ (plain_join _ (codes ")") (plain_join _ _ (plain_join (codes " (") (kind_word lack.kind)
-      (plain_by _ refl) (kind_plain lack.kind))
-      (plain_choice lack.always (codes ", always") [] (plain_by _ refl) (plain_by [] refl)))
+  pub title_plain : (k e : ℕ) (cause : Cause) → AreParts (title_parts s k e cause)
+  title_plain k e cause =
+      (next_part _ _ (plain_by _ refl) (next_part _ _ (plain_decimal k) (next_part _ _ (plain_by _ refl) (next_part _ _ (home_of_event e) (next_part _ _ (plain_join _ (codes ")") (plain_join _ _ (plain_join (codes " (") (kind_word cause.kind)
+      (plain_by _ refl) (kind_plain cause.kind))
+      (plain_choice cause.always (codes ", always") [] (plain_by _ refl) (plain_by [] refl)))
       (plain_by _ refl)) no_parts)))))
 
   pub drawn_plain : (e f : ℕ) → AreParts (drawn_parts s e f)
@@ -224,11 +224,11 @@ module _ (s : Scene) (texts : HasPlainTexts s) where
   can_plain e f Unordered = two_plain e f (way_text Unordered) (plain_by _ refl)
   can_plain e f Overtaken = two_plain e f (way_text Overtaken) (plain_by _ refl)
 
-  pub reason_plain : (e f : ℕ) (lack : Lack) → AreParts (reason_parts s e f lack)
-  reason_plain e f lack =
-      parts_join (can_parts s e f lack.kind) _ (can_plain e f lack.kind)
-      (one_part (often_text lack.always)
-      (plain_choice lack.always _ _ (plain_by _ refl) (plain_by _ refl)))
+  pub reason_plain : (e f : ℕ) (cause : Cause) → AreParts (reason_parts s e f cause)
+  reason_plain e f cause =
+      parts_join (can_parts s e f cause.kind) _ (can_plain e f cause.kind)
+      (one_part (often_text cause.always)
+      (plain_choice cause.always _ _ (plain_by _ refl) (plain_by _ refl)))
 
   -- that one event sends a message, between words
   sent_plain : (o : ℕ) (before sends to after : List ℕ) → is_plain before ≡ true
@@ -238,11 +238,11 @@ module _ (s : Scene) (texts : HasPlainTexts s) where
   sent_plain o before sends to after p q r t =
       (next_part _ _ p (next_part _ _ (home_of_event o) (next_part _ _ q (next_part _ _ (label_of_event o) (next_part _ _ r (next_part _ _ (other_of_event o) (next_part _ _ t no_parts)))))))
 
-  pub lacks_plain : (lack : Lack) → AreParts (lacks_parts s lack)
-  lacks_plain lack =
-      let p = lack.needed in
-      let o = lack.output in
-      parts_choice lack.always (hopeless_parts s p o) (helping_parts s p o)
+  pub causes_plain : (cause : Cause) → AreParts (causes_parts s cause)
+  causes_plain cause =
+      let p = cause.needed in
+      let o = cause.output in
+      parts_choice cause.always (hopeless_parts s p o) (helping_parts s p o)
       (parts_join _ _ (parts_join _ (done s p)
       (sent_plain o (codes "In every run ") (codes " sends ") (codes " to ") (codes " before ")
       (plain_by _ refl) (plain_by _ refl) (plain_by _ refl) (plain_by _ refl)) (done_of_event p))

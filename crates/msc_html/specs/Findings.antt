@@ -14,13 +14,13 @@ use Rattle.msc_race.specs.Reversals.{IsReversingRun}
 use Rattle.msc_race.specs.Views.{races_of}
 use Rattle.msc_race.specs.Wired.{enforced_chart, IsEnforced}
 use Rattle.msc_reason.specs.Closest.{IsClosestList}
-use Rattle.msc_reason.specs.Lacks.{IsLackOf}
-use Rattle.msc_html.specs.declared.article.Told.{Told}
+use Rattle.msc_reason.specs.Causes.{IsCauseOf}
+use Rattle.msc_html.specs.declared.article.ShownRace.{ShownRace}
 use Rattle.msc_html.specs.Articles.{Article}
 use Rattle.msc_html.specs.Reports.{report, report_text}
 
--- the picture is that of a run of a draft's chart under an architecture that has f before e, with a mark
--- of the two under this number
+-- the picture is that of a run of a draft's chart under an architecture that has f before e, with a
+-- mark of the two under this number
 pub record ShowsRun (draft : Tree) (d : Drawing) (queues : Queues) (e f number : ℕ) (s : Scene) : Type 0 where
   pub run : List ℕ
   pub reverses : IsReversingRun (wired queues d) e f run
@@ -33,7 +33,7 @@ race_of a = (a.told.first, a.told.second)
 
 -- why the race of an article is one is told
 abbrev pub IsRightlyTold : WiredChart → Article → Type 0
-IsRightlyTold chart a = IsLackOf chart a.told.first a.told.second a.told.lack
+IsRightlyTold chart a = IsCauseOf chart a.told.first a.told.second a.told.cause
 
 -- articles are numbered in their order, from this number on
 abbrev pub AreNumbered : ℕ → List Article → Type 0
@@ -50,14 +50,14 @@ abbrev pub rows_drawn : List Article → ℕ
 rows_drawn articles = fold (λ sum a. sum + run_rows a.run) 0 articles
 
 -- the run of a race is not drawn, since it has more rows than there is room left
-pub record LacksRoom (shows : Told → Scene → Type 0) (room : ℕ) (t : Told) : Type 0 where
+pub record LacksRoom (shows : ShownRace → Scene → Type 0) (room : ℕ) (t : ShownRace) : Type 0 where
   pub scene : Scene
   pub right : shows t scene
   pub wide : room < length scene.rows
 
--- The runs of so many articles are drawn, and of no later ones, in the room of 1500 rows; and there is no
--- room for that of the next one.
-pub record AreDrawn (shows : Told → Scene → Type 0) (many : ℕ) (articles : List Article) : Type 0 where
+-- The runs of so many articles are drawn, and of no later ones, in the room of 1500 rows; and there
+-- is no room for that of the next one.
+pub record AreDrawn (shows : ShownRace → Scene → Type 0) (many : ℕ) (articles : List Article) : Type 0 where
   pub few : many ≤ length articles
   pub some : (k : ℕ) (a : Article) → StandsAt articles k a → k < many → (s : Scene) × (a.run ≡ Some s) × shows a.told s
   pub none : (k : ℕ) (a : Article) → StandsAt articles k a → many ≤ k → a.run ≡ None
@@ -65,7 +65,7 @@ pub record AreDrawn (shows : Told → Scene → Type 0) (many : ℕ) (articles :
   pub longest : (a : Article) → StandsAt articles many a → LacksRoom shows (1500 - rows_drawn articles) a.told
 
 -- the picture shows a run that reverses a race that is told
-abbrev pub ShowsIts : Tree → Drawing → Queues → Told → Scene → Type 0
+abbrev pub ShowsIts : Tree → Drawing → Queues → ShownRace → Scene → Type 0
 ShowsIts draft d queues t s = ShowsRun draft d queues t.first t.second t.number s
 
 -- the articles are those of the first 50 of these races, in their order
@@ -75,7 +75,8 @@ pub record AreArticles (draft : Tree) (d : Drawing) (queues : Queues) (races : L
   pub told : All (IsRightlyTold (wired queues d)) articles
   pub drawn : AreDrawn (ShowsIts draft d queues) many articles
 
--- what is printed as the report of a draft's chart under an architecture, by a program of this version
+-- what is printed as the report of a draft's chart under an architecture, by a program of this
+-- version
 pub record PrintsReport (draft : Tree) (d : Drawing) (queues : Queues) (version : List ℕ) (printed : List ℕ) : Type 0 where
   pub order : Table
   pub by_order : IsEnforced (enforced_chart d queues order)

@@ -1,6 +1,6 @@
 -- What stands on a report's page whatever its chart is.
 use Rattle.std.specs.Prelude.{ℕ, List, [], ◌∷◌, ◌++◌, codes}
-use Rattle.msc_html.specs.declared.part.Look.TheVariants.{Plain}
+use Rattle.msc_html.specs.declared.part.SentenceStyle.TheVariants.{Plain}
 use Rattle.msc_html.specs.Parts.{code, sentence, words}
 use Rattle.msc_svg.specs.Svg.{tip}
 use Rattle.msc_tree.specs.Shapes.{class, plain, valued}

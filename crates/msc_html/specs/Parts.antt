@@ -1,8 +1,8 @@
 -- Sentences: words, names and labels as code, and numbers of races.
 use Rattle.std.specs.Prelude.{ℕ, List, [], ◌∷◌, codes, map}
 use Rattle.std.specs.List.{flat_map}
-use Rattle.msc_html.specs.declared.part.Look.{Look}
-use Rattle.msc_html.specs.declared.part.Look.TheVariants.{Plain, Soft, Verdict, Pass, Scrolled}
+use Rattle.msc_html.specs.declared.part.SentenceStyle.{SentenceStyle}
+use Rattle.msc_html.specs.declared.part.SentenceStyle.TheVariants.{Plain, Soft, Verdict, Pass, Scrolled}
 use Rattle.msc_html.specs.declared.part.Part.{Part}
 use Rattle.msc_html.specs.declared.part.Tag.{Tag}
 use Rattle.msc_html.specs.declared.part.Tag.TheVariants.{Words, Code, Number}
@@ -44,13 +44,13 @@ abbrev pub parts_text : List Part → List ℕ
 parts_text parts = flat_map part_text parts
 
 -- the attributes of a look
-abbrev pub look_attributes : Look → List Attribute
-look_attributes Plain = []
-look_attributes Soft = class (codes "soft") ∷ []
-look_attributes Verdict = class (codes "verdict") ∷ []
-look_attributes Pass = class (codes "verdict pass") ∷ []
-look_attributes Scrolled = valued (codes "tabindex") (codes "0") ∷ []
+abbrev pub style_attributes : SentenceStyle → List Attribute
+style_attributes Plain = []
+style_attributes Soft = class (codes "soft") ∷ []
+style_attributes Verdict = class (codes "verdict") ∷ []
+style_attributes Pass = class (codes "verdict pass") ∷ []
+style_attributes Scrolled = valued (codes "tabindex") (codes "0") ∷ []
 
 -- a sentence in an element of this name
-abbrev pub sentence : List ℕ → Look → List Part → Node
-sentence name look parts = inline name (look_attributes look) (children (map part_node parts))
+abbrev pub sentence : List ℕ → SentenceStyle → List Part → Node
+sentence name style parts = inline name (style_attributes style) (children (map part_node parts))

@@ -3,7 +3,7 @@ use Rattle.std.specs.Prelude.{◌≡◌, ℕ, List, [], ◌∷◌, Option, Some}
 use Rattle.msc_chart.specs.Drawings.{chart_of}
 use Rattle.msc_chart.specs.declared.queue.Queues.{Queues}
 use Rattle.msc_draw.specs.Pictures.{PrintsPicture, PrintsReversal}
-use Rattle.msc_draw.specs.declared.form.Form.{Form}
+use Rattle.msc_draw.specs.declared.picture_format.PictureFormat.{PictureFormat}
 use Rattle.msc_parser.specs.Drafts.{IsDraft}
 use Rattle.msc_parser.specs.Grammar.{Tree}
 use Rattle.msc_picture.specs.declared.scene.Scene.{Scene}
@@ -27,13 +27,13 @@ ReportsArePlain =
 -- a picture of a draft's chart is plain
 abbrev pub PrintedPicturesArePlain : Type 0
 PrintedPicturesArePlain =
-    (draft : Tree) → IsDraft draft → (queues : Option Queues) (form : Form) (printed : List ℕ)
+    (draft : Tree) → IsDraft draft → (queues : Option Queues) (form : PictureFormat) (printed : List ℕ)
     → PrintsPicture draft (chart_of draft) queues form printed → IsPlain printed
 
 -- and so is one of a run that reverses a race
 abbrev pub PrintedReversalsArePlain : Type 0
 PrintedReversalsArePlain =
-    (draft : Tree) → IsDraft draft → (queues : Queues) (form : Form) (e f : ℕ) (printed : List ℕ)
+    (draft : Tree) → IsDraft draft → (queues : Queues) (form : PictureFormat) (e f : ℕ) (printed : List ℕ)
     → PrintsReversal draft (chart_of draft) queues form e f printed → IsPlain printed
 
 -- and a report, where the version is

@@ -5,7 +5,7 @@ use Rattle.msc_parser.specs.Grammar.{Tree}
 use Rattle.msc_picture.specs.declared.scene.Scene.{Scene}
 use Rattle.msc_race.specs.Wired.{EnforcedChart}
 use Rattle.msc_tree.specs.Trees.{line_text, lines_text}
-use Rattle.msc_html.specs.declared.article.Told.{Told}
+use Rattle.msc_html.specs.declared.article.ShownRace.{ShownRace}
 use Rattle.msc_html.specs.declared.races.Progress.{Progress}
 use Rattle.msc_html.specs.declared.races.Source.{Source}
 use Rattle.msc_draw.specs.Listed.{listed_of}
@@ -25,15 +25,15 @@ abbrev pub IsOfDraft : Source → Type 0
 IsOfDraft source = (judged source).chart ≡ chart_of source.draft.now
 
 -- the picture shows a run that reverses a race
-abbrev pub ShowsIn : Source → Told → Scene → Type 0
+abbrev pub ShowsIn : Source → ShownRace → Scene → Type 0
 ShowsIn source = ShowsIts source.draft.now (judged source).chart (judged source).queues
 
--- How the picture of a run is drawn or not: it is drawn where there is room for it, and where every one
--- before it is.
-pub data GoesOn (shows : Told → Scene → Type 0) (t : Told) (old new : Progress) : Option Scene → Type 0 where
+-- How the picture of a run is drawn or not: it is drawn where there is room for it, and where every
+-- one before it is.
+pub data GoesOn (shows : ShownRace → Scene → Type 0) (t : ShownRace) (old new : Progress) : Option Scene → Type 0 where
   draws : (s : Scene) → old.full ≡ false → shows t s → length s.rows ≤ old.room
       → new.room ≡ old.room - length s.rows → new.full ≡ false → GoesOn shows t old new (Some s)
-  lacks : (s : Scene) → old.full ≡ false → shows t s → old.room < length s.rows
+  causes : (s : Scene) → old.full ≡ false → shows t s → old.room < length s.rows
       → new.room ≡ old.room → new.full ≡ true → GoesOn shows t old new None
   left : old.full ≡ true → new.room ≡ old.room → new.full ≡ true → GoesOn shows t old new None
 

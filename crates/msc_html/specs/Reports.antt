@@ -7,7 +7,7 @@ use Rattle.msc_chart.specs.declared.queue.Queues.TheVariants.{Pair, Mailbox, Sin
 use Rattle.msc_draw.specs.Verdicts.{verdict_text}
 use Rattle.msc_picture.specs.declared.scene.Scene.{Scene}
 use Rattle.msc_picture.specs.Scenes.{shown_byte}
-use Rattle.msc_html.specs.declared.part.Look.TheVariants.{Plain, Soft, Verdict, Pass, Scrolled}
+use Rattle.msc_html.specs.declared.part.SentenceStyle.TheVariants.{Plain, Soft, Verdict, Pass, Scrolled}
 use Rattle.msc_html.specs.Articles.{Article, article_node}
 use Rattle.msc_html.specs.Figures.{caption_nodes, figure_of}
 use Rattle.msc_html.specs.Front.{advice_nodes, head_node, store_node}
@@ -16,9 +16,9 @@ use Rattle.msc_tree.specs.Shapes.{plain, valued}
 use Rattle.msc_tree.specs.Trees.{Node, children, line_text}
 use Rattle.msc_tree.specs.Trees.Node.{block}
 
--- What a report tells: the architecture, how many races there are and how many of them are closest, the
--- picture of the chart, the races that are told one by one, the canonical text, and the version of the
--- program.
+-- What a report tells: the architecture, how many races there are and how many of them are closest,
+-- the picture of the chart, the races that are told one by one, the canonical text, and the version
+-- of the program.
 pub record Report : Type 0 where
   pub queues : Queues
   pub races : ℕ

@@ -1,10 +1,10 @@
 -- What is told of a race, in the names and labels of a picture.
 use Rattle.std.specs.Prelude.{ℕ, Bool, cond, List, [], ◌∷◌, ◌++◌, Option, None, Some, codes, get_or, slice_get}
 use Rattle.std.specs.Fmt.{decimal}
-use Rattle.msc_reason.specs.declared.lack.Lack.{Lack}
-use Rattle.msc_reason.specs.declared.lack.RaceKind.{RaceKind}
-use Rattle.msc_reason.specs.declared.lack.RaceKind.TheVariants.{Early, Queues, Unordered, Overtaken}
-use Rattle.msc_reason.specs.Lacks.{kind_word}
+use Rattle.msc_reason.specs.declared.cause.Cause.{Cause}
+use Rattle.msc_reason.specs.declared.cause.RaceKind.{RaceKind}
+use Rattle.msc_reason.specs.declared.cause.RaceKind.TheVariants.{Early, Queues, Unordered, Overtaken}
+use Rattle.msc_reason.specs.Causes.{kind_word}
 use Rattle.msc_picture.specs.declared.scene.Act.{Act}
 use Rattle.msc_picture.specs.declared.scene.Act.TheVariants.{Sends, Takes, Does}
 use Rattle.msc_picture.specs.declared.scene.Arrow.{Arrow}
@@ -98,8 +98,8 @@ abbrev pub spot_done : Scene → Option Spot → List Part
 spot_done s None = []
 spot_done s (Some spot) = act_done s (name_at s spot.instance) spot.act
 
--- event e; the label of its message; the name at the other end of that; the name of its instance; that
--- it has occurred
+-- event e; the label of its message; the name at the other end of that; the name of its instance;
+-- that it has occurred
 abbrev pub event_text : Scene → ℕ → List ℕ
 event_text s e = spot_text s (slice_get s.spots e)
 
@@ -116,15 +116,15 @@ abbrev pub done : Scene → ℕ → List Part
 done s e = spot_done s (slice_get s.spots e)
 
 -- a race's kind, and whether it is always reversed
-abbrev pub kind_text : Lack → List ℕ
-kind_text lack =
-    ((codes " (" ++ kind_word lack.kind) ++ cond lack.always (codes ", always") []) ++ codes ")"
+abbrev pub kind_text : Cause → List ℕ
+kind_text cause =
+    ((codes " (" ++ kind_word cause.kind) ++ cond cause.always (codes ", always") []) ++ codes ")"
 
 -- what stands above what is told of race k from event e
-abbrev pub title_parts : Scene → ℕ → ℕ → Lack → List Part
-title_parts s k e lack =
+abbrev pub title_parts : Scene → ℕ → ℕ → Cause → List Part
+title_parts s k e cause =
     words (codes "Race ") ∷ part_of Number (decimal k) ∷ words (codes " on ") ∷ code (home s e)
-    ∷ words (kind_text lack) ∷ []
+    ∷ words (kind_text cause) ∷ []
 
 -- the number of an event behind it
 abbrev pub number_words : ℕ → List ℕ → List ℕ
@@ -171,8 +171,8 @@ often_text always =
     (codes ". Some runs keep the drawn order, others reverse it.")
 
 -- why it can, and how often it does
-abbrev pub reason_parts : Scene → ℕ → ℕ → Lack → List Part
-reason_parts s e f lack = can_parts s e f lack.kind ++ words (often_text lack.always) ∷ []
+abbrev pub reason_parts : Scene → ℕ → ℕ → Cause → List Part
+reason_parts s e f cause = can_parts s e f cause.kind ++ words (often_text cause.always) ∷ []
 
 -- the numbers of two events in this order
 abbrev pub order_text : ℕ → ℕ → List ℕ → List ℕ
@@ -196,7 +196,7 @@ helping_parts s p o =
     ++ words (order_text p o (codes ").")) ∷ []
 
 -- what the race lacks
-abbrev pub lacks_parts : Scene → Lack → List Part
-lacks_parts s lack =
-    cond lack.always (hopeless_parts s lack.needed lack.output)
-    (helping_parts s lack.needed lack.output)
+abbrev pub causes_parts : Scene → Cause → List Part
+causes_parts s cause =
+    cond cause.always (hopeless_parts s cause.needed cause.output)
+    (helping_parts s cause.needed cause.output)

@@ -1,4 +1,4 @@
-//! What is told of one closest race.
+//! The article of one closest race.
 
 ghost use Rattle.std.specs.Prelude.{◌≡◌, ◌++◌, ◌∷◌, [], IfOk, None, OnOk, Some, codes, option_map};
 ghost use Rattle.std.specs.Fmt.{decimal};
@@ -9,25 +9,25 @@ ghost use Rattle.msc_tree.specs.Shapes.{valued};
 ghost use Rattle.msc_tree.specs.Trees.{attribute_text, line_text, lines_text, opened};
 
 use crate::figure::put_figure;
-use crate::part::{Look, Tag, part_of, put_sentence};
-use crate::telling::{drawn_parts, lacks_parts, reason_parts, title_parts};
+use crate::part::{SentenceStyle, Tag, part_of, put_sentence};
+use crate::telling::{causes_parts, drawn_parts, reason_parts, title_parts};
 use msc_chart::{Event, Queues};
 use msc_picture::Scene;
-use msc_reason::Lack;
+use msc_reason::Cause;
 use msc_tree::{put_attribute, put_decimal, put_plain};
 use std::alloc::{AllocError, Global};
 
 /// A closest race: its number among them, from 1, its events, and why it is one.
 #[derive(Clone, Copy)]
-pub struct Told {
+pub struct ShownRace {
     pub number: usize,
     pub first: Event,
     pub second: Event,
-    pub lack: Lack,
+    pub cause: Cause,
 }
 
-/// That a run reverses a race.
-fn run_text(alloc: Global, told: Told) -> Result<Vec<u8>, AllocError>
+/// The sentence that a run reverses a race.
+fn run_text(alloc: Global, told: ShownRace) -> Result<Vec<u8>, AllocError>
     ensures { IfOk result (λ text. text.items ≡ run_text told) }
 {
     let mut text = Vec::from_slice(alloc, b"A run with event ")?;
@@ -38,7 +38,7 @@ fn run_text(alloc: Global, told: Told) -> Result<Vec<u8>, AllocError>
 }
 
 /// The command that draws the run.
-fn reverse_text(alloc: Global, queues: Queues, told: Told) -> Result<Vec<u8>, AllocError>
+fn reverse_text(alloc: Global, queues: Queues, told: ShownRace) -> Result<Vec<u8>, AllocError>
     ensures { IfOk result (λ text. text.items ≡ reverse_text queues told) }
 {
     let mut text = Vec::from_slice(alloc, b"msc reverse --queues ")?;
@@ -50,12 +50,12 @@ fn reverse_text(alloc: Global, queues: Queues, told: Told) -> Result<Vec<u8>, Al
     Ok(text)
 }
 
-/// Puts how to have the run drawn behind a page.
+/// Appends the instructions for drawing the run to a page.
 fn put_run_told(
     page: &mut Vec<u8>,
     alloc: Global,
     queues: Queues,
-    told: Told,
+    told: ShownRace,
 ) -> Result<(), AllocError>
     ensures { OnOk result
         (page.new.items ≡ page.old.items ++ line_text (run_told queues told)) }
@@ -66,12 +66,12 @@ fn put_run_told(
     let mut parts = Vec::new(alloc);
     parts.push(part_of(alloc, Tag::Words, &text)?)?;
     parts.push(part_of(alloc, Tag::Code, &command)?)?;
-    put_sentence(page, b"p", Look::Plain, &parts)?;
+    put_sentence(page, b"p", SentenceStyle::Plain, &parts)?;
     Ok(())
 }
 
-/// Puts the beginning of what can be opened behind a page. The runs of the first three races are
-/// open.
+/// Appends to a page the beginning of an element that can be opened. The runs of the first three
+/// races are open.
 fn put_details_begin(page: &mut Vec<u8>, k: usize) -> Result<(), AllocError>
     ensures { OnOk result (page.new.items ≡ page.old.items
         ++ (opened (codes "details") (open_attributes k) ++ codes ">\n")) }
@@ -82,11 +82,11 @@ fn put_details_begin(page: &mut Vec<u8>, k: usize) -> Result<(), AllocError>
     page.extend_from_slice(b"<details>\n")
 }
 
-/// Puts the picture of a run behind a page.
+/// Appends the picture of a run to a page.
 fn put_run_drawn(
     page: &mut Vec<u8>,
     alloc: Global,
-    told: Told,
+    told: ShownRace,
     run: &Scene,
 ) -> Result<(), AllocError>
     ensures { OnOk result
@@ -100,12 +100,12 @@ fn put_run_drawn(
     Ok(())
 }
 
-/// Puts the run of a race behind a page, which is drawn or not.
+/// Appends the run of a race, which is drawn or not, to a page.
 fn put_run(
     page: &mut Vec<u8>,
     alloc: Global,
     queues: Queues,
-    told: Told,
+    told: ShownRace,
     run: Option<&Scene>,
 ) -> Result<(), AllocError>
     ensures { OnOk result (page.new.items ≡ page.old.items
@@ -117,24 +117,29 @@ fn put_run(
     }
 }
 
-/// Puts what is told of a race in words, by the picture of its chart, behind a page.
-fn put_told(page: &mut Vec<u8>, alloc: Global, scene: &Scene, told: Told) -> Result<(), AllocError>
+/// Appends the words on a race, which use the picture of its chart, to a page.
+fn put_told(
+    page: &mut Vec<u8>,
+    alloc: Global,
+    scene: &Scene,
+    told: ShownRace,
+) -> Result<(), AllocError>
     ensures { OnOk result
         (page.new.items ≡ page.old.items ++ lines_text (told_nodes scene.now told)) }
 {
-    let (e, f, lack) = (told.first, told.second, told.lack);
-    let title = title_parts(alloc, scene, told.number, e, lack)?;
+    let (e, f, cause) = (told.first, told.second, told.cause);
+    let title = title_parts(alloc, scene, told.number, e, cause)?;
     let drawn = drawn_parts(alloc, scene, e, f)?;
-    let reason = reason_parts(alloc, scene, e, f, lack)?;
-    let lacks = lacks_parts(alloc, scene, lack)?;
-    put_sentence(page, b"h3", Look::Plain, &title)?;
-    put_sentence(page, b"p", Look::Plain, &drawn)?;
-    put_sentence(page, b"p", Look::Plain, &reason)?;
-    put_sentence(page, b"p", Look::Plain, &lacks)?;
+    let reason = reason_parts(alloc, scene, e, f, cause)?;
+    let causes = causes_parts(alloc, scene, cause)?;
+    put_sentence(page, b"h3", SentenceStyle::Plain, &title)?;
+    put_sentence(page, b"p", SentenceStyle::Plain, &drawn)?;
+    put_sentence(page, b"p", SentenceStyle::Plain, &reason)?;
+    put_sentence(page, b"p", SentenceStyle::Plain, &causes)?;
     Ok(())
 }
 
-/// Where the article of race `k` is found.
+/// The place of the article of race `k`.
 fn place_text(alloc: Global, k: usize) -> Result<Vec<u8>, AllocError>
     ensures { IfOk result (λ text. text.items ≡ place_text k) }
 {
@@ -143,7 +148,7 @@ fn place_text(alloc: Global, k: usize) -> Result<Vec<u8>, AllocError>
     Ok(text)
 }
 
-/// Puts where the article of race `k` is found behind a page.
+/// Appends the place of the article of race `k` to a page.
 fn put_place(page: &mut Vec<u8>, alloc: Global, k: usize) -> Result<(), AllocError>
     ensures { OnOk result (page.new.items
         ≡ page.old.items ++ attribute_text (valued (codes "id") (place_text k))) }
@@ -152,7 +157,7 @@ fn put_place(page: &mut Vec<u8>, alloc: Global, k: usize) -> Result<(), AllocErr
     put_attribute(page, b"id", &place)
 }
 
-/// Puts the beginning of the article of race `k` behind a page.
+/// Appends the beginning of the article of race `k` to a page.
 fn put_article_begin(page: &mut Vec<u8>, alloc: Global, k: usize) -> Result<(), AllocError>
     ensures { OnOk result (page.new.items ≡ page.old.items ++ (opened (codes "article")
         (valued (codes "id") (place_text k) ∷ []) ++ codes ">\n")) }
@@ -163,13 +168,13 @@ fn put_article_begin(page: &mut Vec<u8>, alloc: Global, k: usize) -> Result<(), 
     Ok(())
 }
 
-/// Puts the article of a race behind a page.
+/// Appends the article of a race to a page.
 pub fn put_article(
     page: &mut Vec<u8>,
     alloc: Global,
     scene: &Scene,
     queues: Queues,
-    told: Told,
+    told: ShownRace,
     run: Option<&Scene>,
 ) -> Result<(), AllocError>
     ensures { OnOk result (page.new.items ≡ page.old.items ++ line_text (article_node scene.now

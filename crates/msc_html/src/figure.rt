@@ -1,4 +1,4 @@
-//! Figures: pictures with what they show, and what stands below them.
+//! Figures: pictures with their descriptions, and captions below them.
 
 ghost use Rattle.std.specs.Prelude.{◌≡◌, ◌<◌, ◌++◌, OnOk, [], codes, length};
 ghost use Rattle.msc_html.specs.Figures.{caption_nodes, drawing_attributes, drawing_node};
@@ -10,7 +10,7 @@ use msc_svg::{Layout, layout_of, put_picture, put_size};
 use msc_tree::{put_attribute, put_plain};
 use std::alloc::{AllocError, Global};
 
-/// Puts the beginning of a picture that shows this behind a page.
+/// Appends the beginning of a picture with this description to a page.
 fn put_drawing_begin(
     page: &mut Vec<u8>,
     alloc: Global,
@@ -28,7 +28,7 @@ fn put_drawing_begin(
     Ok(())
 }
 
-/// Puts the picture of a scene that shows this behind a page.
+/// Appends the picture of a scene with this description to a page.
 fn put_drawing(
     page: &mut Vec<u8>,
     alloc: Global,
@@ -46,7 +46,7 @@ fn put_drawing(
     Ok(())
 }
 
-/// Puts what stands below a picture behind a page, if it is not empty.
+/// Appends a caption to a page, if it is not empty.
 fn put_caption(page: &mut Vec<u8>, text: &[u8]) -> Result<(), AllocError>
     ensures { OnOk result
         (page.new.items ≡ page.old.items ++ lines_text (caption_nodes text.now)) }
@@ -58,7 +58,7 @@ fn put_caption(page: &mut Vec<u8>, text: &[u8]) -> Result<(), AllocError>
     Ok(())
 }
 
-/// Puts the figure of a scene that shows this behind a page, with what stands below it.
+/// Appends the figure of a scene with this description, and with a caption, to a page.
 fn put_some_figure(
     page: &mut Vec<u8>,
     alloc: Global,
@@ -77,7 +77,7 @@ fn put_some_figure(
     Ok(())
 }
 
-/// Puts the same behind a page, where there is an instance.
+/// Appends the same to a page, if there is an instance.
 pub fn put_figure(
     page: &mut Vec<u8>,
     alloc: Global,

@@ -1,5 +1,5 @@
-//! What stands on a report's page whatever its chart is: how it looks, the head of an arrow, and
-//! what to do about a race.
+//! The parts of a report's page that do not depend on its chart: the style sheet, the head of an
+//! arrow, and the advice on a race.
 
 ghost use Rattle.std.specs.Prelude.{◌≡◌, ◌++◌, OnOk, codes};
 ghost use Rattle.msc_html.specs.Front.{advice_nodes, head_node, sheet, store_node};
@@ -9,7 +9,7 @@ ghost use Rattle.msc_tree.specs.Trees.{line_text, lines_text};
 use msc_tree::put_plain;
 use std::alloc::AllocError;
 
-/// How a report looks.
+/// The style sheet of a report.
 const SHEET: &[u8] =
     b":root{--ink:#111;--soft:#444;--faint:#555;--paper:#fff;--race:#b80f2a;--count:#fff;\
 --page:#f5f5f2;--edge:#999;--pass:#17652f}\
@@ -49,12 +49,12 @@ article{break-inside:avoid}h2,summary{break-after:avoid}svg{max-width:100%;\
 height:auto}\
 details::details-content{content-visibility:visible}}";
 
-/// What readers are told of a page.
+/// The metadata of a page.
 const METAS: &[u8] = b"<meta charset=\"utf-8\"/>\n\
 <meta name=\"viewport\" content=\"width=device-width,initial-scale=1\"/>\n\
 <meta name=\"color-scheme\" content=\"light dark\"/>\n";
 
-/// What to do about a race.
+/// The advice on a race.
 const ADVICE: &[u8] = b"<h2>What to do about a race</h2>\n<ul>\n\
 <li>Bring the missing order about, for instance by an acknowledgement that its sender waits \
 for.</li>\n\
@@ -63,13 +63,13 @@ program the instance for both.</li>\n\
 <li>Or let the instance leave a message in its queue until it is ready for it. That is another \
 program than the one drawn, and nothing is said of it here.</li>\n</ul>\n";
 
-/// The head of an arrow, where nothing of it is seen.
+/// The head of an arrow, which is itself hidden.
 const STORE: &[u8] = b"<svg class=\"store\" width=\"0\" height=\"0\" aria-hidden=\"true\">\n\
 <marker id=\"tip\" markerUnits=\"userSpaceOnUse\" markerWidth=\"12\" markerHeight=\"8\" \
 refX=\"12\" refY=\"4\" orient=\"auto\">\n\
 <path class=\"tip\" d=\"M0,0L12,4L0,8z\"/>\n</marker>\n</svg>\n";
 
-/// Puts how a report looks behind a page.
+/// Appends the style sheet of a report to a page.
 fn put_sheet(page: &mut Vec<u8>) -> Result<(), AllocError>
     ensures { OnOk result
         (page.new.items ≡ page.old.items ++ line_text (plain (codes "style") sheet)) }
@@ -77,7 +77,7 @@ fn put_sheet(page: &mut Vec<u8>) -> Result<(), AllocError>
     put_plain(page, b"style", SHEET)
 }
 
-/// Puts the head of a page with this title behind it.
+/// Appends the head of a page with this title to it.
 pub fn put_head(page: &mut Vec<u8>, title: &[u8]) -> Result<(), AllocError>
     ensures { OnOk result
         (page.new.items ≡ page.old.items ++ line_text (head_node title.now)) }
@@ -90,14 +90,14 @@ pub fn put_head(page: &mut Vec<u8>, title: &[u8]) -> Result<(), AllocError>
     Ok(())
 }
 
-/// Puts the head of an arrow behind a page, where nothing of it is seen.
+/// Appends the hidden head of an arrow to a page.
 pub fn put_store(page: &mut Vec<u8>) -> Result<(), AllocError>
     ensures { OnOk result (page.new.items ≡ page.old.items ++ line_text store_node) }
 {
     page.extend_from_slice(STORE)
 }
 
-/// Puts what to do about a race behind a page.
+/// Appends the advice on a race to a page.
 pub fn put_advice(page: &mut Vec<u8>) -> Result<(), AllocError>
     ensures { OnOk result (page.new.items ≡ page.old.items ++ lines_text advice_nodes) }
 {

@@ -1,5 +1,5 @@
-//! Laws of reports, over the definitions alone. The functions have no code: a caller calls one to
-//! rest its own proof on the law.
+//! Laws of reports, over the definitions only. The functions have no code: a caller that needs a
+//! law calls its function.
 
 ghost use Rattle.msc_html.specs.Laws.{AlwaysLacksForGood};
 ghost use Rattle.msc_html.specs.Plain.{PrintedPicturesArePlain, PrintedReportsArePlain};
@@ -7,8 +7,8 @@ ghost use Rattle.msc_html.specs.Plain.{PrintedReversalsArePlain, ReportsArePlain
 
 use msc_chart::laws::ends_share_queues;
 
-/// What a race lacks that is always reversed comes in the other order in every run: so no further
-/// order can help.
+/// If a race is always reversed, the pair that it lacks comes in the other order in every run. So
+/// no further order can help.
 pub fn always_lacks_for_good()
     ensures { AlwaysLacksForGood }
 {
@@ -16,8 +16,8 @@ pub fn always_lacks_for_good()
 }
 
 /// Each picture of a draft's chart, in text and in SVG, each picture of a run that reverses a race,
-/// and each report is of the bytes 32 to 126 and line ends, where the version is: names are so by
-/// the grammar, and the texts of actions and the canonical text are masked.
+/// and each report consists of the bytes 32 to 126 and line ends, if the version does: the grammar
+/// limits names to them, and the texts of actions and the canonical text are masked.
 pub fn plain_bytes()
     ensures reports { ReportsArePlain }
     ensures pictures { PrintedPicturesArePlain }

@@ -1,4 +1,4 @@
-//! The names and labels of a picture's events, and what they do.
+//! The names and labels of a picture's events, and descriptions of them.
 
 ghost use Rattle.std.specs.Prelude.{◌≡◌, ◌++◌, IfOk};
 ghost use Rattle.msc_html.specs.Telling.{act_text, action_text, event_text, home, label, label_at};
@@ -49,7 +49,7 @@ pub fn sender_at(scene: &Scene, m: u32) -> &[u8]
     }
 }
 
-/// What is shown of an action's text.
+/// The text that is shown for an action.
 fn short_text(alloc: Global, text: &[u8]) -> Result<Vec<u8>, AllocError>
     ensures { IfOk result (λ short. short.items ≡ short_text text.now) }
 {
@@ -72,7 +72,7 @@ pub fn action_text(alloc: Global, text: &[u8]) -> Result<Vec<u8>, AllocError>
     Ok(told)
 }
 
-/// A message, with a word before its label and a name behind it.
+/// A message, with a word before its label and a name after it.
 fn message_text(
     alloc: Global,
     way: &[u8],
@@ -90,7 +90,7 @@ fn message_text(
     Ok(told)
 }
 
-/// An event that does this.
+/// The description of an event with this act.
 fn act_text(alloc: Global, scene: &Scene, act: &Act) -> Result<Vec<u8>, AllocError>
     ensures { IfOk result (λ told. told.items ≡ act_text scene.now act.now) }
 {

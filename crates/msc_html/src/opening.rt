@@ -1,4 +1,4 @@
-//! What a report tells before the races: what is checked, the verdict, and the chart.
+//! The part of a report before the races: the check, the verdict, and the chart.
 
 ghost use Rattle.std.specs.Prelude.{◌≡◌, ◌++◌, ◌∷◌, [], IfOk, OnOk, codes};
 ghost use Rattle.msc_html.specs.Parts.{sentence, words};
@@ -9,7 +9,7 @@ ghost use Rattle.msc_tree.specs.Shapes.{plain};
 ghost use Rattle.msc_tree.specs.Trees.{line_text, lines_text};
 
 use crate::figure::put_figure;
-use crate::part::{Look, Part, Tag, part_of, put_sentence};
+use crate::part::{Part, SentenceStyle, Tag, part_of, put_sentence};
 use msc_chart::Queues;
 use msc_picture::Scene;
 use msc_tree::{put_decimal, put_plain};
@@ -26,7 +26,7 @@ fn queues_text(queues: Queues) -> &'static [u8]
     }
 }
 
-/// What is checked.
+/// The sentence on the check.
 fn checked_text(alloc: Global, queues: Queues) -> Result<Vec<u8>, AllocError>
     ensures { IfOk result (λ text. text.items ≡ checked_text queues) }
 {
@@ -38,7 +38,7 @@ fn checked_text(alloc: Global, queues: Queues) -> Result<Vec<u8>, AllocError>
     Ok(text)
 }
 
-/// How many races there are, and how many of them are closest.
+/// The sentence on the number of races, and the number of closest races among them.
 fn count_text(alloc: Global, races: usize, closest: usize) -> Result<Vec<u8>, AllocError>
     ensures { IfOk result (λ text. text.items ≡ count_text races closest) }
 {
@@ -53,7 +53,7 @@ fn count_text(alloc: Global, races: usize, closest: usize) -> Result<Vec<u8>, Al
     Ok(text)
 }
 
-/// A sentence of these words alone.
+/// A sentence of these words only.
 fn said(alloc: Global, text: &[u8]) -> Result<Vec<Part>, AllocError>
     ensures { IfOk result (λ parts. parts.items ≡ words text.now ∷ []) }
 {
@@ -62,33 +62,33 @@ fn said(alloc: Global, text: &[u8]) -> Result<Vec<Part>, AllocError>
     Ok(parts)
 }
 
-/// Puts a sentence of these words alone behind a page.
+/// Appends a sentence of these words only to a page.
 pub fn put_said(
     page: &mut Vec<u8>,
     alloc: Global,
     name: &[u8],
-    look: Look,
+    style: SentenceStyle,
     text: &[u8],
 ) -> Result<(), AllocError>
     ensures { OnOk result (page.new.items
-        ≡ page.old.items ++ line_text (sentence name.now look (words text.now ∷ []))) }
+        ≡ page.old.items ++ line_text (sentence name.now style (words text.now ∷ []))) }
 {
     let parts = said(alloc, text)?;
-    put_sentence(page, name, look, &parts)?;
+    put_sentence(page, name, style, &parts)?;
     Ok(())
 }
 
-/// Puts what is checked behind a page.
+/// Appends the sentence on the check to a page.
 fn put_checked(page: &mut Vec<u8>, alloc: Global, queues: Queues) -> Result<(), AllocError>
     ensures { OnOk result (page.new.items ≡ page.old.items
-        ++ line_text (sentence (codes "p") Look.Soft (words (checked_text queues) ∷ []))) }
+        ++ line_text (sentence (codes "p") SentenceStyle.Soft (words (checked_text queues) ∷ []))) }
 {
     let text = checked_text(alloc, queues)?;
-    put_said(page, alloc, b"p", Look::Soft, &text)?;
+    put_said(page, alloc, b"p", SentenceStyle::Soft, &text)?;
     Ok(())
 }
 
-/// Puts what a page begins with behind it.
+/// Appends the beginning of a page to it.
 fn put_begin(
     page: &mut Vec<u8>,
     alloc: Global,
@@ -103,7 +103,7 @@ fn put_begin(
     Ok(())
 }
 
-/// Puts the verdict of a chart that passes behind a page.
+/// Appends the verdict of a chart that passes to a page.
 fn put_passed(page: &mut Vec<u8>) -> Result<(), AllocError>
     ensures { OnOk result (page.new.items ≡ page.old.items ++ lines_text passed_nodes) }
 {
@@ -114,12 +114,12 @@ fn put_passed(page: &mut Vec<u8>) -> Result<(), AllocError>
 const PASSED: &[u8] = b"<p class=\"verdict pass\">Pass</p>\n\
 <p>Every run keeps the drawn order of every instance.</p>\n";
 
-/// What a race is.
+/// The explanation of a race.
 const RACE: &[u8] = b"<p>A race is a pair of events of one instance that comes in the other order \
 than drawn in some run. It is closest where nothing is drawn between the two, and every race spans \
 a closest one.</p>\n";
 
-/// Puts how many races there are behind a page.
+/// Appends the number of races to a page.
 fn put_count(
     page: &mut Vec<u8>,
     alloc: Global,
@@ -127,14 +127,14 @@ fn put_count(
     closest: usize,
 ) -> Result<(), AllocError>
     ensures { OnOk result (page.new.items ≡ page.old.items ++ line_text
-        (sentence (codes "p") Look.Verdict (words (count_text races closest) ∷ []))) }
+        (sentence (codes "p") SentenceStyle.Verdict (words (count_text races closest) ∷ []))) }
 {
     let text = count_text(alloc, races, closest)?;
-    put_said(page, alloc, b"p", Look::Verdict, &text)?;
+    put_said(page, alloc, b"p", SentenceStyle::Verdict, &text)?;
     Ok(())
 }
 
-/// Puts what a race is behind a page.
+/// Appends the explanation of a race to a page.
 fn put_race_text(page: &mut Vec<u8>) -> Result<(), AllocError>
     ensures { OnOk result
         (page.new.items ≡ page.old.items ++ line_text (plain (codes "p") race_text)) }
@@ -142,7 +142,7 @@ fn put_race_text(page: &mut Vec<u8>) -> Result<(), AllocError>
     page.extend_from_slice(RACE)
 }
 
-/// Puts the verdict of a chart with races behind a page.
+/// Appends the verdict of a chart with races to a page.
 fn put_counted(
     page: &mut Vec<u8>,
     alloc: Global,
@@ -157,7 +157,7 @@ fn put_counted(
     Ok(())
 }
 
-/// Puts the verdict behind a page.
+/// Appends the verdict to a page.
 fn put_verdict(
     page: &mut Vec<u8>,
     alloc: Global,
@@ -175,7 +175,7 @@ fn put_verdict(
     Ok(())
 }
 
-/// What stands below the picture of a chart with so many races.
+/// The caption of the picture of a chart with this number of races.
 fn caption_text(races: usize) -> &'static [u8]
     ensures { result.now ≡ caption_text races }
 {
@@ -187,7 +187,7 @@ small numbers are those of events."
     }
 }
 
-/// Puts the picture of the chart behind a page.
+/// Appends the picture of the chart to a page.
 fn put_chart_figure(
     page: &mut Vec<u8>,
     alloc: Global,
@@ -207,7 +207,7 @@ fn put_chart_figure(
     Ok(())
 }
 
-/// Puts the chart behind a page.
+/// Appends the chart to a page.
 fn put_chart(
     page: &mut Vec<u8>,
     alloc: Global,
@@ -222,7 +222,7 @@ fn put_chart(
     Ok(())
 }
 
-/// Puts what a page tells before the races behind it.
+/// Appends the part before the races to a page.
 pub fn put_front(
     page: &mut Vec<u8>,
     alloc: Global,

@@ -3,7 +3,7 @@
 ghost use Rattle.std.specs.Prelude.{◌≡◌, ◌++◌, IfOk, OnOk, codes, length};
 ghost use Rattle.std.specs.Fmt.{decimal};
 ghost use Rattle.std.specs.List.{flat_map};
-ghost use Rattle.msc_html.specs.Parts.{look_attributes, part_of, part_text, parts_text};
+ghost use Rattle.msc_html.specs.Parts.{style_attributes, part_of, part_text, parts_text};
 ghost use Rattle.msc_html.specs.Parts.{sentence};
 ghost use Rattle.msc_tree.specs.Trees.{attributes_text, line_text};
 
@@ -12,7 +12,7 @@ use msc_parser::Label;
 use msc_tree::{put_decimal, put_escaped};
 use std::alloc::{AllocError, Global};
 
-/// How a part of a sentence stands in it.
+/// The role of a part of a sentence.
 #[derive(Clone, Copy)]
 pub enum Tag {
     /// As words.
@@ -30,14 +30,14 @@ pub struct Part {
     pub text: Label,
 }
 
-/// How a sentence looks.
+/// The look of a sentence.
 #[derive(Clone, Copy)]
-pub enum Look {
+pub enum SentenceStyle {
     Plain,
     Soft,
     Verdict,
     Pass,
-    /// It can be scrolled with the keys.
+    /// Readers can scroll it with the keys.
     Scrolled,
 }
 
@@ -63,7 +63,7 @@ pub fn race_number(alloc: Global, k: usize) -> Result<Part, AllocError>
     })
 }
 
-/// Puts a part behind a page.
+/// Appends a part to a page.
 fn put_part(page: &mut Vec<u8>, part: &Part) -> Result<(), AllocError>
     ensures { OnOk result (page.new.items ≡ page.old.items ++ part_text part.now) }
 {
@@ -83,7 +83,7 @@ fn put_part(page: &mut Vec<u8>, part: &Part) -> Result<(), AllocError>
     }
 }
 
-/// Puts the parts of a sentence behind a page.
+/// Appends the parts of a sentence to a page.
 fn put_parts(page: &mut Vec<u8>, parts: &[Part]) -> Result<(), AllocError>
     ensures { OnOk result (page.new.items ≡ page.old.items ++ parts_text parts.now) }
 {
@@ -93,31 +93,31 @@ fn put_parts(page: &mut Vec<u8>, parts: &[Part]) -> Result<(), AllocError>
     Ok(())
 }
 
-/// Puts the attributes of a look behind a page.
-fn put_look(page: &mut Vec<u8>, look: Look) -> Result<(), AllocError>
+/// Appends the attributes of a look to a page.
+fn put_style(page: &mut Vec<u8>, style: SentenceStyle) -> Result<(), AllocError>
     ensures { OnOk result
-        (page.new.items ≡ page.old.items ++ attributes_text (look_attributes look)) }
+        (page.new.items ≡ page.old.items ++ attributes_text (style_attributes style)) }
 {
-    match look {
-        Look::Plain => Ok(()),
-        Look::Soft => page.extend_from_slice(b" class=\"soft\""),
-        Look::Verdict => page.extend_from_slice(b" class=\"verdict\""),
-        Look::Pass => page.extend_from_slice(b" class=\"verdict pass\""),
-        Look::Scrolled => page.extend_from_slice(b" tabindex=\"0\""),
+    match style {
+        SentenceStyle::Plain => Ok(()),
+        SentenceStyle::Soft => page.extend_from_slice(b" class=\"soft\""),
+        SentenceStyle::Verdict => page.extend_from_slice(b" class=\"verdict\""),
+        SentenceStyle::Pass => page.extend_from_slice(b" class=\"verdict pass\""),
+        SentenceStyle::Scrolled => page.extend_from_slice(b" tabindex=\"0\""),
     }
 }
 
-/// Puts the beginning of an element behind a page.
-fn put_begin(page: &mut Vec<u8>, name: &[u8], look: Look) -> Result<(), AllocError>
+/// Appends the beginning of an element to a page.
+fn put_begin(page: &mut Vec<u8>, name: &[u8], style: SentenceStyle) -> Result<(), AllocError>
     ensures { OnOk result (page.new.items ≡ page.old.items
-        ++ ((codes "<" ++ name.now) ++ attributes_text (look_attributes look))) }
+        ++ ((codes "<" ++ name.now) ++ attributes_text (style_attributes style))) }
 {
     page.extend_from_slice(b"<")?;
     page.extend_from_slice(name)?;
-    put_look(page, look)
+    put_style(page, style)
 }
 
-/// Puts what an element holds, and its end, behind a page.
+/// Appends the content of an element, and its end, to a page.
 fn put_held(page: &mut Vec<u8>, name: &[u8], parts: &[Part]) -> Result<(), AllocError>
     ensures { OnOk result (page.new.items ≡ page.old.items
         ++ ((((codes ">" ++ parts_text parts.now) ++ codes "</") ++ name.now) ++ codes ">\n")) }
@@ -129,17 +129,17 @@ fn put_held(page: &mut Vec<u8>, name: &[u8], parts: &[Part]) -> Result<(), Alloc
     page.extend_from_slice(b">\n")
 }
 
-/// Puts a sentence in an element of this name behind a page.
+/// Appends a sentence in an element of this name to a page.
 pub fn put_sentence(
     page: &mut Vec<u8>,
     name: &[u8],
-    look: Look,
+    style: SentenceStyle,
     parts: &[Part],
 ) -> Result<(), AllocError>
     ensures { OnOk result
-        (page.new.items ≡ page.old.items ++ line_text (sentence name.now look parts.now)) }
+        (page.new.items ≡ page.old.items ++ line_text (sentence name.now style parts.now)) }
 {
-    put_begin(page, name, look)?;
+    put_begin(page, name, style)?;
     if parts.len() == 0 {
         page.extend_from_slice(b"/>\n")?;
         return Ok(());

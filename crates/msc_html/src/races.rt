@@ -1,6 +1,7 @@
 //! The articles of the first closest races.
 
-ghost use Rattle.std.specs.Prelude.{◌≡◌, ◌<◌, ◌+◌, ◌++◌, ◌∷◌, [], IfOk, List, None, OnOk, Option, Some};
+ghost use Rattle.std.specs.Prelude.{◌≡◌, ◌<◌, ◌+◌, ◌++◌, ◌∷◌, [], IfOk, List, None, OnOk, Option};
+ghost use Rattle.std.specs.Prelude.{Some};
 ghost use Rattle.std.specs.Prelude.{length, ℕ};
 ghost use Rattle.msc_chart.specs.Orders.{IsRace};
 ghost use Rattle.msc_draw.specs.Listed.{listed_of};
@@ -12,21 +13,21 @@ ghost use Rattle.msc_tree.specs.Trees.{line_text};
 ghost use Rattle.msc_html.specs.declared.races.Progress.{Progress};
 ghost use Rattle.msc_picture.specs.declared.scene.Scene.{Scene};
 
-use crate::article::{Told, put_article};
+use crate::article::{ShownRace, put_article};
 use msc_chart::Event;
 use msc_parser::Draft;
 use msc_picture::{Reversed, Scene, run_scene};
 use msc_race::Enforced;
-use msc_reason::{Listing, Stream, lack_of};
+use msc_reason::{Listing, Stream, cause_of};
 use std::alloc::{AllocError, Global};
 
-/// How many races are told one by one.
+/// The greatest number of races with an article.
 pub const ARTICLE_LIMIT: usize = 50;
 
-/// How many rows the pictures of their runs have together.
+/// The greatest number of rows that the pictures of their runs have together.
 pub const ROW_LIMIT: usize = 1500;
 
-/// What articles are made of: a draft, the closest races of its chart under an architecture, and
+/// The source of the articles: a draft, the closest races of its chart under an architecture, and
 /// the picture of it.
 #[derive(Clone, Copy)]
 pub struct Source<'a> {
@@ -35,8 +36,8 @@ pub struct Source<'a> {
     pub scene: &'a Scene,
 }
 
-/// How far the articles are: how many there are, how many rows are left, and whether the picture of
-/// a run had no room.
+/// The progress of the articles: how many there are, how many rows are left, and whether the
+/// picture of a run had no room.
 #[derive(Clone, Copy)]
 pub struct Progress {
     pub told: usize,
@@ -54,7 +55,7 @@ fn reversing_run(
     requires { IsRace (wiring_of enforced.now) e f }
     ensures { IfOk result (λ run. IsReversingRun (wiring_of enforced.now) e f run.items) }
 {
-    enforced.enforced();
+    enforced.facts();
     match enforced.reversing_run(alloc, e, f)? {
         Some(run) => Ok(run),
         None => Err(AllocError),
@@ -62,7 +63,7 @@ fn reversing_run(
 }
 
 /// The picture of a run that reverses a race.
-fn run_of(alloc: Global, source: &Source<'_>, told: Told) -> Result<Scene, AllocError>
+fn run_of(alloc: Global, source: &Source<'_>, told: ShownRace) -> Result<Scene, AllocError>
     requires drawn { IsOfDraft source.now }
     requires race { IsRace (wiring_of (judged source.now)) told.first told.second }
     ensures { IfOk result (ShowsIn source.now told) }
@@ -79,12 +80,12 @@ fn run_of(alloc: Global, source: &Source<'_>, told: Told) -> Result<Scene, Alloc
     Ok(scene)
 }
 
-/// Puts the article of a race behind a page, with the picture of a run where there is room for it.
+/// Appends the article of a race to a page, with the picture of a run if there is room for it.
 fn put_run_article(
     page: &mut Vec<u8>,
     alloc: Global,
     source: &Source<'_>,
-    told: Told,
+    told: ShownRace,
     progress: &mut Progress,
 ) -> Result<(), AllocError>
     requires drawn { IsOfDraft source.now }
@@ -111,7 +112,7 @@ fn put_run_article(
     Ok(())
 }
 
-/// Puts the article of a race behind a page, if it is one of the first.
+/// Appends the article of a race to a page, if it is one of the first.
 fn put_race(
     page: &mut Vec<u8>,
     alloc: Global,
@@ -129,18 +130,18 @@ fn put_race(
         return Ok(());
     }
     let enforced = source.listing.enforced();
-    let told = Told {
+    let told = ShownRace {
         number: progress.told + 1,
         first: race.0,
         second: race.1,
-        lack: lack_of(enforced, race.0, race.1),
+        cause: cause_of(enforced, race.0, race.1),
     };
     put_run_article(page, alloc, source, told, progress)?;
     progress.told += 1;
     Ok(())
 }
 
-/// Puts the articles of the races of an event behind a page.
+/// Appends the articles of the races of an event to a page.
 fn put_races(
     page: &mut Vec<u8>,
     alloc: Global,
@@ -160,7 +161,7 @@ fn put_races(
     Ok(())
 }
 
-/// Puts the articles of the first races of a listing behind a page.
+/// Appends the articles of the first races of a listing to a page.
 pub fn put_articles(
     page: &mut Vec<u8>,
     alloc: Global,
@@ -171,7 +172,7 @@ pub fn put_articles(
         page.new.items (listed_of source.now.listing.now) progress) }
 {
     let listing = source.listing;
-    listing.enforced().enforced();
+    listing.enforced().facts();
     let mut stream = Stream::new(alloc);
     let mut progress = Progress {
         told: 0,

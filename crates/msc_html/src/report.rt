@@ -13,20 +13,20 @@ ghost use Rattle.msc_tree.specs.Trees.{line_text, lines_text};
 
 use crate::front::{put_advice, put_head, put_store};
 use crate::opening::{put_front, put_said};
-use crate::part::{Look, Tag, part_of, put_sentence};
+use crate::part::{SentenceStyle, Tag, part_of, put_sentence};
 use crate::races::{ARTICLE_LIMIT, Source, put_articles};
 use msc_chart::{Chart, Queues};
-use msc_draw::{marks_listed, verdict};
-use msc_judge::Page;
+use msc_draw::{bars_listed, verdict};
 use msc_parser::Draft;
 use msc_picture::chart_scene;
+use msc_print::Page;
 use msc_race::Enforced;
 use msc_reason::laws::{every_race_that_counts_spans_a_closest_one, what_counts_is_listed};
 use msc_reason::{KindSet, LeftOut, Listing};
 use msc_tree::{put_decimal, put_plain};
 use std::alloc::{AllocError, Global};
 
-/// What a page is called.
+/// The title of a page.
 fn title_text(
     alloc: Global,
     name: &[u8],
@@ -43,7 +43,7 @@ fn title_text(
     Ok(text)
 }
 
-/// How many closest races are not told one by one.
+/// The sentence on the number of closest races without an article.
 fn left_text(alloc: Global, closest: usize) -> Result<Vec<u8>, AllocError>
     ensures { IfOk result (λ text. text.items ≡ left_text closest) }
 {
@@ -53,7 +53,7 @@ fn left_text(alloc: Global, closest: usize) -> Result<Vec<u8>, AllocError>
     Ok(text)
 }
 
-/// The command that tells them.
+/// The command that lists them.
 fn command_text(alloc: Global, queues: Queues) -> Result<Vec<u8>, AllocError>
     ensures { IfOk result (λ text. text.items ≡ command_text queues) }
 {
@@ -63,7 +63,7 @@ fn command_text(alloc: Global, queues: Queues) -> Result<Vec<u8>, AllocError>
     Ok(text)
 }
 
-/// Puts how to have them told behind a page.
+/// Appends the instructions for listing them to a page.
 fn put_left(
     page: &mut Vec<u8>,
     alloc: Global,
@@ -78,11 +78,11 @@ fn put_left(
     let mut parts = Vec::new(alloc);
     parts.push(part_of(alloc, Tag::Words, &text)?)?;
     parts.push(part_of(alloc, Tag::Code, &command)?)?;
-    put_sentence(page, b"p", Look::Plain, &parts)?;
+    put_sentence(page, b"p", SentenceStyle::Plain, &parts)?;
     Ok(())
 }
 
-/// Puts how to have the other closest races told behind a page, where there are more.
+/// Appends the instructions for listing the other closest races to a page, if there are more.
 fn put_more(
     page: &mut Vec<u8>,
     alloc: Global,
@@ -99,7 +99,7 @@ fn put_more(
     Ok(())
 }
 
-/// What is shown of a byte of a text.
+/// The byte that is shown for a byte of a text.
 fn text_byte(b: u8) -> u8
     ensures { result ≡ text_byte b }
 {
@@ -109,7 +109,7 @@ fn text_byte(b: u8) -> u8
     if b < 32 || b > 126 { b'?' } else { b }
 }
 
-/// What is shown of a text.
+/// The text that is shown for a text.
 fn shown_text(alloc: Global, text: &[u8]) -> Result<Vec<u8>, AllocError>
     ensures { IfOk result (λ shown. shown.items ≡ map text_byte text.now) }
 {
@@ -120,17 +120,17 @@ fn shown_text(alloc: Global, text: &[u8]) -> Result<Vec<u8>, AllocError>
     Ok(shown)
 }
 
-/// Puts a text behind a page.
+/// Appends a text to a page.
 fn put_shown(page: &mut Vec<u8>, alloc: Global, text: &[u8]) -> Result<(), AllocError>
     ensures { OnOk result
         (page.new.items ≡ page.old.items ++ line_text (shown_node text.now)) }
 {
     let shown = shown_text(alloc, text)?;
-    put_said(page, alloc, b"pre", Look::Scrolled, &shown)?;
+    put_said(page, alloc, b"pre", SentenceStyle::Scrolled, &shown)?;
     Ok(())
 }
 
-/// Puts the version behind a page.
+/// Appends the version to a page.
 fn put_version(page: &mut Vec<u8>, alloc: Global, version: &[u8]) -> Result<(), AllocError>
     ensures { OnOk result
         (page.new.items ≡ page.old.items ++ line_text (version_node version.now)) }
@@ -141,7 +141,7 @@ fn put_version(page: &mut Vec<u8>, alloc: Global, version: &[u8]) -> Result<(), 
     Ok(())
 }
 
-/// Puts the canonical text and the version behind a page.
+/// Appends the canonical text and the version to a page.
 fn put_end(page: &mut Vec<u8>, alloc: Global, text: &[u8], version: &[u8]) -> Result<(), AllocError>
     ensures { OnOk result
         (page.new.items ≡ page.old.items ++ lines_text (end_nodes text.now version.now)) }
@@ -152,7 +152,7 @@ fn put_end(page: &mut Vec<u8>, alloc: Global, text: &[u8], version: &[u8]) -> Re
     Ok(())
 }
 
-/// Puts what stands above the articles behind a page, where there are races.
+/// Appends the title above the articles to a page, if there are races.
 fn put_races_title(page: &mut Vec<u8>, races: usize) -> Result<(), AllocError>
     ensures { OnOk result
         (page.new.items ≡ page.old.items ++ lines_text (if_any races races_title)) }
@@ -164,7 +164,7 @@ fn put_races_title(page: &mut Vec<u8>, races: usize) -> Result<(), AllocError>
     Ok(())
 }
 
-/// Puts what to do about a race behind a page, where there are races.
+/// Appends the advice on a race to a page, if there are races.
 fn put_races_end(page: &mut Vec<u8>, races: usize) -> Result<(), AllocError>
     ensures { OnOk result
         (page.new.items ≡ page.old.items ++ lines_text (if_any races advice_nodes)) }
@@ -176,7 +176,7 @@ fn put_races_end(page: &mut Vec<u8>, races: usize) -> Result<(), AllocError>
     Ok(())
 }
 
-/// Puts the closest races, one by one, behind a page.
+/// Appends the closest races, one by one, to a page.
 fn put_races(
     page: &mut Vec<u8>,
     alloc: Global,
@@ -195,7 +195,7 @@ fn put_races(
     Ok(())
 }
 
-/// Puts what a page tells behind its beginning.
+/// Appends the main part of a page to it.
 fn put_main(
     page: &mut Vec<u8>,
     alloc: Global,
@@ -216,7 +216,7 @@ fn put_main(
     Ok(())
 }
 
-/// Puts the body of a page behind its head.
+/// Appends the body of a page to it.
 fn put_body(
     page: &mut Vec<u8>,
     alloc: Global,
@@ -239,7 +239,7 @@ fn put_body(
     Ok(())
 }
 
-/// Puts the head of a page behind it.
+/// Appends the head of a page to it.
 fn put_titled_head(
     page: &mut Vec<u8>,
     alloc: Global,
@@ -257,7 +257,7 @@ fn put_titled_head(
     Ok(())
 }
 
-/// Puts a page behind another one.
+/// Appends a page to another one.
 fn put_page(
     page: &mut Vec<u8>,
     alloc: Global,
@@ -279,7 +279,7 @@ fn put_page(
     Ok(())
 }
 
-/// The report of what a listing of races tells, of a chart that has so many.
+/// The report on a listing of races of a chart that has this number of races.
 fn report_listing(
     alloc: Global,
     draft: &Draft,
@@ -292,8 +292,8 @@ fn report_listing(
         page.bytes.items) }
 {
     let chart = listing.enforced().chart();
-    let (marks, closest) = marks_listed(alloc, listing)?;
-    let scene = chart_scene(alloc, draft, chart, marks)?;
+    let (bars, closest) = bars_listed(alloc, listing)?;
+    let scene = chart_scene(alloc, draft, chart, bars)?;
     let text = draft.write(alloc)?;
     let mut bytes = Vec::new(alloc);
     let source = Source {
@@ -318,14 +318,14 @@ fn report_enforced(
 {
     every_race_that_counts_spans_a_closest_one();
     what_counts_is_listed();
-    enforced.enforced();
+    enforced.facts();
     let races = enforced.count_races() as usize;
     let listing = Listing::of(alloc, enforced, LeftOut::of_kinds(KindSet::NONE), true)?;
     let page = report_listing(alloc, draft, &listing, races, version)?;
     Ok(page)
 }
 
-/// The report of a draft's chart under an architecture, by a program of this version: a page in
+/// The report on a draft's chart under an architecture, by a program of this version: a page in
 /// HTML. An error is a growth of memory that was refused.
 pub fn report_chart(
     alloc: Global,

@@ -1,10 +1,10 @@
-//! What is told of a race, in the names and labels of a picture.
+//! The sentences on a race, with the names and labels of a picture.
 
 ghost use Rattle.std.specs.Prelude.{◌≡◌, ◌++◌, ◌∷◌, [], IfOk, OnOk};
 ghost use Rattle.msc_html.specs.Parts.{code, words};
 ghost use Rattle.msc_html.specs.Telling.{act_done, can_parts, done, drawn_parts, early_parts};
 ghost use Rattle.msc_html.specs.Telling.{event_text, helping_parts, hopeless_parts, kind_text};
-ghost use Rattle.msc_html.specs.Telling.{lacks_parts, number_words, often_text, order_text};
+ghost use Rattle.msc_html.specs.Telling.{causes_parts, number_words, often_text, order_text};
 ghost use Rattle.msc_html.specs.Telling.{reason_parts, title_parts, two_parts, way_text};
 
 use crate::naming::{
@@ -13,11 +13,11 @@ use crate::naming::{
 use crate::part::{Part, Tag, part_of, race_number};
 use msc_chart::Event;
 use msc_picture::{Act, Scene};
-use msc_reason::{Lack, RaceKind};
+use msc_reason::{Cause, RaceKind};
 use msc_tree::put_decimal;
 use std::alloc::{AllocError, Global};
 
-/// Puts words and code behind a sentence.
+/// Appends words and code to a sentence.
 fn put_pair(
     parts: &mut Vec<Part>,
     alloc: Global,
@@ -32,7 +32,7 @@ fn put_pair(
     Ok(())
 }
 
-/// Puts code behind a sentence.
+/// Appends code to a sentence.
 fn put_code(parts: &mut Vec<Part>, alloc: Global, text: &[u8]) -> Result<(), AllocError>
     ensures { OnOk result (parts.new.items ≡ parts.old.items ++ code text.now ∷ []) }
 {
@@ -40,7 +40,7 @@ fn put_code(parts: &mut Vec<Part>, alloc: Global, text: &[u8]) -> Result<(), All
     Ok(())
 }
 
-/// Puts words behind a sentence.
+/// Appends words to a sentence.
 fn put_words(parts: &mut Vec<Part>, alloc: Global, text: &[u8]) -> Result<(), AllocError>
     ensures { OnOk result (parts.new.items ≡ parts.old.items ++ words text.now ∷ []) }
 {
@@ -48,7 +48,7 @@ fn put_words(parts: &mut Vec<Part>, alloc: Global, text: &[u8]) -> Result<(), Al
     Ok(())
 }
 
-/// Puts that the instance of this name has done this behind a sentence.
+/// Appends to a sentence that the instance of this name has done this.
 fn put_act_done(
     parts: &mut Vec<Part>,
     alloc: Global,
@@ -79,7 +79,7 @@ fn put_act_done(
     }
 }
 
-/// Puts that event `e` has occurred behind a sentence.
+/// Appends to a sentence that event `e` has occurred.
 fn put_done(parts: &mut Vec<Part>, alloc: Global, scene: &Scene, e: Event) -> Result<(), AllocError>
     ensures { OnOk result (parts.new.items ≡ parts.old.items ++ done scene.now e) }
 {
@@ -96,30 +96,30 @@ fn put_done(parts: &mut Vec<Part>, alloc: Global, scene: &Scene, e: Event) -> Re
     Ok(())
 }
 
-/// A race's kind, and whether it is always reversed.
-fn kind_text(alloc: Global, lack: Lack) -> Result<Vec<u8>, AllocError>
-    ensures { IfOk result (λ text. text.items ≡ kind_text lack) }
+/// The kind of a race, and whether it is always reversed.
+fn kind_text(alloc: Global, cause: Cause) -> Result<Vec<u8>, AllocError>
+    ensures { IfOk result (λ text. text.items ≡ kind_text cause) }
 {
     let mut text = Vec::from_slice(alloc, b" (")?;
-    text.extend_from_slice(lack.kind.word().as_bytes())?;
-    if lack.always {
+    text.extend_from_slice(cause.kind.word().as_bytes())?;
+    if cause.always {
         text.extend_from_slice(b", always")?;
     }
     text.extend_from_slice(b")")?;
     Ok(text)
 }
 
-/// What stands above what is told of race `k` from event `e`.
+/// The title above the sentences on race `k` from event `e`.
 pub fn title_parts(
     alloc: Global,
     scene: &Scene,
     k: usize,
     e: Event,
-    lack: Lack,
+    cause: Cause,
 ) -> Result<Vec<Part>, AllocError>
-    ensures { IfOk result (λ parts. parts.items ≡ title_parts scene.now k e lack) }
+    ensures { IfOk result (λ parts. parts.items ≡ title_parts scene.now k e cause) }
 {
-    let kind = kind_text(alloc, lack)?;
+    let kind = kind_text(alloc, cause)?;
     let mut parts = Vec::new(alloc);
     put_words(&mut parts, alloc, b"Race ")?;
     parts.push(race_number(alloc, k)?)?;
@@ -128,7 +128,7 @@ pub fn title_parts(
     Ok(parts)
 }
 
-/// The number of an event behind it, and further words.
+/// The number of an event, and further words.
 fn number_words(alloc: Global, e: Event, rest: &[u8]) -> Result<Vec<u8>, AllocError>
     ensures { IfOk result (λ text. text.items ≡ number_words e rest.now) }
 {
@@ -138,7 +138,7 @@ fn number_words(alloc: Global, e: Event, rest: &[u8]) -> Result<Vec<u8>, AllocEr
     Ok(text)
 }
 
-/// Puts an event, its number and further words behind a sentence.
+/// Appends an event, its number and further words to a sentence.
 fn put_event(
     parts: &mut Vec<Part>,
     alloc: Global,
@@ -156,7 +156,7 @@ fn put_event(
     Ok(())
 }
 
-/// Which events of a race are drawn before one another.
+/// Which of the two events of a race is drawn before the other.
 pub fn drawn_parts(
     alloc: Global,
     scene: &Scene,
@@ -171,7 +171,7 @@ pub fn drawn_parts(
     Ok(parts)
 }
 
-/// Puts that two inputs come to an instance, in this way, behind a sentence.
+/// Appends to a sentence that two inputs come to an instance, in this way.
 fn put_two(
     parts: &mut Vec<Part>,
     alloc: Global,
@@ -192,7 +192,7 @@ fn put_two(
     Ok(())
 }
 
-/// Puts that an input can come before what is drawn above it behind a sentence.
+/// Appends to a sentence that an input can come before what is drawn above it.
 fn put_early(
     parts: &mut Vec<Part>,
     alloc: Global,
@@ -223,7 +223,7 @@ fn way_text(kind: RaceKind) -> &'static [u8]
     }
 }
 
-/// Puts why the second event of a race can come first behind a sentence.
+/// Appends to a sentence why the second event of a race can come first.
 fn put_can(
     parts: &mut Vec<Part>,
     alloc: Global,
@@ -243,7 +243,7 @@ fn put_can(
     }
 }
 
-/// How often the second event of a race comes first.
+/// The words for how often the second event of a race comes first.
 fn often_text(always: bool) -> &'static [u8]
     ensures { result.now ≡ often_text always }
 {
@@ -260,13 +260,13 @@ pub fn reason_parts(
     scene: &Scene,
     e: Event,
     f: Event,
-    lack: Lack,
+    cause: Cause,
 ) -> Result<Vec<Part>, AllocError>
-    ensures { IfOk result (λ parts. parts.items ≡ reason_parts scene.now e f lack) }
+    ensures { IfOk result (λ parts. parts.items ≡ reason_parts scene.now e f cause) }
 {
     let mut parts = Vec::new(alloc);
-    put_can(&mut parts, alloc, scene, e, f, lack.kind)?;
-    put_words(&mut parts, alloc, often_text(lack.always))?;
+    put_can(&mut parts, alloc, scene, e, f, cause.kind)?;
+    put_words(&mut parts, alloc, often_text(cause.always))?;
     Ok(parts)
 }
 
@@ -282,7 +282,7 @@ fn order_text(alloc: Global, x: Event, y: Event, rest: &[u8]) -> Result<Vec<u8>,
     Ok(text)
 }
 
-/// That no further order can help: output `o` comes before event `p` in every run.
+/// The sentence that no further order can help: output `o` comes before event `p` in every run.
 fn hopeless_parts(alloc: Global, scene: &Scene, p: Event, o: Event) -> Result<Vec<Part>, AllocError>
     ensures { IfOk result (λ parts. parts.items ≡ hopeless_parts scene.now p o) }
 {
@@ -302,7 +302,7 @@ fn hopeless_parts(alloc: Global, scene: &Scene, p: Event, o: Event) -> Result<Ve
     Ok(parts)
 }
 
-/// Which order would help: event `p` before output `o`.
+/// The order that would help: event `p` before output `o`.
 fn helping_parts(alloc: Global, scene: &Scene, p: Event, o: Event) -> Result<Vec<Part>, AllocError>
     ensures { IfOk result (λ parts. parts.items ≡ helping_parts scene.now p o) }
 {
@@ -322,12 +322,12 @@ fn helping_parts(alloc: Global, scene: &Scene, p: Event, o: Event) -> Result<Vec
     Ok(parts)
 }
 
-/// What a race lacks.
-pub fn lacks_parts(alloc: Global, scene: &Scene, lack: Lack) -> Result<Vec<Part>, AllocError>
-    ensures { IfOk result (λ parts. parts.items ≡ lacks_parts scene.now lack) }
+/// The sentence on the pair of events that a race lacks.
+pub fn causes_parts(alloc: Global, scene: &Scene, cause: Cause) -> Result<Vec<Part>, AllocError>
+    ensures { IfOk result (λ parts. parts.items ≡ causes_parts scene.now cause) }
 {
-    if lack.always {
-        return hopeless_parts(alloc, scene, lack.needed, lack.output);
+    if cause.always {
+        return hopeless_parts(alloc, scene, cause.needed, cause.output);
     }
-    helping_parts(alloc, scene, lack.needed, lack.output)
+    helping_parts(alloc, scene, cause.needed, cause.output)
 }

@@ -1,8 +1,8 @@
 -- What is drawn of an arrow on a line.
 use Rattle.std.proofs.Common.{◌≡◌, ℕ, Bool, true, false, ◌==◌, List, map, refl, arith}
 use Rattle.std.proofs.lemmas.Bool.Decides.{nat_tests}
-use Rattle.msc_scenarios.specs.declared.course.Message.{Message}
-use Rattle.msc_scenarios.specs.declared.course.Step.TheVariants as steps
+use Rattle.msc_scenarios.specs.declared.steps.Message.{Message}
+use Rattle.msc_scenarios.specs.declared.steps.Step.TheVariants as steps
 use Rattle.msc_import.specs.declared.plan.Own.{Own}
 use Rattle.msc_import.specs.declared.plan.Own.TheVariants as owns
 use Rattle.msc_import.specs.ArrowEnds.{arrow_on}

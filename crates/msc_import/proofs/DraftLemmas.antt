@@ -1,4 +1,4 @@
--- Drafts of courses: segments, and shown names.
+-- Drafts of paths: segments, and shown names.
 use Rattle.std.proofs.Common.{◌≡◌, ◌<◌, ◌≤◌, ℕ, ◌+◌, ◌-◌, true, List, [], ◌∷◌, length, get_or, take, drop, map, Option, None, nat_le, refl, sym, ap, ◌∙◌, arith, tests}
 use Rattle.std.specs.Option.{option_or}
 use Rattle.std.proofs.lemmas.List.{drop_more, drop_all, take-map, drop-map, length-map}

@@ -1,5 +1,5 @@
 -- What a text is taken as by what it holds, its diagram, and names that are held in place.
-use Rattle.std.proofs.Common.{◌≡◌, ◌≤◌, ℕ, min, take, ◌++◌, Bool, true, false, ◌||◌, List, [], ◌∷◌, length, map, nat_lt, Option, Result, Ok, Err, refl, sym, ap, ◌∙◌, subst, ⊎_elim, inl, inr, arith, tests}
+use Rattle.std.proofs.Common.{◌≡◌, ◌≤◌, ℕ, min, take, ◌++◌, Bool, true, false, List, [], length, map, nat_lt, Option, Result, Ok, Err, refl, sym, ap, ◌∙◌, subst, ⊎_elim, inl, inr, arith, tests}
 use Rattle.std.specs.List.{list_any}
 use Rattle.std.proofs.Math.Nat.{min-eq_left, min-eq_right, min-le_left}
 use Rattle.std.proofs.Math.Seq.{take-append_seam}
@@ -18,11 +18,7 @@ use Rattle.msc_import.specs.Importing.{Imports, Refusal, RefusesSo, answered, be
 use Rattle.msc_mermaid.specs.Lines.{lines_of}
 use Rattle.msc_mermaid.specs.White.{trimmed}
 use Rattle.msc_mermaid.specs.Mermaid.{is_head, mermaid}
-
--- a test of what a view makes of the items of a list
-list_any_map : {X Y : Type 0} (p : Y → Bool) (f : X → Y) (xs : List X) → list_any p (map f xs) ≡ list_any (λ x. p (f x)) xs
-list_any_map p f [] = refl
-list_any_map p f (x ∷ xs) = ap (λ b. p (f x) || b) (list_any_map p f xs)
+use Rattle.msc_markdown.proofs.PassLemmas.{any_view as list_any_map}
 
 module _ {X : Type 0} (view : X → List ℕ) (cross : Option Cross) (text : List ℕ) (lines : List X) (of_text : map view lines ≡ lines_of text) (short : length text ≤ TEXT_LIMIT) where
   begins_so : (b : Bool) → list_any (λ line. is_head (trimmed (view line))) lines ≡ b → begins_diagram text ≡ b

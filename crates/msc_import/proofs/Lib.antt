@@ -1,11 +1,12 @@
 pub mod PlanLemmas
 pub mod DraftLemmas
-pub mod SiteLemmas
+pub mod SpanLemmas
 pub mod NamedLemmas
 pub mod OrderLemmas
 pub mod TogetherLemmas
 pub mod ImportLemmas
 pub mod WholeLemmas
+pub mod AllLemmas
 pub mod SegmentLemmas
-pub mod CourseSegments
+pub mod PathSegments
 pub mod ArrowLemmas

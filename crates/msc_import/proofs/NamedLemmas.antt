@@ -12,7 +12,7 @@ use Rattle.msc_lexer.specs.Words.{word_of}
 use Rattle.msc_parser.specs.declared.tree.Decl.{Decl}
 use Rattle.msc_parser.specs.declared.tree.Section.{Section}
 use Rattle.msc_parser.specs.Drafts.{IsDeclNamed, IsStatementNamed, IsItemNamed, IsSectionNamed, IsDraft, statements_of}
-use Rattle.msc_scenarios.specs.declared.course.Message.{Message}
+use Rattle.msc_scenarios.specs.declared.steps.Message.{Message}
 use Rattle.msc_import.specs.declared.plan.Side.{Side}
 use Rattle.msc_import.specs.declared.plan.Side.TheVariants as sides
 use Rattle.msc_mermaid.specs.declared.statement.Placed.{Placed}

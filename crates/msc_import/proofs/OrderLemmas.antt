@@ -3,9 +3,9 @@ use Rattle.std.proofs.Common.{◌≡◌, ◌≤◌, ℕ, zero, suc, ◌+◌, ◌
 use Rattle.std.specs.List.{flat_map}
 use Rattle.std.proofs.lemmas.List.{append-nil, append_assoc, drop-drop, drop_all, length-append, length_push, map-append, take-append-drop}
 use Rattle.msc_parser.specs.Drafts.{statements_in}
-use Rattle.msc_scenarios.specs.declared.course.Message.{Message}
-use Rattle.msc_scenarios.specs.declared.course.Step.{Step}
-use Rattle.msc_scenarios.specs.declared.course.Step.TheVariants as steps
+use Rattle.msc_scenarios.specs.declared.steps.Message.{Message}
+use Rattle.msc_scenarios.specs.declared.steps.Step.{Step}
+use Rattle.msc_scenarios.specs.declared.steps.Step.TheVariants as steps
 use Rattle.msc_mermaid.specs.declared.fault.ImportFault.{ImportFault}
 use Rattle.msc_mermaid.specs.declared.fault.ImportFault.TheVariants.{Shared}
 use Rattle.msc_import.specs.declared.plan.Frame.{Frame}
@@ -129,7 +129,7 @@ kept_none : (p q : Plan) → q.events ≡ p.events → Fits q → Kept p [] q
 unfolding Kept
 kept_none p q e h = (h, e ∙ sym (append-nil p.events))
 
-without_fault : (b : Bool) (f : ImportFault) (x q : Plan) → cond b (Err f) (Ok x) ≡ Ok q → x ≡ q
+pub without_fault : (b : Bool) (f : ImportFault) (x q : Plan) → cond b (Err f) (Ok x) ≡ Ok q → x ≡ q
 without_fault true f x q e = cc
 without_fault false f x q e = cc
 

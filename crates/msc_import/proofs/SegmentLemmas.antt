@@ -1,4 +1,4 @@
--- Each line has the segments of its course.
+-- Each line has the segments of its path.
 use Rattle.std.proofs.Common.{◌≡◌, ℕ, suc, ◌+◌, ◌-◌, Bool, true, false, not, ◌||◌, ◌&&◌, cond, ◌==◌, nat_le, nat_lt, List, [], ◌∷◌, ◌++◌, length, take, drop, map, slice_get, Some, Result, Ok, Err, refl, sym, ap, ◌∙◌, subst, arith}
 use Rattle.std.specs.List.{flat_map, list_any}
 use Rattle.std.proofs.Math.Seq.{drop-append_seam, take-append_seam}
@@ -7,9 +7,9 @@ use Rattle.std.proofs.lemmas.Bool.Decides.{nat_tests}
 use Rattle.std.proofs.lemmas.List.{append-nil, append_assoc, length-append, length_push}
 use Rattle.std.proofs.lemmas.List.Concat.{flat_map-append}
 use Rattle.msc_place.specs.declared.position.Position.{Position}
-use Rattle.msc_scenarios.specs.declared.course.Message.{Message}
-use Rattle.msc_scenarios.specs.declared.course.Step.{Step}
-use Rattle.msc_scenarios.specs.declared.course.Step.TheVariants as steps
+use Rattle.msc_scenarios.specs.declared.steps.Message.{Message}
+use Rattle.msc_scenarios.specs.declared.steps.Step.{Step}
+use Rattle.msc_scenarios.specs.declared.steps.Step.TheVariants as steps
 use Rattle.msc_mermaid.specs.declared.fault.ImportFault.{ImportFault}
 use Rattle.msc_mermaid.specs.declared.fault.ImportFault.TheVariants.{Shared}
 use Rattle.msc_import.specs.declared.plan.Frame.{Frame}
@@ -24,10 +24,7 @@ use Rattle.msc_import.specs.Plans.{Event, Plan, closed_last, exchange_sides, exc
 use Rattle.msc_import.specs.Segments.{AreBranches, IsSegmented, Segments, arrow_segments, is_some, is_wide, joined, several, together}
 use Rattle.msc_import.specs.Segments.AreBranches.{branch, none}
 use Rattle.msc_import.specs.Segments.IsSegmented.{arrow, nothing, par}
-
-by_test : {X : Type 0} (b : Bool) → (b ≡ true → X) → (b ≡ false → X) → X
-by_test true f g = f refl
-by_test false f g = g refl
+use Rattle.msc_import.proofs.OrderLemmas.{without_fault}
 
 -- the events of segments, and where each ends, behind so many events
 abbrev all_of : Segments → List Event
@@ -197,10 +194,6 @@ stops_many : (n : ℕ) (gs : Segments) → length (stops n gs) ≡ length gs
 unfolding stops
 stops_many n [] = refl
 stops_many n (g ∷ gs) = ap (λ k. suc k) (stops_many (n + length g) gs)
-
-without_fault : (b : Bool) (f : ImportFault) (x q : Plan) → cond b (Err f) (Ok x) ≡ Ok q → x ≡ q
-without_fault true f x q e = cc
-without_fault false f x q e = cc
 
 -- the segments of all branches, one below the other
 abbrev below : List Segments → Segments

@@ -1,4 +1,4 @@
--- The draft of a course: its lines, each with its events.
+-- The draft of a path: its lines, each with its events.
 use Rattle.std.specs.Prelude.{ℕ, ◌+◌, ◌-◌, Bool, cond, not, ◌&&◌, nat_le, List, [], ◌∷◌, ◌++◌, length, take, drop, slice_get, map, codes, Option, None, Some, is_none, unwrap_or, Result}
 use Rattle.std.specs.Option.{option_or}
 use Rattle.std.specs.Str.{bytes_eq}
@@ -13,13 +13,13 @@ use Rattle.msc_parser.specs.declared.tree.Section.{Section}
 use Rattle.msc_parser.specs.declared.tree.Signal.{Signal}
 use Rattle.msc_parser.specs.declared.tree.Statement.{Statement as Drawn}
 use Rattle.msc_parser.specs.declared.tree.Statement.TheVariants.{Message as Signalled, Action as Acts}
-use Rattle.msc_parser.specs.declared.tree.Way.{Way}
-use Rattle.msc_parser.specs.declared.tree.Way.TheVariants as ways
+use Rattle.msc_parser.specs.declared.tree.Direction.{Direction}
+use Rattle.msc_parser.specs.declared.tree.Direction.TheVariants as directions
 use Rattle.msc_parser.specs.Canonical.{canonical}
 use Rattle.msc_parser.specs.Drafts.{statements_of}
 use Rattle.msc_parser.specs.Grammar.{Tree}
 use Rattle.msc_parser.specs.Parsing.{HasDraft}
-use Rattle.msc_scenarios.specs.declared.course.Message.{Message}
+use Rattle.msc_scenarios.specs.declared.steps.Message.{Message}
 use Rattle.msc_mermaid.specs.declared.fault.ImportFault.{ImportFault}
 use Rattle.msc_mermaid.specs.declared.fault.ImportFault.TheVariants.{TooManyArrows}
 use Rattle.msc_mermaid.specs.declared.TheConstants.{DEPTH_LIMIT}
@@ -30,7 +30,7 @@ use Rattle.msc_import.specs.declared.plan.Side.TheVariants as sides
 use Rattle.msc_mermaid.specs.declared.statement.Placed.{Placed}
 use Rattle.msc_mermaid.specs.declared.statement.Statement.{Statement}
 use Rattle.msc_mermaid.specs.declared.statement.Statement.TheVariants.{Declares, Says, Begins, Closes}
-use Rattle.msc_scenarios.specs.Courses.{Walk, at_rest, unended, walk}
+use Rattle.msc_scenarios.specs.Steps.{Walk, at_rest, unended, walk}
 use Rattle.msc_mermaid.specs.Gives.{◌>>=◌, unless}
 use Rattle.msc_import.specs.Plans.{Event, Plan, plans_of}
 use Rattle.msc_scenarios.specs.Naming.{kind_of, made, names_behind}
@@ -54,9 +54,9 @@ abbrev pub line_name : List (List ℕ) → ℕ → List ℕ
 line_name names line = unwrap_or (slice_get names line) []
 
 -- an output or an input of a message
-abbrev pub signal : Way → Message → List ℕ → Signal
-signal way m address = record {
-  way = way;
+abbrev pub signal : Direction → Message → List ℕ → Signal
+signal direction m address = record {
+  direction = direction;
   name = fitted m.name;
   number = Some (fitted m.number);
   parameters = [];
@@ -65,10 +65,10 @@ signal way m address = record {
 
 -- the event of an end
 abbrev pub drawn_side : List (List ℕ) → Message → Side → Drawn
-drawn_side names m sides.Out = Signalled (signal ways.Output m (line_name names m.to))
-drawn_side names m sides.In = Signalled (signal ways.Input m (line_name names m.from))
-drawn_side names m sides.OutBack = Signalled (signal ways.Output m (line_name names m.from))
-drawn_side names m sides.InBack = Signalled (signal ways.Input m (line_name names m.to))
+drawn_side names m sides.Out = Signalled (signal directions.Output m (line_name names m.to))
+drawn_side names m sides.In = Signalled (signal directions.Input m (line_name names m.from))
+drawn_side names m sides.OutBack = Signalled (signal directions.Output m (line_name names m.from))
+drawn_side names m sides.InBack = Signalled (signal directions.Input m (line_name names m.to))
 drawn_side names m sides.Own = Acts (ident_text m)
 drawn_side names m sides.Lost =
     Acts (codes "lost " ++ ident_text m ++ codes " to " ++ line_name names m.to)
@@ -143,8 +143,8 @@ abbrev pub few_events : List ℕ → List Section → Result Tree ImportFault
 few_events name sections =
     unless (nat_le (length (statements_of sections)) TEXT_LIMIT) too_long (tree_of name sections)
 
--- A draft whose text is no longer than a text may be. The limits of arrows, lines and names leave none that
--- is longer; it is looked at all the same, so that what is drawn is read again.
+-- A draft whose text is no longer than a text may be. The limits of arrows, lines and names leave
+-- none that is longer; it is looked at all the same, so that what is drawn is read again.
 abbrev pub short_enough : Tree → Result Tree ImportFault
 short_enough d = unless (nat_le (length (canonical d)) TEXT_LIMIT) too_long d
 
@@ -156,15 +156,19 @@ drawn_as name sections = few_events name sections >>= short_enough
 abbrev pub IsReadAgain : Tree → Type 0
 IsReadAgain d = HasDraft (canonical d) d
 
+-- the draft of a diagram with these lines and statements, of which each line has its plan
+abbrev pub drawn_plans : List ℕ → List (List ℕ) → List Placed → List Plan → Result Tree ImportFault
+drawn_plans name lines ps plans = drawn_as name (sections_on lines (names_behind [] lines) ps 0 plans [])
+
 -- the draft of a walk through these statements
 unfoldable pub drawn_walk : Manner → List ℕ → List Placed → Walk → Result Tree ImportFault
 drawn_walk manner name ps w = do
   plans ← plans_of manner w.steps (length w.lines)
   whole ← unended w w.ending
-  drawn_as name (sections_on w.lines (names_behind [] w.lines) ps 0 plans [])
+  drawn_plans name w.lines ps plans
 
--- The draft of a diagram's scenario with these choices: a walk through all of its statements, with those
--- that are not given the main ones; or its first fault.
+-- The draft of a diagram's scenario with these choices: a walk through all of its statements, with
+-- those that are not given the main ones; or its first fault.
 unfoldable pub drawn : Manner → List ℕ → Diagram → List ℕ → Result Tree ImportFault
 drawn manner name d given =
     drawn_walk manner name d.statements (walk (DEPTH_LIMIT + 1) d.statements [] (at_rest d.lines given))

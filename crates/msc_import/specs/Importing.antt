@@ -1,6 +1,7 @@
--- Imports: the draft of one scenario of a text, with the places of its events, or why there is none.
+-- Imports: the draft of one scenario of a text, with the places of its events, or why there is
+-- none.
 use Rattle.std.specs.Prelude.{◌≡◌, ◌⊎◌, ℕ, Bool, true, false, cond, ◌==◌, nat_lt, List, [], ◌∷◌, length, take, Option, None, Some, Result, Ok, Err, option_map}
-use Rattle.std.specs.List.{list_any}
+use Rattle.std.specs.List.{flat_map, list_any}
 use Rattle.msc_lexer.specs.declared.TheConstants.{NAME_LIMIT, TEXT_LIMIT}
 use Rattle.msc_mermaid.specs.declared.fault.Expectation.TheVariants as expectations
 use Rattle.msc_mermaid.specs.declared.fault.ImportFault.{ImportFault}
@@ -15,7 +16,7 @@ use Rattle.msc_import.specs.declared.plan.Manner.{Manner}
 use Rattle.msc_mermaid.specs.declared.statement.Cross.{Cross}
 use Rattle.msc_mermaid.specs.declared.statement.Diagram.{Diagram}
 use Rattle.msc_scenarios.specs.Counting.{scenarios}
-use Rattle.msc_import.specs.Drafting.{drawn, line_name}
+use Rattle.msc_import.specs.Drafting.{drawn, drawn_plans, line_name}
 use Rattle.msc_markdown.specs.Markdowns.{Found, diagram_of_block, entity_on, markdown}
 use Rattle.msc_mermaid.specs.Gives.{◌>>=◌}
 use Rattle.msc_mermaid.specs.Lines.{lines_of}
@@ -23,7 +24,8 @@ use Rattle.msc_mermaid.specs.White.{trimmed}
 use Rattle.msc_mermaid.specs.Mermaid.{end_of, first_line_place, is_head, mermaid}
 use Rattle.msc_place.specs.declared.position.Position.{Position}
 use Rattle.msc_scenarios.specs.Naming.{names_behind}
-use Rattle.msc_import.specs.Places.{event_sites, places, sites_of}
+use Rattle.msc_import.specs.Places.{event_spans, places, places_in, sites_in, sites_of}
+use Rattle.msc_import.specs.Plans.{Plan}
 
 -- a line of the text begins with the word that a Mermaid diagram begins with
 abbrev pub begins_diagram : List ℕ → Bool
@@ -48,7 +50,8 @@ abbrev pub is_any : Language → Bool
 is_any languages.Mermaid = false
 is_any languages.Any = true
 
--- the diagram of a text that is none as a whole, and has sequence diagrams of these numbers: the only one
+-- the diagram of a text that is none as a whole, and has sequence diagrams of these numbers: the
+-- only one
 abbrev pub only_diagram : Language → Option Cross → Found → List ℕ → Result Diagram ImportFault
 only_diagram language cross f [] = diagram_by language cross f.text
 only_diagram language cross f (n ∷ []) = diagram_of_block (is_any language) cross n f
@@ -68,14 +71,15 @@ diagram_in language cross fence text = markdown text >>= diagram_from language c
 abbrev pub usual_rounds : List ℕ
 usual_rounds = 0 ∷ 2 ∷ []
 
--- the choices of the scenario that is asked for: those that are given, else of a diagram of one scenario
--- none
+-- the choices of the scenario that is asked for: those that are given, else of a diagram of one
+-- scenario none
 unfoldable pub chosen : Option (List ℕ) → Diagram → Result (List ℕ) ImportFault
 chosen (Some given) d = Ok given
 chosen None d = cond (scenarios usual_rounds d == 1) (Ok []) (Err (Several (scenarios usual_rounds d)))
 
--- what is wanted of a text: in which language it is, of Markdown which diagram, what arrows with a cross
--- are, how the scenario is drawn, its choices, if they are given, and what the name of its chart is made of
+-- what is wanted of a text: in which language it is, of Markdown which diagram, what arrows with a
+-- cross are, how the scenario is drawn, its choices, if they are given, and what the name of its
+-- chart is made of
 pub record Wanted : Type 0 where
   pub language : Language
   pub fence : Option ℕ
@@ -95,13 +99,24 @@ wanted x = record {
   name = x.name.now;
 }
 
--- the draft of a diagram's scenario with these choices, the places of its events, and what of the text people read
+-- what is imported of a diagram, of which these lines have these plans
+unfoldable pub imported_plans : List ℕ → Diagram → List (List ℕ) → List Plan → Result Imported ImportFault
+imported_plans name d lines plans = do
+  draft ← drawn_plans name lines d.statements plans
+  Ok (record {
+    draft = draft;
+    places = flat_map places_in plans;
+    spans = sites_of d (flat_map sites_in plans);
+  })
+
+-- the draft of a diagram's scenario with these choices, the places of its events, and what of the
+-- text people read
 unfoldable pub drawn_at : Manner → List ℕ → Diagram → List ℕ → Result Imported ImportFault
 drawn_at manner name d given = do
   draft ← drawn manner name d given
   at ← places manner d given
-  events ← event_sites manner d given
-  Ok (record { draft = draft; places = at; sites = sites_of d events })
+  events ← event_spans manner d given
+  Ok (record { draft = draft; places = at; spans = sites_of d events })
 
 -- those of the scenario that is asked for
 unfoldable pub scenario_of : Wanted → Diagram → Result Imported ImportFault
@@ -120,7 +135,8 @@ pub record Refusal : Type 0 where
 abbrev pub seen : Refused → Refusal
 seen e = record { fault = e.fault; name = short_bytes e.name }
 
--- the line of a diagram that a fault speaks of, by its name in charts, of which names have no more bytes
+-- the line of a diagram that a fault speaks of, by its name in charts, of which names have no more
+-- bytes
 abbrev pub line_shared : List (List ℕ) → ImportFault → List ℕ
 line_shared lines (Shared at line) = take NAME_LIMIT (line_name (names_behind [] lines) line)
 line_shared lines fault = []

@@ -1,10 +1,10 @@
--- What holds of the draft of every course.
+-- What holds of the draft of every path.
 use Rattle.std.specs.Prelude.{◌≡◌, ℕ, List, [], map, Some, Ok}
 use Rattle.std.specs.List.{flat_map, slice_get}
 use Rattle.msc_parser.specs.Drafts.{statements_in}
 use Rattle.msc_mermaid.specs.declared.statement.Placed.{Placed}
-use Rattle.msc_scenarios.specs.declared.course.Step.{Step}
-use Rattle.msc_scenarios.specs.declared.course.Step.TheVariants as steps
+use Rattle.msc_scenarios.specs.declared.steps.Step.{Step}
+use Rattle.msc_scenarios.specs.declared.steps.Step.TheVariants as steps
 use Rattle.msc_import.specs.declared.plan.Manner.{Manner}
 use Rattle.msc_import.specs.declared.plan.Own.{Own}
 use Rattle.msc_import.specs.Drafting.{drawn_event, section_of}
@@ -17,7 +17,7 @@ ends_on own line (steps.Opens text) = []
 ends_on own line steps.Next = []
 ends_on own line steps.Closes = []
 
--- each line of a draft has the ends of the course's arrows in their order
+-- each line of a draft has the ends of the path's arrows in their order
 abbrev pub LinesKeepTheArrowsOrder : Type 0
 LinesKeepTheArrowsOrder =
     (manner : Manner) (names : List (List ℕ)) (line : ℕ) (ident : List ℕ) (ps : List Placed) (ss : List Step) (lines : ℕ) (plans : List Plan) (p : Plan) → plans_of manner ss lines ≡ Ok plans → slice_get plans line ≡ Some p → flat_map statements_in (section_of names line ident ps p).items ≡ map (drawn_event names) (flat_map (ends_on manner.own line) ss)

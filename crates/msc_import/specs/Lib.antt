@@ -3,6 +3,7 @@ pub mod Plans
 pub mod Drafting
 pub mod Places
 pub mod Importing
+pub mod Drawings
 pub mod Whole
 pub mod Laws
 pub mod Segments

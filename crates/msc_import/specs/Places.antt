@@ -6,14 +6,14 @@ use Rattle.msc_mermaid.specs.declared.TheConstants.{DEPTH_LIMIT}
 use Rattle.msc_mermaid.specs.declared.fault.ImportFault.{ImportFault}
 use Rattle.msc_place.specs.declared.position.Position.{Position}
 use Rattle.msc_import.specs.declared.plan.Manner.{Manner}
-use Rattle.msc_import.specs.declared.siting.EventSite.{EventSite}
-use Rattle.msc_import.specs.declared.siting.Sites.{Sites}
+use Rattle.msc_import.specs.declared.spanning.EventSpans.{EventSpans}
+use Rattle.msc_import.specs.declared.spanning.TextSpans.{TextSpans}
 use Rattle.msc_mermaid.specs.declared.statement.Diagram.{Diagram}
 use Rattle.msc_mermaid.specs.declared.statement.Placed.{Placed}
 use Rattle.msc_mermaid.specs.declared.statement.Span.{Span}
 use Rattle.msc_mermaid.specs.declared.statement.Statement.{Statement}
 use Rattle.msc_mermaid.specs.declared.statement.Statement.TheVariants.{Declares, Says, Begins, Closes}
-use Rattle.msc_scenarios.specs.Courses.{Walk, walk, at_rest, unended}
+use Rattle.msc_scenarios.specs.Steps.{Walk, walk, at_rest, unended}
 use Rattle.msc_import.specs.Plans.{Event, Plan, plans_of}
 use Rattle.msc_mermaid.specs.Gives.{◌>>=◌}
 
@@ -38,24 +38,24 @@ places manner d given =
     walk_places manner (walk (DEPTH_LIMIT + 1) d.statements [] (at_rest d.lines given))
 
 -- where an event's statement and its label stand in the text
-abbrev pub site_of : Event → EventSite
+abbrev pub site_of : Event → EventSpans
 site_of e = record { statement = e.message.statement; label = e.message.label }
 
 -- those of a line's events
-abbrev pub sites_in : Plan → List EventSite
+abbrev pub sites_in : Plan → List EventSpans
 sites_in p = map site_of p.events
 
 -- those of a walk, line by line, where it has a draft
-unfoldable pub walk_sites : Manner → Walk → Result (List EventSite) ImportFault
-walk_sites manner w = do
+unfoldable pub walk_spans : Manner → Walk → Result (List EventSpans) ImportFault
+walk_spans manner w = do
   plans ← plans_of manner w.steps (length w.lines)
   whole ← unended w w.ending
   Ok (flat_map sites_in plans)
 
 -- those of a diagram's scenario with these choices
-unfoldable pub event_sites : Manner → Diagram → List ℕ → Result (List EventSite) ImportFault
-event_sites manner d given =
-    walk_sites manner (walk (DEPTH_LIMIT + 1) d.statements [] (at_rest d.lines given))
+unfoldable pub event_spans : Manner → Diagram → List ℕ → Result (List EventSpans) ImportFault
+event_spans manner d given =
+    walk_spans manner (walk (DEPTH_LIMIT + 1) d.statements [] (at_rest d.lines given))
 
 -- a statement gives a line a shown name
 abbrev pub shows : List ℕ → Statement → Bool
@@ -70,8 +70,9 @@ unfoldable pub shown_at : List ℕ → List Placed → Option Span
 shown_at ident [] = None
 shown_at ident (p ∷ ps) = cond (shows ident p.statement) (Some p.shown) (shown_at ident ps)
 
--- where the names and the first shown names of a diagram's lines stand, and what stands of these events
-abbrev pub sites_of : Diagram → List EventSite → Sites
+-- where the names and the first shown names of a diagram's lines stand, and what stands of these
+-- events
+abbrev pub sites_of : Diagram → List EventSpans → TextSpans
 sites_of d events = record {
   names = d.names;
   shown = map (λ ident. shown_at ident d.statements) d.lines;

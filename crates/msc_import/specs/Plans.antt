@@ -1,9 +1,9 @@
--- What each line has of a course: the ends of its arrows in their order, in segments. Branches of a par that
--- have one segment each on a line are a coregion there.
+-- What each line has of a path: the ends of its arrows in their order, in segments. Branches of a
+-- par that have one segment each on a line are a coregion there.
 use Rattle.std.specs.Prelude.{ℕ, ◌+◌, ◌-◌, Bool, false, cond, not, ◌||◌, ◌&&◌, ◌==◌, nat_lt, List, [], ◌∷◌, ◌++◌, length, take, slice_get, replicate, Option, None, Some, Result, Ok, Err}
-use Rattle.msc_scenarios.specs.declared.course.Message.{Message}
-use Rattle.msc_scenarios.specs.declared.course.Step.{Step}
-use Rattle.msc_scenarios.specs.declared.course.Step.TheVariants as steps
+use Rattle.msc_scenarios.specs.declared.steps.Message.{Message}
+use Rattle.msc_scenarios.specs.declared.steps.Step.{Step}
+use Rattle.msc_scenarios.specs.declared.steps.Step.TheVariants as steps
 use Rattle.msc_mermaid.specs.declared.fault.ImportFault.{ImportFault}
 use Rattle.msc_mermaid.specs.declared.fault.ImportFault.TheVariants.{Shared}
 use Rattle.msc_place.specs.declared.position.Position.{Position}
@@ -32,7 +32,8 @@ single_sides own line m =
 unfoldable pub is_exchange : Message → Bool
 is_exchange m = m.both && not m.lost && not (m.from == m.to)
 
--- the ends on a line of an arrow with two heads: the output of one message, and the input of the other
+-- the ends on a line of an arrow with two heads: the output of one message, and the input of the
+-- other
 abbrev pub exchange_sides : ℕ → Message → List Side
 exchange_sides line m =
     cond (m.from == line) (sides.Out ∷ sides.InBack ∷ []) (cond (m.to == line) (sides.OutBack ∷ sides.In ∷ []) [])
@@ -59,8 +60,8 @@ pub record Event : Type 0 where
 abbrev pub seen : Planned → Event
 seen p = record { message = p.message.now; side = p.side }
 
--- What a line has so far: its events, how many there are up to the end of each of its segments, and the
--- pars that are open, the innermost one last.
+-- What a line has so far: its events, how many there are up to the end of each of its segments, and
+-- the pars that are open, the innermost one last.
 pub record Plan : Type 0 where
   pub events : List Event
   pub ends : List ℕ
@@ -174,8 +175,8 @@ planned_all manner s done [] = Ok done
 planned_all manner s done (p ∷ ps) =
     planned manner (length done) s p >>= (λ q. planned_all manner s (done ++ q ∷ []) ps)
 
--- All lines take these steps, one step after the other. So the first par counts that a line refuses, and
--- there the first such line.
+-- All lines take these steps, one step after the other. So the first par counts that a line
+-- refuses, and there the first such line.
 unfoldable pub plans_on : Manner → List Step → List Plan → Result (List Plan) ImportFault
 plans_on manner [] ps = Ok ps
 plans_on manner (s ∷ ss) ps = planned_all manner s [] ps >>= (λ qs. plans_on manner ss qs)

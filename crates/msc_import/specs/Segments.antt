@@ -1,13 +1,13 @@
--- What a line has of a course, segment by segment. Events of one segment are in no order among themselves; those of
--- one segment are drawn before those of all that follow it.
+-- What a line has of a path, segment by segment. Events of one segment are in no order among
+-- themselves; those of one segment are drawn before those of all that follow it.
 use Rattle.std.specs.Prelude.{◌≡◌, ℕ, Bool, true, false, not, ◌||◌, ◌&&◌, cond, nat_lt, List, [], ◌∷◌, ◌++◌, length, map, Some, Ok}
 use Rattle.std.specs.List.{flat_map, list_any, slice_get}
 use Rattle.msc_place.specs.declared.position.Position.{Position}
 use Rattle.msc_mermaid.specs.declared.statement.Diagram.{Diagram}
 use Rattle.msc_mermaid.specs.declared.statement.Placed.{Placed}
-use Rattle.msc_scenarios.specs.declared.course.Message.{Message}
-use Rattle.msc_scenarios.specs.declared.course.Step.{Step}
-use Rattle.msc_scenarios.specs.declared.course.Step.TheVariants as steps
+use Rattle.msc_scenarios.specs.declared.steps.Message.{Message}
+use Rattle.msc_scenarios.specs.declared.steps.Step.{Step}
+use Rattle.msc_scenarios.specs.declared.steps.Step.TheVariants as steps
 use Rattle.msc_scenarios.specs.Histories.{History, IsHistory}
 use Rattle.msc_import.specs.declared.plan.Manner.{Manner}
 use Rattle.msc_import.specs.declared.plan.Own.{Own}
@@ -24,8 +24,8 @@ abbrev pub together : List Event → Segments
 together [] = []
 together (e ∷ es) = (e ∷ es) ∷ []
 
--- The segments of an arrow on a line: each of its ends is one, from top to bottom. The two ends of an arrow with
--- two heads are one together.
+-- The segments of an arrow on a line: each of its ends is one, from top to bottom. The two ends of
+-- an arrow with two heads are one together.
 abbrev pub arrow_segments : Own → ℕ → Message → Segments
 arrow_segments own line m =
     cond (is_exchange m) (together (ends_on own line (steps.Meets m))) (map (λ e. e ∷ []) (ends_on own line (steps.Meets m)))
@@ -44,8 +44,8 @@ several (b ∷ bs) = (is_some b && list_any is_some bs) || several bs
 abbrev pub is_wide : List Segments → Bool
 is_wide bs = list_any (λ b. nat_lt 1 (length b)) bs
 
--- The segments of a par: where several of its branches have one, and none has more, all are one together. Else
--- those of a branch stand below those of the branches before it.
+-- The segments of a par: where several of its branches have one, and none has more, all are one
+-- together. Else those of a branch stand below those of the branches before it.
 abbrev pub joined : List Segments → Segments
 joined bs = cond (several bs && not (is_wide bs)) (flat_map (λ g. g) (flat_map (λ b. b) bs) ∷ []) (flat_map (λ b. b) bs)
 
@@ -64,8 +64,9 @@ mutual
 abbrev pub HasSegments : Own → ℕ → List Step → Type 0
 HasSegments own line ss = (gs : Segments) × IsSegmented own line ss gs
 
--- Each line of a draft has the segments of its course, each an item: an event by itself, or a coregion. So what is
--- drawn first on it is drawn before what is in a later segment, and before nothing else.
+-- Each line of a draft has the segments of its path, each an item: an event by itself, or a
+-- coregion. So what is drawn first on it is drawn before what is in a later segment, and before
+-- nothing else.
 abbrev pub LinesAreDrawnInSegments : Type 0
 LinesAreDrawnInSegments =
     (manner : Manner) (names : List (List ℕ)) (line : ℕ) (ident : List ℕ) (ps : List Placed) (ss : List Step) (lines : ℕ) (plans : List Plan) (p : Plan) (gs : Segments) → plans_of manner ss lines ≡ Ok plans → slice_get plans line ≡ Some p → IsSegmented manner.own line ss gs

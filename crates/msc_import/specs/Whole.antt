@@ -1,21 +1,24 @@
 -- All scenarios of a text, each with its draft and the places of its events, or why there are none.
-use Rattle.std.specs.Prelude.{ℕ, cond, nat_lt, List, [], ◌∷◌, ◌++◌, Option, Result, Ok, Err}
+use Rattle.std.specs.Prelude.{◌≡◌, ℕ, Bool, true, false, not, ◌&&◌, cond, nat_lt, List, [], Option, Result, Ok, Err, is_ok}
 use Rattle.msc_mermaid.specs.declared.fault.ImportFault.{ImportFault}
 use Rattle.msc_mermaid.specs.declared.fault.ImportFault.TheVariants.{TooManyScenarios}
-use Rattle.msc_import.specs.declared.importing.Imported.{Imported}
 use Rattle.msc_import.specs.declared.importing.Language.{Language}
 use Rattle.msc_import.specs.declared.plan.Manner.{Manner}
+use Rattle.msc_import.specs.declared.plan.Par.{Par}
+use Rattle.msc_import.specs.declared.plan.Par.TheVariants as pars
 use Rattle.msc_mermaid.specs.declared.statement.Cross.{Cross}
 use Rattle.msc_mermaid.specs.declared.statement.Diagram.{Diagram}
 use Rattle.msc_import.specs.declared.whole.ImportingAll.{ImportingAll}
-use Rattle.msc_import.specs.declared.whole.Scenario.{Scenario}
+use Rattle.msc_import.specs.declared.drawings.Scenario.{Scenario}
 use Rattle.msc_import.specs.declared.whole.Scenarios.{Scenarios}
+use Rattle.msc_import.specs.declared.whole.Tried.{Tried}
 use Rattle.msc_markdown.specs.Markdowns.{Found, markdown}
 use Rattle.msc_scenarios.specs.Choosing.{all_choices}
 use Rattle.msc_scenarios.specs.Counting.{scenarios}
 use Rattle.msc_import.specs.Drafting.{chart_name}
 use Rattle.msc_mermaid.specs.Gives.{◌>>=◌}
-use Rattle.msc_import.specs.Importing.{Refusal, answered, diagram_from, drawn_at, found_as}
+use Rattle.msc_import.specs.Drawings.{scenarios_on, AreDrawn, AreFirst}
+use Rattle.msc_import.specs.Importing.{Refusal, answered, diagram_from, found_as}
 
 -- what is wanted of a text: in which language it is, of Markdown which diagram, what arrows with a cross
 -- are, how scenarios are drawn, the numbers of rounds that each loop goes, the most scenarios that there may
@@ -41,32 +44,48 @@ wanted_all x = record {
   name = x.name.now;
 }
 
--- a scenario: its choices, its draft and the places of its events
-abbrev pub with_choices : List ℕ → Imported → Scenario
-with_choices given x = record { choices = given; draft = x.draft; places = x.places; sites = x.sites }
-
--- the scenario with these choices
-unfoldable pub scenario_with : Manner → List ℕ → Diagram → List ℕ → Result Scenario ImportFault
-scenario_with manner name d given = do
-  x ← drawn_at manner name d given
-  Ok (with_choices given x)
-
--- these scenarios, and then those with these choices; or the first fault of the first that has one
-unfoldable pub scenarios_on : Manner → List ℕ → Diagram → List Scenario → List (List ℕ) → Result (List Scenario) ImportFault
-scenarios_on manner name d done [] = Ok done
-scenarios_on manner name d done (given ∷ lists) =
-    scenario_with manner name d given >>= (λ s. scenarios_on manner name d (done ++ s ∷ []) lists)
-
 -- all scenarios of a diagram, in the order of their choices, where there are no more than there may be
 unfoldable pub all_scenarios : WantedAll → Diagram → Result (List Scenario) ImportFault
 all_scenarios x d =
     cond (nat_lt x.limit (scenarios x.rounds d)) (Err (TooManyScenarios x.limit)) (scenarios_on x.manner x.name d [] (all_choices x.rounds d))
 
--- the same, with the name of the charts
+-- the same is wanted, but parallel branches are refused that would be drawn one below the other
+abbrev pub refusing : WantedAll → WantedAll
+refusing x = record {
+  language = x.language;
+  fence = x.fence;
+  cross = x.cross;
+  manner = record { own = x.manner.own; par = pars.Refused };
+  rounds = x.rounds;
+  limit = x.limit;
+  name = x.name;
+}
+
+-- parallel branches may be drawn one below the other
+abbrev pub may_draw : Par → Bool
+may_draw pars.Refused = false
+may_draw pars.Drawn = true
+
+-- some are, in a scenario: there would be no scenarios if such branches were refused
+abbrev pub draws_branches : WantedAll → Diagram → Bool
+draws_branches x d = may_draw x.manner.par && not (is_ok (all_scenarios (refusing x) d))
+
+-- the same, with the name of the charts, and whether parallel branches are drawn one below the other
 unfoldable pub all_of : WantedAll → Diagram → Result Scenarios ImportFault
 all_of x d = do
   found ← all_scenarios x d
-  Ok (record { name = chart_name x.name; list = found })
+  Ok (record { name = chart_name x.name; list = found; drawn = draws_branches x d })
+
+-- the choices of all scenarios of a diagram: there are no more than there may be, and each has a draft
+pub record AreChoices (x : WantedAll) (d : Diagram) (lists : List (List ℕ)) : Type 0 where
+  pub few : nat_lt x.limit (scenarios x.rounds d) ≡ false
+  pub all : lists ≡ all_choices x.rounds d
+  pub drawn : AreDrawn (scenarios_on x.manner x.name d [] lists)
+
+-- the same of the choices that were tried, and the first scenarios
+abbrev pub IsTried : WantedAll → Diagram → Tried → Type 0
+IsTried x d t =
+    AreChoices x d t.lists.items × AreFirst x.manner x.name d t.lists.items t.first.items
 
 -- what is imported of a text that holds this, where all its scenarios are
 abbrev pub imported_all_from : WantedAll → Found → Result Scenarios Refusal

@@ -1,4 +1,4 @@
-//! The draft of a course.
+//! The draft of a path.
 
 ghost use Rattle.std.specs.Prelude.{◌≡◌, ◌++◌, codes, map, IfOk};
 ghost use Rattle.std.specs.List.{list_all};
@@ -14,11 +14,11 @@ use crate::plan::{Planned, Side};
 use listed::Listed;
 use msc_lexer::{NAME_LIMIT, Word};
 use msc_mermaid::{Placed, Statement, is_word_byte};
-use msc_parser::{Decl, Item, Name, Signal, Statement as Drawn, Way};
+use msc_parser::{Decl, Direction, Item, Name, Signal, Statement as Drawn};
 use msc_scenarios::{Message, kind_of};
 use std::alloc::{AllocError, Global};
 
-/// Whether all bytes are such as names are made of.
+/// Whether all bytes can be in names.
 fn are_word_bytes(bytes: &[u8]) -> bool
     ensures { result ≡ list_all is_run_byte bytes.now }
 {
@@ -35,7 +35,7 @@ fn is_chart_name(bytes: &[u8]) -> bool
         && bytes.len() <= NAME_LIMIT
 }
 
-/// The bytes where they are a name of charts, and else one letter.
+/// The bytes if they are a name of charts, otherwise one letter.
 #[tactic(auto, unfolding(crate::specs::Drafting::fitted))]
 pub(crate) fn fitted(alloc: Global, bytes: &[u8]) -> Result<Name, AllocError>
     ensures { IfOk result (λ n. n ≡ fitted bytes.now) }
@@ -68,11 +68,16 @@ pub(crate) fn line_name(names: &[Name], line: usize) -> &[u8]
 }
 
 /// An output or an input of a message.
-fn signal(alloc: Global, way: Way, message: &Message, address: &[u8]) -> Result<Signal, AllocError>
-    ensures { IfOk result (λ s. s ≡ signal way message.now address.now) }
+fn signal(
+    alloc: Global,
+    direction: Direction,
+    message: &Message,
+    address: &[u8],
+) -> Result<Signal, AllocError>
+    ensures { IfOk result (λ s. s ≡ signal direction message.now address.now) }
 {
     Ok(Signal {
-        way,
+        direction,
         name: fitted(alloc, message.name.as_slice())?,
         number: Some(fitted(alloc, message.number.as_slice())?),
         parameters: Listed::from_vec(Vec::new(alloc)),
@@ -80,7 +85,7 @@ fn signal(alloc: Global, way: Way, message: &Message, address: &[u8]) -> Result<
     })
 }
 
-/// What nobody takes.
+/// The text of the action for a message that is lost.
 fn lost_text(alloc: Global, names: &[Name], message: &Message) -> Result<Vec<u8>, AllocError>
     ensures { IfOk result (λ v. v.items
         ≡ codes "lost " ++ ident_text message.now ++ codes " to " ++ line_name names.now message.now.to) }
@@ -101,10 +106,10 @@ fn drawn_event(alloc: Global, names: &[Name], planned: Planned) -> Result<Drawn,
     let from = line_name(names, message.from);
     let to = line_name(names, message.to);
     match planned.side {
-        Side::Out => Ok(Drawn::Message(signal(alloc, Way::Output, message, to)?)),
-        Side::In => Ok(Drawn::Message(signal(alloc, Way::Input, message, from)?)),
-        Side::OutBack => Ok(Drawn::Message(signal(alloc, Way::Output, message, from)?)),
-        Side::InBack => Ok(Drawn::Message(signal(alloc, Way::Input, message, to)?)),
+        Side::Out => Ok(Drawn::Message(signal(alloc, Direction::Output, message, to)?)),
+        Side::In => Ok(Drawn::Message(signal(alloc, Direction::Input, message, from)?)),
+        Side::OutBack => Ok(Drawn::Message(signal(alloc, Direction::Output, message, from)?)),
+        Side::InBack => Ok(Drawn::Message(signal(alloc, Direction::Input, message, to)?)),
         Side::Own => Ok(Drawn::Action(Listed::from_vec(ident_text(alloc, message)?))),
         Side::Lost => Ok(Drawn::Action(Listed::from_vec(lost_text(alloc, names, message)?))),
     }
@@ -188,7 +193,7 @@ fn shown_of<'s>(ident: &[u8], statements: &'s [Placed]) -> Option<&'s [u8]>
     None
 }
 
-/// What a line of this name is of, with names of charts alone.
+/// The kind of a line of this name, with names of charts only.
 fn fitted_kind(alloc: Global, name: &[u8], shown: &[u8]) -> Result<Listed<Name>, AllocError>
     ensures { IfOk result (λ l. l ≡ map fitted (kind_of name.now shown.now)) }
 {
@@ -200,7 +205,7 @@ fn fitted_kind(alloc: Global, name: &[u8], shown: &[u8]) -> Result<Listed<Name>,
     Ok(Listed::from_vec(names))
 }
 
-/// A line's name and what it is of.
+/// The name and the kind of a line.
 #[tactic(auto, unfolding(crate::specs::Drafting::decl_of))]
 pub(crate) fn decl_of(
     alloc: Global,

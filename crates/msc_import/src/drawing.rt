@@ -3,7 +3,8 @@
 ghost use Rattle.std.specs.Prelude.{◌≡◌, ◌+◌, ◌<◌, [], length, IfOk, IfSome, IfNone, OnOk, nat_le};
 ghost use Rattle.std.specs.List.{AllByRecursion, flat_map};
 ghost use Rattle.msc_parser.specs.Drafts.{IsSectionNamed, statements_in, statements_of};
-ghost use Rattle.msc_import.specs.Drafting.{chart_name, drawn, drawn_as, drawn_walk, few_events};
+ghost use Rattle.msc_import.specs.Drafting.{chart_name, drawn, drawn_as, drawn_plans, drawn_walk};
+ghost use Rattle.msc_import.specs.Drafting.{few_events};
 ghost use Rattle.msc_import.specs.Drafting.{line_name, section_of, sections_on, short_enough, too_long};
 ghost use Rattle.msc_import.specs.Drafting.{IsReadAgain};
 ghost use Rattle.msc_mermaid.specs.Gives.{Gives};
@@ -19,7 +20,7 @@ use msc_place::Position;
 use msc_scenarios::{Walker, made, names_of};
 use std::alloc::{AllocError, Global};
 
-/// The fault of a draft that is too long as a whole: no arrow of it is one too many.
+/// The fault of a draft that is too long as a whole: no arrow of it is the one too many.
 fn too_long() -> ImportFault
     ensures { result ≡ too_long }
 {
@@ -36,7 +37,7 @@ fn events_in(item: &Item) -> usize
     }
 }
 
-/// What is left of so many events without those of the items, if they are there.
+/// The rest of this number of events without those of the items, if they are there.
 fn spend(items: &[Item], events: usize) -> Option<usize>
     ensures some { IfSome result
         (λ left. left + length (flat_map statements_in items.now) ≡ events) }
@@ -53,7 +54,7 @@ fn spend(items: &[Item], events: usize) -> Option<usize>
     Some(left)
 }
 
-/// Whether a text has as many bytes as the sections have events.
+/// Whether the sections have no more events than a text has bytes.
 fn is_few(sections: &[Section]) -> bool
     ensures { result ≡ nat_le (length (statements_of sections.now)) TEXT_LIMIT }
 {
@@ -116,7 +117,7 @@ fn sections_of(
     Ok(sections)
 }
 
-/// The name of a chart, which is made of `name`.
+/// The name of a chart, made from `name`.
 pub fn chart_name(alloc: Global, name: &[u8]) -> Result<Name, AllocError>
     ensures { IfOk result (λ n. n ≡ chart_name name.now) }
 {
@@ -124,7 +125,7 @@ pub fn chart_name(alloc: Global, name: &[u8]) -> Result<Name, AllocError>
     fitted(alloc, plain.as_slice())
 }
 
-/// The draft of these lines, where they have no more events than a text has bytes.
+/// The draft of these lines, if they have no more events than a text has bytes.
 fn few_events(alloc: Global, name: &[u8], sections: Vec<Section>) -> Result<Draft, ImportFault>
     requires { AllByRecursion IsSectionNamed sections.items }
     ensures { Gives (λ d. d) result (few_events name.now sections.items) }
@@ -137,7 +138,7 @@ fn few_events(alloc: Global, name: &[u8], sections: Vec<Section>) -> Result<Draf
     Ok(Draft::new(name, header, Listed::from_vec(sections)))
 }
 
-/// Nothing, where the text of a draft is no longer than a text may be.
+/// Nothing, if the text of a draft is no longer than a text may be.
 fn short_enough(alloc: Global, draft: &Draft) -> Result<(), ImportFault>
     ensures short { Leaves result draft.now (short_enough draft.now) }
     ensures again { OnOk result (IsReadAgain draft.now) }
@@ -160,9 +161,25 @@ fn drawn_as(alloc: Global, name: &[u8], sections: Vec<Section>) -> Result<Draft,
     Ok(draft)
 }
 
+/// The draft of a diagram with these lines and statements, of which each line has its plan.
+pub(crate) fn drawn_plans(
+    alloc: Global,
+    name: &[u8],
+    lines: &[Listed<u8>],
+    statements: &[Placed],
+    plans: &[Plan],
+) -> Result<Draft, ImportFault>
+    ensures drawn { Gives (λ d. d) result (drawn_plans name.now lines.now statements.now plans.now) }
+    ensures again { IfOk result (λ d. IsReadAgain d) }
+{
+    let names = names_of(alloc, lines)?;
+    let sections = sections_of(alloc, lines, names.as_slice(), statements, plans)?;
+    drawn_as(alloc, name, sections)
+}
+
 /// The draft of a walk through these statements.
 #[tactic(auto, unfolding(crate::specs::Drafting::drawn_walk))]
-pub(crate) fn drawn_walk(
+fn drawn_walk(
     alloc: Global,
     manner: Manner,
     name: &[u8],
@@ -175,16 +192,14 @@ pub(crate) fn drawn_walk(
     let lines = walker.lines();
     let plans = plans_of(alloc, manner, lines.len(), walker.steps())?;
     walker.whole()?;
-    let names = names_of(alloc, lines)?;
-    let sections = sections_of(alloc, lines, names.as_slice(), statements, plans.as_slice())?;
-    drawn_as(alloc, name, sections)
+    drawn_plans(alloc, name, lines, statements, plans.as_slice())
 }
 
-/// The draft of a diagram's scenario with these choices, in the order in which blocks are met; those
-/// that are not given are the main ones. The chart's name is made of `name`. An error is the first
-/// fault of the scenario: parallel branches that share a line, a choice that is more than its
-/// block's greatest one, too many arrows, or more choices than blocks; or a growth of memory that
-/// was refused.
+/// The draft of a diagram's scenario with these choices, in the order in which blocks are met;
+/// choices that are not given are the main ones. The chart's name is made from `name`. An error is
+/// the first fault of the scenario: parallel branches that share a line, a choice that is more than
+/// its block's greatest one, too many arrows, or more choices than blocks; or a growth of memory
+/// that was refused.
 #[tactic(auto, unfolding(crate::specs::Drafting::drawn))]
 pub fn draw(
     alloc: Global,

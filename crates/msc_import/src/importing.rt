@@ -6,8 +6,8 @@ ghost use Rattle.msc_import.specs.Drafting.{IsReadAgain};
 ghost use Rattle.msc_mermaid.specs.Gives.{Gives};
 ghost use Rattle.msc_import.specs.Importing.{Imports, chosen, diagram_by, diagram_from, drawn_at};
 ghost use Rattle.msc_import.specs.Importing.{entity_of};
-ghost use Rattle.msc_import.specs.Importing.{imported, imported_from, is_any, scenario_of, seen};
-ghost use Rattle.msc_import.specs.Importing.{short_bytes};
+ghost use Rattle.msc_import.specs.Importing.{imported, imported_from, imported_plans, is_any};
+ghost use Rattle.msc_import.specs.Importing.{scenario_of, seen, short_bytes};
 ghost use Rattle.msc_import.specs.Importing.{told_by_content, wanted, with_name};
 ghost use Rattle.msc_mermaid.specs.White.{trimmed};
 ghost use Rattle.msc_mermaid.specs.Mermaid.{is_head};
@@ -15,11 +15,11 @@ ghost use Rattle.msc_mermaid.specs.declared.fault.ImportFault.TheVariants.{Memor
 
 use crate::SCENARIO_ROUNDS;
 use crate::drafting::line_name;
-use crate::drawing::drawn_walk;
-use crate::placing::walk_places;
-use crate::plan::Manner;
+use crate::drawing::drawn_plans;
+use crate::placing::places_in;
+use crate::plan::{Manner, Plan, plans_of};
 use crate::short_name::ShortName;
-use crate::siting::{Sites, sites_of, walk_sites};
+use crate::spanning::{TextSpans, sites_in, sites_of};
 use listed::Listed;
 use msc_lexer::TEXT_LIMIT;
 use msc_markdown::Markdown;
@@ -31,43 +31,43 @@ use msc_place::Position;
 use msc_scenarios::{Walker, names_of, scenarios};
 use std::alloc::Global;
 
-/// In which language a text draws its diagram.
+/// The language of a text with a diagram.
 #[derive(Clone, Copy, Debug, PartialEq, Eq)]
 pub enum Language {
     /// Mermaid's sequence diagrams.
     Mermaid,
-    /// The language that the text itself tells: that of the first line that begins a diagram.
+    /// The language of the first line that begins a diagram.
     Any,
 }
 
-/// What is imported of a text, and how.
+/// A text's import: what is imported, and how.
 #[derive(Clone, Copy)]
 pub struct Importing<'a> {
     pub language: Language,
-    /// The number of the block of Markdown that is wanted, from 1; where none is given, the text has
-    /// to be a diagram as a whole, or to have one block that is a sequence diagram.
+    /// The number of the block of Markdown, from 1; without one, the text has to be a diagram as a
+    /// whole, or to have one block that is a sequence diagram.
     pub fence: Option<usize>,
-    /// What arrows with a cross are; where it isn't said, one that may be either is a fault.
+    /// The meaning of arrows with a cross; without one, a cross is a choice.
     pub cross: Option<Cross>,
     pub manner: Manner,
-    /// The choices of the scenario, in the order in which blocks are met; where none are given, the
-    /// diagram has to have one scenario.
+    /// The choices of the scenario, in the order in which blocks are met; without them, the diagram
+    /// has to have one scenario.
     pub choices: Option<&'a [usize]>,
-    /// What the name of the chart is made of.
+    /// The bytes from which the name of the chart is made.
     pub name: &'a [u8],
 }
 
-/// What was imported: a draft; where in the text the arrows of its events begin, in their order; and
-/// where stands what people read of its lines and events.
+/// An import: a draft; the positions of the arrows of its events in the text, in their order; and
+/// the places of the names and labels of its lines and events.
 #[derive(Drop)]
 pub struct Imported {
     pub draft: Draft,
     pub places: Listed<Position>,
-    pub sites: Sites,
+    pub spans: TextSpans,
 }
 
-/// Why nothing was imported: the first fault, and the name of the line of the diagram or the entity
-/// of HTML that it speaks of, if it does.
+/// Why nothing was imported: the first fault, and the name of the line of the diagram, or the
+/// entity of HTML, that the fault has, if any.
 #[derive(Clone, Copy)]
 pub struct Refused {
     pub fault: ImportFault,
@@ -81,7 +81,7 @@ fn begins_diagram(lines: &[&[u8]]) -> bool
     lines.iter().any(|line| is_head(trimmed(line)))
 }
 
-/// The diagram of a text that is to be told by what it holds.
+/// The diagram of a text whose language its content decides.
 #[tactic(auto, unfolding(crate::specs::Importing::told_by_content))]
 fn told_by_content(alloc: Global, cross: Option<Cross>, text: &[u8]) -> Result<Diagram, ImportFault>
     ensures { Gives (λ x. x) result (told_by_content cross text.now) }
@@ -114,7 +114,7 @@ fn diagram_by(
     }
 }
 
-/// Whether the text itself tells its language.
+/// Whether the content of the text decides its language.
 fn is_any(language: Language) -> bool
     ensures { result ≡ is_any language }
 {
@@ -146,7 +146,7 @@ pub(crate) fn diagram_from(
     }
 }
 
-/// The choices of the scenario that is asked for.
+/// The choices of the scenario that is requested.
 #[tactic(auto, unfolding(crate::specs::Importing::chosen))]
 fn chosen<'a>(
     alloc: Global,
@@ -165,9 +165,34 @@ fn chosen<'a>(
     Ok(&[])
 }
 
-/// The draft of a diagram's scenario with these choices, the places of its events, and what of the text
-/// people read, by one walk through the diagram.
-#[tactic(auto, unfolding(crate::specs::Importing::drawn_at, crate::specs::Drafting::drawn, crate::specs::Places::places, crate::specs::Places::event_sites))]
+/// The draft of a diagram, of which these lines have these plans, the places of its events, and the
+/// places of names and labels in the text.
+#[tactic(auto, unfolding(crate::specs::Importing::imported_plans))]
+fn imported_plans(
+    alloc: Global,
+    name: &[u8],
+    diagram: &Diagram,
+    lines: &[Listed<u8>],
+    plans: &[Plan],
+) -> Result<Imported, ImportFault>
+    ensures given { Gives (λ x. x) result
+        (imported_plans name.now diagram.now lines.now plans.now) }
+    ensures again { IfOk result (λ x. IsReadAgain x.draft) }
+{
+    let draft = drawn_plans(alloc, name, lines, diagram.statements.as_slice(), plans)?;
+    let found = places_in(alloc, plans)?;
+    let events = sites_in(alloc, plans)?;
+    let spans = sites_of(alloc, diagram, events)?;
+    Ok(Imported {
+        draft,
+        places: Listed::from_vec(found),
+        spans,
+    })
+}
+
+/// The draft of a diagram's scenario with these choices, the places of its events, and the places
+/// of names and labels in the text, by one walk through the diagram.
+#[tactic(auto, unfolding(crate::specs::Importing::drawn_at, crate::specs::Importing::imported_plans, crate::specs::Drafting::drawn, crate::specs::Drafting::drawn_walk, crate::specs::Places::places, crate::specs::Places::walk_places, crate::specs::Places::event_spans, crate::specs::Places::walk_spans))]
 pub(crate) fn drawn_at(
     alloc: Global,
     manner: Manner,
@@ -179,18 +204,13 @@ pub(crate) fn drawn_at(
     ensures again { IfOk result (λ x. IsReadAgain x.draft) }
 {
     let walker = Walker::through(alloc, diagram, given)?;
-    let draft = drawn_walk(alloc, manner, name, diagram.statements.as_slice(), &walker)?;
-    let found = walk_places(alloc, manner, &walker)?;
-    let events = walk_sites(alloc, manner, &walker)?;
-    let sites = sites_of(alloc, diagram, events)?;
-    Ok(Imported {
-        draft,
-        places: Listed::from_vec(found),
-        sites,
-    })
+    let lines = walker.lines();
+    let plans = plans_of(alloc, manner, lines.len(), walker.steps())?;
+    walker.whole()?;
+    imported_plans(alloc, name, diagram, lines, plans.as_slice())
 }
 
-/// Those of the scenario that is asked for.
+/// The draft and the places of the requested scenario.
 #[tactic(auto, unfolding(crate::specs::Importing::scenario_of))]
 fn scenario_of(
     alloc: Global,
@@ -204,7 +224,7 @@ fn scenario_of(
     drawn_at(alloc, importing.manner, importing.name, diagram, given)
 }
 
-/// A fault of a diagram, with the name of the line that it speaks of.
+/// A fault of a diagram, with the name of its line.
 pub(crate) fn with_name(alloc: Global, diagram: &Diagram, fault: ImportFault) -> Refused
     ensures { (result.fault ≡ Memory) ⊎ (seen result ≡ with_name diagram.now.lines fault) }
 {
@@ -220,7 +240,7 @@ pub(crate) fn with_name(alloc: Global, diagram: &Diagram, fault: ImportFault) ->
     }
 }
 
-/// A fault that speaks of no line of a diagram.
+/// A fault without a line of a diagram.
 pub(crate) fn unnamed(fault: ImportFault) -> Refused
     ensures fault { result.fault ≡ fault }
     ensures name { short_bytes result.name ≡ [] }
@@ -231,7 +251,7 @@ pub(crate) fn unnamed(fault: ImportFault) -> Refused
     }
 }
 
-/// A fault of a text, with the entity of HTML that it speaks of.
+/// A fault of a text, with its entity of HTML.
 pub(crate) fn unread(found: &Markdown<'_>, fault: ImportFault) -> Refused
     ensures fault { result.fault ≡ fault }
     ensures name { short_bytes result.name ≡ entity_of found.now fault }
@@ -245,10 +265,10 @@ pub(crate) fn unread(found: &Markdown<'_>, fault: ImportFault) -> Refused
     }
 }
 
-/// What is imported of a text of which it is known what it holds: the draft of the scenario that is
-/// asked for, with the places of its events. An error is the first fault of the diagram, or that the
-/// text has several, or not the one that is asked for; where no choices are given, that the diagram
-/// has several scenarios; the first fault of the scenario; or a growth of memory that was refused.
+/// The import of a text whose blocks are known: the draft of the requested scenario, with the
+/// places of its events. An error is the first fault of the diagram, or that the text has several,
+/// or not the requested one; without choices, that the diagram has several scenarios; the first
+/// fault of the scenario; or a growth of memory that was refused.
 #[tactic(auto, unfolding(crate::specs::Importing::answered))]
 pub fn import_from(
     alloc: Global,
@@ -276,8 +296,8 @@ pub fn import_from(
     }
 }
 
-/// What is imported of a text, as [`import_from`] has it. An error is also that the text is too
-/// long, before all others.
+/// The import of a text, as [`import_from`] makes it. An error is also that the text is too long,
+/// before all others.
 #[tactic(auto, unfolding(crate::specs::Importing::found_as))]
 pub fn import(alloc: Global, importing: Importing<'_>, text: &[u8]) -> Result<Imported, Refused>
     ensures given { Imports result (imported (wanted importing.entry) text.now) }

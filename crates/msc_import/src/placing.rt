@@ -1,4 +1,4 @@
-//! Where the arrows of a scenario's events begin in the text.
+//! The positions of the arrows of a scenario's events in the text.
 
 ghost use Rattle.std.specs.Prelude.{◌≡◌, ◌++◌, [], map, IfOk, OnOk};
 ghost use Rattle.std.specs.List.{flat_map};
@@ -12,7 +12,7 @@ use msc_place::Position;
 use msc_scenarios::Walker;
 use std::alloc::{AllocError, Global};
 
-/// The places of these events' arrows.
+/// Appends the positions of these events' arrows.
 fn put_places(places: &mut Vec<Position>, events: &[Planned]) -> Result<(), AllocError>
     ensures { OnOk result
         (places.new.items ≡ places.old.items ++ map (λ e. place_of (seen e)) events.now) }
@@ -27,8 +27,8 @@ fn put_places(places: &mut Vec<Position>, events: &[Planned]) -> Result<(), Allo
     Ok(())
 }
 
-/// The places of the events on all lines.
-fn places_in(alloc: Global, plans: &[Plan]) -> Result<Vec<Position>, AllocError>
+/// The positions of the arrows of the events on all lines.
+pub(crate) fn places_in(alloc: Global, plans: &[Plan]) -> Result<Vec<Position>, AllocError>
     ensures { IfOk result (λ v. v.items ≡ flat_map places_in plans.now) }
 {
     let mut places = Vec::new(alloc);
@@ -38,13 +38,9 @@ fn places_in(alloc: Global, plans: &[Plan]) -> Result<Vec<Position>, AllocError>
     Ok(places)
 }
 
-/// The places of a walk's events.
+/// The positions of the arrows of a walk's events.
 #[tactic(auto, unfolding(crate::specs::Places::walk_places))]
-pub(crate) fn walk_places(
-    alloc: Global,
-    manner: Manner,
-    walker: &Walker,
-) -> Result<Vec<Position>, ImportFault>
+fn walk_places(alloc: Global, manner: Manner, walker: &Walker) -> Result<Vec<Position>, ImportFault>
     ensures { Gives (λ v. v.items) result (walk_places manner walker.now) }
 {
     let plans = plans_of(alloc, manner, walker.lines().len(), walker.steps())?;
@@ -52,8 +48,8 @@ pub(crate) fn walk_places(
     Ok(places_in(alloc, plans.as_slice())?)
 }
 
-/// Where in the text the arrows of the events begin that the draft of a diagram's scenario with
-/// these choices has, in their order; or the first fault of the scenario.
+/// The positions of the arrows of the events that the draft of a diagram's scenario with these
+/// choices has, in their order; or the first fault of the scenario.
 #[tactic(auto, unfolding(crate::specs::Places::places))]
 pub fn places(
     alloc: Global,

@@ -1,4 +1,4 @@
-//! What each line of a diagram has of a course: ends of messages, in segments.
+//! The part of a path on each line of a diagram: ends of messages, in segments.
 
 ghost use Rattle.std.specs.Prelude.{◌≡◌, [], IfOk, OnOk, map, replicate};
 ghost use Rattle.msc_import.specs.Plans.{closed_last, is_coregion, is_exchange, is_refused};
@@ -15,7 +15,7 @@ use msc_scenarios::{Message, Step};
 use std::alloc::{AllocError, Global};
 use std::marker::Model;
 
-/// What an arrow to oneself is.
+/// The meaning of an arrow to oneself.
 #[derive(Clone, Copy, Debug, PartialEq, Eq)]
 pub enum Own {
     /// An action.
@@ -24,17 +24,17 @@ pub enum Own {
     Message,
 }
 
-/// What parallel branches are that are no coregion on a line: where several have segments there, and
-/// one has more than one.
+/// The meaning of parallel branches that are no coregion on a line: several have segments there,
+/// and one has more than one.
 #[derive(Clone, Copy, Debug, PartialEq, Eq)]
 pub enum Par {
     /// A fault.
     Refused,
-    /// One below the other on that line, in the order of the text.
+    /// They are drawn one below the other on that line, in the order of the text.
     Drawn,
 }
 
-/// How a scenario is drawn.
+/// The options for drawing a scenario.
 #[derive(Clone, Copy, Debug, PartialEq, Eq)]
 pub struct Manner {
     pub own: Own,
@@ -50,11 +50,11 @@ pub(crate) enum Side {
     In,
     /// Both: an action.
     Own,
-    /// The output of what nobody takes.
+    /// The output of a lost message.
     Lost,
     /// The output of the message that its receiver sends back.
     OutBack,
-    /// The input of that.
+    /// The input of that message.
     InBack,
 }
 
@@ -65,8 +65,8 @@ pub(crate) struct Planned<'s> {
     pub side: Side,
 }
 
-/// A par: where it begins in the text; how many segments stood before it, and before its latest
-/// branch; whether a branch has segments, whether several have, and whether one has several.
+/// A par: its position in the text; the number of segments before it, and before its latest branch;
+/// whether a branch has segments, whether several have, and whether one has several.
 #[derive(Clone, Copy)]
 pub(crate) struct Frame {
     pub place: Position,
@@ -77,8 +77,8 @@ pub(crate) struct Frame {
     pub wide: bool,
 }
 
-/// What a line has so far: its events, how many there are up to the end of each of its segments,
-/// and the pars that are open, the innermost one last.
+/// The part of a path on a line so far: its events, the number of events up to the end of each
+/// segment, and the open pars, the innermost one last.
 #[derive(Drop)]
 pub(crate) struct Plan<'s> {
     events: Vec<Planned<'s>>,
@@ -107,7 +107,7 @@ fn is_exchange(message: &Message) -> bool
     message.both && !message.lost && message.from != message.to
 }
 
-/// The ends on a line of an arrow with one head, the upper one first.
+/// The ends of an arrow with one head on a line, the upper one first.
 #[tactic(auto, unfolding(crate::specs::Plans::single_sides))]
 fn single_sides(own: Own, line: usize, message: &Message) -> &'static [Side]
     ensures { result.now ≡ single_sides own line message.now }
@@ -150,7 +150,7 @@ impl Par {
     }
 }
 
-/// The par behind one branch more, when there are so many segments.
+/// The par after one more branch, with this number of segments.
 fn marked(segments: usize, frame: Frame) -> Frame
     ensures { result ≡ marked segments frame }
 {
@@ -165,7 +165,7 @@ fn marked(segments: usize, frame: Frame) -> Frame
 }
 
 impl<'s> Plan<'s> {
-    /// Nothing is planned.
+    /// An empty plan.
     fn new(alloc: Global) -> Self
         ensures { result ≡ unplanned }
     {
@@ -183,14 +183,14 @@ impl<'s> Plan<'s> {
         self.events.as_slice()
     }
 
-    /// How many there are up to the end of each segment.
+    /// The number of events up to the end of each segment.
     pub(crate) fn ends(&self) -> &[usize]
         ensures { result.now ≡ self.now.ends }
     {
         self.ends.as_slice()
     }
 
-    /// Puts one event more, which is a segment.
+    /// Appends one event, which is a segment.
     fn put(&mut self, message: &'s Message, side: Side) -> Result<(), AllocError>
         ensures { OnOk result
             (self.new ≡ with_event self.old (record { message = message.now; side = side })) }
@@ -200,7 +200,7 @@ impl<'s> Plan<'s> {
         Ok(())
     }
 
-    /// Puts these ends of a message more.
+    /// Appends these ends of a message.
     fn put_sides(&mut self, message: &'s Message, sides: &[Side]) -> Result<(), AllocError>
         ensures { OnOk result (self.new ≡ with_sides message.now sides.now self.old) }
     {
@@ -210,7 +210,7 @@ impl<'s> Plan<'s> {
         Ok(())
     }
 
-    /// Puts two ends of a message more, which are one segment.
+    /// Appends two ends of a message, which are one segment.
     fn put_both(
         &mut self,
         message: &'s Message,
@@ -231,7 +231,7 @@ impl<'s> Plan<'s> {
         Ok(())
     }
 
-    /// Puts an arrow more, on this line of the diagram.
+    /// Appends an arrow, on this line of the diagram.
     #[tactic(auto, unfolding(crate::specs::Plans::met))]
     fn meet(&mut self, own: Own, line: usize, message: &'s Message) -> Result<(), AllocError>
         ensures { OnOk result (self.new ≡ met own line message.now self.old) }
@@ -248,7 +248,7 @@ impl<'s> Plan<'s> {
         Ok(())
     }
 
-    /// Begins a par, at this place of the text.
+    /// Begins a par, at this position of the text.
     fn open(&mut self, place: Position) -> Result<(), AllocError>
         ensures { OnOk result (self.new ≡ opened place self.old) }
     {
@@ -292,7 +292,7 @@ impl<'s> Plan<'s> {
         Ok(())
     }
 
-    /// Plans one step more, on this line of the diagram.
+    /// Appends one step, on this line of the diagram.
     #[tactic(auto, unfolding(crate::specs::Plans::planned))]
     fn step(&mut self, manner: Manner, line: usize, step: &'s Step) -> Result<(), ImportFault>
         ensures { Leaves result self.new (planned manner line step.now self.old) }
@@ -321,7 +321,7 @@ fn step_all<'s>(
     Ok(())
 }
 
-/// So many lines of which nothing is planned.
+/// `lines` empty plans.
 fn unplanned<'s>(alloc: Global, lines: usize) -> Result<Vec<Plan<'s>>, AllocError>
     ensures { IfOk result (λ v. v.items ≡ replicate lines unplanned) }
 {
@@ -332,7 +332,7 @@ fn unplanned<'s>(alloc: Global, lines: usize) -> Result<Vec<Plan<'s>>, AllocErro
     Ok(plans)
 }
 
-/// What so many lines have of these steps; or the first par that one of them refuses.
+/// The plans of `lines` lines for these steps; or the first par that one of them refuses.
 pub(crate) fn plans_of<'s>(
     alloc: Global,
     manner: Manner,

@@ -1,12 +1,12 @@
-//! A name that is held in place, as a fault carries it.
+//! A name that is held in place, for faults.
 
 ghost use Rattle.std.specs.Prelude.{◌≡◌, take};
 ghost use Rattle.msc_import.specs.Importing.{short_bytes};
 
 use msc_lexer::NAME_LIMIT;
 
-/// A name of at most as many bytes as a name of charts may have, in place: a fault that carries it
-/// takes no memory. The first `length` bytes are the name's.
+/// A name in place, of at most as many bytes as a name of charts: a fault that has it takes no
+/// memory. The first `length` bytes are the name's.
 #[derive(Clone, Copy)]
 pub struct ShortName {
     pub bytes: [u8; NAME_LIMIT],
@@ -14,7 +14,7 @@ pub struct ShortName {
 }
 
 impl ShortName {
-    /// The bytes of a name, of more than there may be the first ones. It takes no memory.
+    /// The bytes of a name, or its first ones if there are more than that. It takes no memory.
     pub fn of(name: &[u8]) -> ShortName
         ensures { short_bytes result ≡ take NAME_LIMIT name.now }
     {

@@ -1,113 +1,69 @@
-//! All scenarios of a text, each with its draft and the places of its events.
+//! All scenarios of a text. Whether each has a draft is checked first, and the first are kept.
 
-ghost use Rattle.std.specs.Prelude.{[], IfOk};
-ghost use Rattle.std.specs.List.{All};
-ghost use Rattle.msc_import.specs.Drafting.{IsReadAgain};
-ghost use Rattle.msc_mermaid.specs.Gives.{Gives};
-ghost use Rattle.msc_import.specs.Importing.{Imports};
-ghost use Rattle.msc_import.specs.Whole.{all_of, all_scenarios, imported_all, imported_all_from};
-ghost use Rattle.msc_import.specs.Whole.{scenario_with, scenarios_on, wanted_all};
+ghost use Rattle.std.specs.Prelude.{◌≡◌, IfErr, IfOk, Ok};
+ghost use Rattle.msc_mermaid.specs.Gives.{Fails};
+ghost use Rattle.msc_import.specs.Importing.{told_of, Imports};
+ghost use Rattle.msc_import.specs.Whole.{all_of, all_scenarios, draws_branches};
+ghost use Rattle.msc_import.specs.Whole.{imported_all, imported_all_from, wanted_all};
+ghost use Rattle.msc_import.specs.Whole.{AreChoices, IsTried};
 
 use crate::drawing::chart_name;
-use crate::importing::{Language, Refused, diagram_from, drawn_at, unnamed, unread, with_name};
-use crate::plan::Manner;
-use crate::siting::Sites;
+use crate::drawings::{Drawings, Scenario, draw_first, share_lines, try_others};
+use crate::importing::{Language, Refused, diagram_from, unnamed, unread, with_name};
+use crate::plan::{Manner, Par};
 use listed::Listed;
 use msc_markdown::Markdown;
 use msc_mermaid::{Cross, Diagram, ImportFault};
-use msc_parser::{Draft, Name};
-use msc_place::Position;
+use msc_parser::Name;
 use msc_scenarios::{all_choices, scenarios};
-use std::alloc::Global;
+use std::alloc::{AllocError, Global};
 
-/// What is imported of a text where all scenarios are, and how.
+/// The import of all scenarios of a text, and its options.
 #[derive(Clone, Copy)]
-pub struct ImportingAll<'a> {
+pub struct ImportingAll<'r, 'n> {
     pub language: Language,
-    /// The number of the block of Markdown that is wanted, as [`Importing`](crate::Importing) has it.
+    /// The number of the block of Markdown, as in [`Importing`](crate::Importing).
     pub fence: Option<usize>,
-    /// What arrows with a cross are; where it isn't said, one that may be either is a fault.
+    /// The meaning of arrows with a cross; without one, a cross is a choice.
     pub cross: Option<Cross>,
     pub manner: Manner,
     /// The numbers of rounds that each loop goes, in ascending order.
-    pub rounds: &'a [usize],
-    /// The most scenarios that there may be: 1 to [`SCENARIO_LIMIT`](crate::SCENARIO_LIMIT), since
-    /// no more are counted.
+    pub rounds: &'r [usize],
+    /// The greatest number of scenarios: 1 to [`SCENARIO_LIMIT`](crate::SCENARIO_LIMIT), since no
+    /// more are counted.
     pub limit: usize,
-    /// What the name of all the charts is made of.
-    pub name: &'a [u8],
+    /// The bytes from which the name of all charts is made.
+    pub name: &'n [u8],
 }
 
-/// A scenario: the choices of its blocks in the order in which they are met, its draft, where in the
-/// text the arrows of its events begin, in their order, and where stands what people read of its lines
-/// and events.
+/// All scenarios of a diagram, in the order of their choices; the name of the charts; and whether
+/// parallel branches are drawn one below the other in some scenario.
 #[derive(Drop)]
-pub struct Scenario {
-    pub choices: Listed<usize>,
-    pub draft: Draft,
-    pub places: Listed<Position>,
-    pub sites: Sites,
-}
-
-/// All scenarios of a diagram, in the order of their choices, and the name of the charts.
-#[derive(Drop)]
-pub struct Scenarios {
+pub struct Scenarios<'n> {
     pub name: Name,
-    pub list: Listed<Scenario>,
+    pub list: Drawings<'n>,
+    pub drawn: bool,
 }
 
-/// The scenario with these choices.
-#[tactic(auto, unfolding(crate::specs::Whole::scenario_with))]
-fn scenario_with(
-    alloc: Global,
-    manner: Manner,
-    name: &[u8],
-    diagram: &Diagram,
-    given: &Listed<usize>,
-) -> Result<Scenario, ImportFault>
-    ensures given { Gives (λ x. x) result (scenario_with manner name.now diagram.now given.now) }
-    ensures again { IfOk result (λ s. IsReadAgain s.draft) }
-{
-    let imported = drawn_at(alloc, manner, name, diagram, given.as_slice())?;
-    let choices = Vec::from_slice(alloc, given.as_slice())?;
-    Ok(Scenario {
-        choices: Listed::from_vec(choices),
-        draft: imported.draft,
-        places: imported.places,
-        sites: imported.sites,
-    })
+/// The choices of all scenarios of a diagram, each of which has a draft, and the first scenarios.
+#[derive(Drop)]
+struct Tried {
+    lists: Vec<Listed<usize>>,
+    first: Vec<Scenario>,
 }
 
-/// The scenarios with these choices.
-fn scenarios_with(
-    alloc: Global,
-    manner: Manner,
-    name: &[u8],
-    diagram: &Diagram,
-    lists: &[Listed<usize>],
-) -> Result<Vec<Scenario>, ImportFault>
-    ensures given { Gives (λ v. v.items) result
-        (scenarios_on manner name.now diagram.now [] lists.now) }
-    ensures again { IfOk result (λ v. All (λ s. IsReadAgain s.draft) v.items) }
-{
-    let mut found = Vec::new(alloc);
-    for given in lists {
-        let scenario = scenario_with(alloc, manner, name, diagram, given)?;
-        found.push(scenario)?;
-    }
-    Ok(found)
-}
-
-/// All scenarios of a diagram.
+/// The choices of all scenarios of a diagram, and the first scenarios. An error is that there are
+/// more than the limit; the first fault of the first scenario that has one; or a growth of memory
+/// that was refused.
 #[tactic(auto, unfolding(crate::specs::Whole::all_scenarios))]
-fn all_scenarios(
+fn try_scenarios(
     alloc: Global,
-    importing: ImportingAll<'_>,
+    importing: ImportingAll<'_, '_>,
     diagram: &Diagram,
-) -> Result<Vec<Scenario>, ImportFault>
-    ensures given { Gives (λ v. v.items) result
-        (all_scenarios (wanted_all importing.entry) diagram.now) }
-    ensures again { IfOk result (λ v. All (λ s. IsReadAgain s.draft) v.items) }
+) -> Result<Tried, ImportFault>
+    ensures ok { IfOk result (IsTried (wanted_all importing.entry) diagram.now) }
+    ensures err { IfErr result
+        (λ fault. Fails fault (all_scenarios (wanted_all importing.entry) diagram.now)) }
 {
     let ImportingAll {
         manner,
@@ -120,40 +76,88 @@ fn all_scenarios(
         return Err(ImportFault::TooManyScenarios(limit));
     }
     let lists = all_choices(alloc, diagram, rounds)?;
-    scenarios_with(alloc, manner, name, diagram, lists.as_slice())
+    let first = draw_first(alloc, manner, name, diagram, lists.as_slice())?;
+    try_others(
+        alloc,
+        manner,
+        name,
+        diagram,
+        lists.as_slice(),
+        first.as_slice(),
+    )?;
+    Ok(Tried { lists, first })
 }
 
-/// The same, with the name of the charts.
-#[tactic(auto, unfolding(crate::specs::Whole::all_of))]
-fn all_of(
+/// Whether parallel branches are drawn one below the other in a scenario with one of these choices.
+#[tactic(auto, using(crate::proofs::AllLemmas::draws_none))]
+fn draws_branches(
     alloc: Global,
-    importing: ImportingAll<'_>,
+    importing: ImportingAll<'_, '_>,
     diagram: &Diagram,
-) -> Result<Scenarios, ImportFault>
-    ensures given { Gives (λ x. x) result (all_of (wanted_all importing.entry) diagram.now) }
-    ensures again { IfOk result (λ x. All (λ s. IsReadAgain s.draft) x.list) }
+    lists: &[Listed<usize>],
+) -> Result<bool, AllocError>
+    requires { AreChoices (wanted_all importing) diagram.now lists.now }
+    ensures { IfOk result (λ drawn. drawn
+        ≡ draws_branches (wanted_all importing.entry) diagram.now) }
 {
-    let found = all_scenarios(alloc, importing, diagram)?;
-    Ok(Scenarios {
-        name: chart_name(alloc, importing.name)?,
-        list: Listed::from_vec(found),
-    })
+    let Manner { own, par } = importing.manner;
+    match par {
+        Par::Refused => Ok(false),
+        Par::Drawn => {
+            let share = share_lines(alloc, own, diagram, lists)?;
+            Ok(share)
+        }
+    }
 }
 
-/// What is imported of a text of which it is known what it holds: all its scenarios, each once, in
-/// the order of their choices. An error is the first fault of the diagram, or that the text has
-/// several, or not the one that is asked for; that the diagram has more scenarios than it may; the
-/// first fault of the first scenario that has one; or a growth of memory that was refused.
-#[tactic(auto, unfolding(crate::specs::Importing::answered))]
-pub fn import_all_from(
+/// The scenarios with these choices, with the name of the charts.
+fn all_of<'n>(
     alloc: Global,
-    importing: ImportingAll<'_>,
-    found: &Markdown<'_>,
-) -> Result<Scenarios, Refused>
-    ensures given { Imports result (imported_all_from (wanted_all importing.entry) found.now) }
+    importing: ImportingAll<'_, 'n>,
+    diagram: Diagram,
+    tried: Tried,
+) -> Result<Scenarios<'n>, AllocError>
+    requires { IsTried (wanted_all importing) diagram tried }
+    ensures { IfOk result (λ x. all_of (wanted_all importing.entry) diagram ≡ Ok x) }
+{
+    let Tried { lists, first } = tried;
+    let name = chart_name(alloc, importing.name)?;
+    let drawn = draws_branches(alloc, importing, &diagram, lists.as_slice())?;
+    let list = Drawings::of(importing.manner, importing.name, diagram, lists, first);
+    Ok(Scenarios { name, list, drawn })
+}
 
-    // The text of each draft is read again, as this draft.
-    ensures again { IfOk result (λ x. All (λ s. IsReadAgain s.draft) x.list) }
+/// All scenarios of a diagram, with the name of the charts; or why there are none, with the name of
+/// a line.
+fn told_of<'n>(
+    alloc: Global,
+    importing: ImportingAll<'_, 'n>,
+    diagram: Diagram,
+) -> Result<Scenarios<'n>, Refused>
+    ensures { Imports result
+        (told_of diagram.lines (all_of (wanted_all importing.entry) diagram)) }
+{
+    let tried = match try_scenarios(alloc, importing, &diagram) {
+        Ok(tried) => tried,
+        Err(fault) => return Err(with_name(alloc, &diagram, fault)),
+    };
+    match all_of(alloc, importing, diagram, tried) {
+        Ok(scenarios) => Ok(scenarios),
+        Err(_) => Err(unnamed(ImportFault::Memory)),
+    }
+}
+
+/// All scenarios of a text whose blocks are known, each once, in the order of their choices. An
+/// error is the first fault of the diagram, or that the text has several, or not the requested one;
+/// that the diagram has more scenarios than the limit; the first fault of the first scenario that
+/// has one; or a growth of memory that was refused.
+#[tactic(auto, unfolding(crate::specs::Importing::answered))]
+pub fn import_all_from<'n>(
+    alloc: Global,
+    importing: ImportingAll<'_, 'n>,
+    found: &Markdown<'_>,
+) -> Result<Scenarios<'n>, Refused>
+    ensures { Imports result (imported_all_from (wanted_all importing.entry) found.now) }
 {
     let ImportingAll {
         language,
@@ -165,24 +169,18 @@ pub fn import_all_from(
         Ok(diagram) => diagram,
         Err(fault) => return Err(unread(found, fault)),
     };
-    match all_of(alloc, importing, &diagram) {
-        Ok(scenarios) => Ok(scenarios),
-        Err(fault) => Err(with_name(alloc, &diagram, fault)),
-    }
+    told_of(alloc, importing, diagram)
 }
 
-/// What is imported of a text, as [`import_all_from`] has it. An error is also that the text is too
-/// long, before all others.
+/// All scenarios of a text, as [`import_all_from`] makes them. An error is also that the text is
+/// too long, before all others.
 #[tactic(auto, unfolding(crate::specs::Importing::found_as))]
-pub fn import_all(
+pub fn import_all<'n>(
     alloc: Global,
-    importing: ImportingAll<'_>,
+    importing: ImportingAll<'_, 'n>,
     text: &[u8],
-) -> Result<Scenarios, Refused>
-    ensures given { Imports result (imported_all (wanted_all importing.entry) text.now) }
-
-    // The text of each draft is read again, as this draft.
-    ensures again { IfOk result (λ x. All (λ s. IsReadAgain s.draft) x.list) }
+) -> Result<Scenarios<'n>, Refused>
+    ensures { Imports result (imported_all (wanted_all importing.entry) text.now) }
 {
     let found = match Markdown::of(alloc, text) {
         Ok(found) => found,

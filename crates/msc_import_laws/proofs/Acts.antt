@@ -2,7 +2,7 @@
 use Rattle.std.proofs.Common.{◌≡◌, ℕ, ◌+◌, Bool, true, false, not, cond, List, Some, refl, sym, ap, subst, ◌∙◌}
 use Rattle.msc_chart.specs.Events.{Act, Key, MessageEnd, act_of, is_action, is_sent, is_taken}
 use Rattle.msc_chart.specs.Events.Act.{OfMessage}
-use Rattle.msc_scenarios.specs.declared.course.Message.{Message}
+use Rattle.msc_scenarios.specs.declared.steps.Message.{Message}
 use Rattle.msc_import.specs.Drafting.{fitted, line_name}
 use Rattle.msc_import_laws.proofs.EndLists.{End, home}
 use Rattle.msc_import_laws.proofs.Parts.Side.{Out, In, Alone, Lost, OutBack, InBack}

@@ -1,12 +1,12 @@
--- A course has no more outputs, inputs and actions than messages.
-use Rattle.std.proofs.Common.{◌≡◌, ℕ, zero, suc, ◌+◌, ◌<◌, ◌≤◌, Bool, true, false, cond, eqb, sym, arith, List, [], ◌∷◌, ◌++◌, map, refl, ap, ◌∙◌, count_by}
+-- A path has no more outputs, inputs and actions than messages.
+use Rattle.std.proofs.Common.{◌≡◌, ℕ, zero, suc, ◌+◌, ◌<◌, ◌≤◌, Bool, true, false, cond, eqb, sym, arith, List, [], ◌∷◌, ◌++◌, refl, ap, ◌∙◌, count_by}
 use Rattle.std.specs.List.{sum_by}
 use Rattle.std.proofs.lemmas.Bool.{and_parts, eqb-true}
 use Rattle.std.proofs.lemmas.List.Sums.{sum_by-append, sum_by-cons}
 use Rattle.msc_chart.proofs.ListLemmas.{by_test}
-use Rattle.msc_scenarios.specs.declared.course.Message.{Message}
-use Rattle.msc_scenarios.specs.declared.course.Step.{Step}
-use Rattle.msc_scenarios.specs.declared.course.Step.TheVariants as steps
+use Rattle.msc_scenarios.specs.declared.steps.Message.{Message}
+use Rattle.msc_scenarios.specs.declared.steps.Step.{Step}
+use Rattle.msc_scenarios.specs.declared.steps.Step.TheVariants as steps
 use Rattle.msc_import.specs.declared.plan.Own.{Own}
 use Rattle.msc_import.specs.declared.plan.Own.TheVariants as owns
 use Rattle.msc_import.specs.Plans.{is_exchange}
@@ -14,6 +14,7 @@ use Rattle.msc_import_laws.specs.Apart.{messages_in}
 use Rattle.msc_import_laws.proofs.EndLists.{End, end_at, ends_at, ends_from, ends_on_lines}
 use Rattle.msc_import_laws.proofs.Parts.Side.{Out, In, Alone, Lost, OutBack, InBack}
 use Rattle.msc_import_laws.proofs.Parts.{Side, sides_by, sides_on}
+use Rattle.msc_markdown.proofs.PassLemmas.{count_view as count_mapped}
 
 -- one more
 pub count_cons : {X : Type 0} (p : X → Bool) (x : X) (xs : List X) → count_by p (x ∷ xs) ≡ cond (p x) 1 0 + count_by p xs
@@ -22,12 +23,6 @@ count_cons p x xs = sum_by-cons (λ y. cond (p y) 1 0) x xs
 -- how many of two joined lists pass
 pub count_joined : {X : Type 0} (p : X → Bool) (xs ys : List X) → count_by p (xs ++ ys) ≡ count_by p xs + count_by p ys
 count_joined p xs ys = sum_by-append (λ x. cond (p x) 1 0) xs ys
-
--- how many of a mapped list pass
-pub count_mapped : {X Y : Type 0} (p : Y → Bool) (f : X → Y) (xs : List X) → count_by p (map f xs) ≡ count_by (λ x. p (f x)) xs
-count_mapped p f [] = refl
-count_mapped p f (x ∷ xs) =
-    count_cons p (f x) (map f xs) ∙ ap (λ (n : ℕ). cond (p (f x)) 1 0 + n) (count_mapped p f xs) ∙ sym (count_cons (λ x. p (f x)) x xs)
 
 -- the same is counted by tests that are the same
 pub count_same : {X : Type 0} (p q : X → Bool) → ((x : X) → p x ≡ q x) → (xs : List X) → count_by p xs ≡ count_by q xs

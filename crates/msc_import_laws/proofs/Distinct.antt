@@ -4,7 +4,7 @@ use Rattle.std.specs.List.{flat_map, onto_first}
 use Rattle.msc_chart.specs.Lists.{Occurs}
 use Rattle.msc_chart.proofs.ListLemmas.{by_test}
 use Rattle.msc_mermaid.specs.declared.statement.Placed.{Placed}
-use Rattle.msc_scenarios.specs.Courses.{branch_at, branches_in, deeper, joins_at}
+use Rattle.msc_scenarios.specs.Steps.{branch_at, branches_in, deeper, joins_at}
 use Rattle.msc_import_laws.specs.Outlined.{AreDistinct, Differ}
 use Rattle.msc_import_laws.proofs.Stands.{first_joined, second_joined}
 

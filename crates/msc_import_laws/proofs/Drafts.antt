@@ -1,5 +1,5 @@
 -- The drafts of diagrams as they are read.
-use Rattle.std.proofs.Common.{◌≡◌, ℕ, zero, suc, ◌+◌, ◌<◌, ◌≤◌, Bool, true, false, nat_le, length, sym, arith, List, [], ◌∷◌, Result, Ok, Err, refl, ap, subst, ◌∙◌}
+use Rattle.std.proofs.Common.{◌≡◌, ℕ, zero, suc, ◌+◌, ◌<◌, ◌≤◌, Bool, true, false, nat_le, length, sym, arith, List, [], ◌∷◌, Ok, refl, ap, subst, ◌∙◌}
 use Rattle.std.specs.List.{sum_by}
 use Rattle.std.specs.Str.{bytes_eq}
 use Rattle.std.proofs.lemmas.Slice.Eq.{bytes_eq-Decides}
@@ -11,14 +11,14 @@ use Rattle.msc_parser.specs.Grammar.{Tree}
 use Rattle.msc_parser.specs.declared.tree.Section.{Section}
 use Rattle.msc_lexer.specs.declared.TheConstants.{TEXT_LIMIT}
 use Rattle.msc_mermaid.specs.declared.TheConstants.{DEPTH_LIMIT}
-use Rattle.msc_scenarios.specs.declared.course.Message.{Message}
-use Rattle.msc_scenarios.specs.declared.course.Step.TheVariants as steps
+use Rattle.msc_scenarios.specs.declared.steps.Message.{Message}
+use Rattle.msc_scenarios.specs.declared.steps.Step.TheVariants as steps
 use Rattle.msc_mermaid.specs.declared.fault.ImportFault.{ImportFault}
 use Rattle.msc_import.specs.declared.plan.Manner.{Manner}
 use Rattle.msc_mermaid.specs.declared.statement.Diagram.{Diagram}
-use Rattle.msc_scenarios.specs.Courses.{Walk, line_at, walk, at_rest, unended}
+use Rattle.msc_scenarios.specs.Steps.{Walk, line_at, walk, at_rest, unended}
 use Rattle.msc_import.specs.Drafting.{drawn, drawn_walk, fitted, few_events, sections_on, short_enough, too_long, tree_of}
-use Rattle.msc_mermaid.specs.Gives.{◌>>=◌, unless}
+use Rattle.msc_mermaid.specs.Gives.{unless}
 use Rattle.msc_scenarios.specs.Laws.{walked}
 use Rattle.msc_scenarios.specs.Naming.{names_behind, number_name}
 use Rattle.msc_import.specs.Plans.{Plan, plans_of}
@@ -34,11 +34,7 @@ use Rattle.msc_import_laws.proofs.Numbers.{fitted_number}
 use Rattle.msc_import_laws.proofs.Told.{DrawnEnd, drawn_end, end_of_arrow, is_drawn_down}
 use Rattle.msc_import_laws.proofs.MetArrows.{IsMet, Meets}
 use Rattle.msc_import_laws.proofs.Walks.{walks_meet}
-
--- what follows a value is answered where both are
-pub bound : {A B : Type 0} (r : Result A ImportFault) (f : A → Result B ImportFault) (y : B) → (r >>= f) ≡ Ok y → (x : A) × (r ≡ Ok x) × (f x ≡ Ok y)
-bound (Ok x) f y e = (x, refl, e)
-bound (Err g) f y e = cc
+use Rattle.msc_mermaid.proofs.SpellLemmas.{bound}
 
 pub unless_is : {A : Type 0} (b : Bool) (e : ImportFault) (x y : A) → unless b e x ≡ Ok y → (b ≡ true) × (x ≡ y)
 unless_is true e x y h = let same : x ≡ y = cc in (refl, same)
@@ -87,7 +83,7 @@ module _ (d : Diagram) (out : IsOutlined d) (given : List ℕ) where
   few : sum_by messages_in (walked d given).steps ≤ 1024
   few = let a = grown.arrows in let b = grown.few (omega arith) in let c = ap (sum_by messages_in) steps_new in omega (arith, a, b, c)
 
-  -- the course is one that is told apart
+  -- the path is one that is told apart
   apart : IsToldApart (length d.lines) (names_behind [] d.lines) (walked d given).steps
   apart = record {
     few_lines = out.few_lines;

@@ -1,10 +1,10 @@
--- The ends of a course's arrows go down each line, and no two stand at one height.
+-- The ends of a path's arrows go down each line, and no two stand at one height.
 use Rattle.std.proofs.Common.{◌≡◌, ◌⊎◌, ℕ, zero, suc, ◌+◌, ◌*◌, ◌<◌, ◌≤◌, Bool, true, false, sym, arith, inl, inr, eqb, List, [], ◌∷◌, slice_get, Some, ap, subst, ◌∙◌}
 use Rattle.std.proofs.lemmas.Bool.{cases_lt}
 use Rattle.msc_chart.specs.Lists.{StandsAt}
 use Rattle.msc_chart.proofs.Places.{map-place}
-use Rattle.msc_scenarios.specs.declared.course.Step.{Step}
-use Rattle.msc_scenarios.specs.declared.course.Step.TheVariants as steps
+use Rattle.msc_scenarios.specs.declared.steps.Step.{Step}
+use Rattle.msc_scenarios.specs.declared.steps.Step.TheVariants as steps
 use Rattle.msc_import.specs.declared.plan.Own.{Own}
 use Rattle.msc_import.specs.declared.plan.Own.TheVariants as owns
 use Rattle.msc_import.specs.Plans.{is_exchange}

@@ -1,9 +1,9 @@
 -- Each end of a message has its other end.
-use Rattle.std.proofs.Common.{◌≡◌, ℕ, zero, suc, Bool, true, false, not, ◌&&◌, sym, eqb, List, [], ◌∷◌, refl, ap, subst, ◌∙◌}
+use Rattle.std.proofs.Common.{◌≡◌, ℕ, zero, suc, Bool, true, false, not, sym, eqb, [], ◌∷◌, refl, ap, subst, ◌∙◌}
 use Rattle.std.proofs.lemmas.Bool.{and_parts, eqb-true, eq-eqb}
 use Rattle.msc_chart.specs.Lists.{Occurs}
 use Rattle.msc_chart.proofs.ListLemmas.{by_test, clash}
-use Rattle.msc_scenarios.specs.declared.course.Message.{Message}
+use Rattle.msc_scenarios.specs.declared.steps.Message.{Message}
 use Rattle.msc_import.specs.declared.plan.Own.{Own}
 use Rattle.msc_import.specs.declared.plan.Own.TheVariants as owns
 use Rattle.msc_import.specs.Plans.{is_exchange}
@@ -59,7 +59,7 @@ back_is_pair own false lost from to s b o = absurd (no_single_back own lost from
 not_same : (i j : ℕ) → (i ≡ j → ⊥) → eqb i j ≡ false
 not_same i j h = by_test (eqb i j) (λ same. absurd (h (eqb-true i j same))) (λ other. other)
 
-no_truth : (b : Bool) → not b ≡ true → b ≡ false
+pub no_truth : (b : Bool) → not b ≡ true → b ≡ false
 no_truth true h = cc
 no_truth false h = refl
 

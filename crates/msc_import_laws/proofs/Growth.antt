@@ -5,12 +5,12 @@ use Rattle.std.proofs.lemmas.List.{append-nil, append_assoc}
 use Rattle.std.proofs.lemmas.List.Sums.{sum_by-append}
 use Rattle.msc_chart.specs.Lists.{StandsAt}
 use Rattle.msc_scenarios.specs.declared.TheConstants.{ARROW_LIMIT}
-use Rattle.msc_scenarios.specs.declared.course.Ending.{Ending}
-use Rattle.msc_scenarios.specs.declared.course.Ending.TheVariants as ends
-use Rattle.msc_scenarios.specs.declared.course.Message.{Message}
-use Rattle.msc_scenarios.specs.declared.course.Step.{Step}
-use Rattle.msc_scenarios.specs.declared.course.Step.TheVariants as steps
-use Rattle.msc_scenarios.specs.Courses.{Walk, go_on, put, then}
+use Rattle.msc_scenarios.specs.declared.steps.Ending.{Ending}
+use Rattle.msc_scenarios.specs.declared.steps.Ending.TheVariants as ends
+use Rattle.msc_scenarios.specs.declared.steps.Message.{Message}
+use Rattle.msc_scenarios.specs.declared.steps.Step.{Step}
+use Rattle.msc_scenarios.specs.declared.steps.Step.TheVariants as steps
+use Rattle.msc_scenarios.specs.Steps.{Walk, go_on, put, then}
 use Rattle.msc_import_laws.specs.Apart.{messages_in}
 use Rattle.msc_import_laws.proofs.Stands.{joined_at}
 

@@ -1,4 +1,5 @@
--- What is imported of a text is a scenario of it; so it is a chart, the text is a run, and all order goes down.
+-- What is imported of a text is a scenario of it; so it is a chart, the text is a run, and all
+-- order goes down.
 use Rattle.std.proofs.Common.{◌≡◌, ℕ, zero, suc, ◌/◌, ◌<◌, ◌≤◌, Bool, true, false, cond, nat_lt, sym, arith, inl, inr, List, [], ◌∷◌, ◌++◌, Option, Result, Ok, Err, refl, ap, subst, ◌∙◌}
 use Rattle.msc_parser.specs.Grammar.{Tree}
 use Rattle.msc_chart.specs.declared.queue.Queues.{Queues}
@@ -13,7 +14,7 @@ use Rattle.msc_mermaid.specs.declared.fault.ImportFault.TheVariants.{TooManyScen
 use Rattle.msc_import.specs.declared.importing.Imported.{Imported}
 use Rattle.msc_import.specs.declared.plan.Manner.{Manner}
 use Rattle.msc_mermaid.specs.declared.statement.Diagram.{Diagram}
-use Rattle.msc_import.specs.declared.whole.Scenario.{Scenario}
+use Rattle.msc_import.specs.declared.drawings.Scenario.{Scenario}
 use Rattle.msc_import.specs.declared.whole.Scenarios.{Scenarios}
 use Rattle.msc_scenarios.specs.Choosing.{all_choices}
 use Rattle.msc_scenarios.specs.Counting.{scenarios}
@@ -23,24 +24,26 @@ use Rattle.msc_mermaid.specs.declared.statement.Cross.{Cross}
 use Rattle.msc_mermaid.specs.Gives.{◌>>=◌}
 use Rattle.msc_markdown.specs.Markdowns.{Found, markdown}
 use Rattle.msc_import.specs.Importing.{Refusal, Wanted, answered, chosen, diagram_from, diagram_in, drawn_at, found_as, imported, imported_from, scenario_of, told_of}
-use Rattle.msc_import.specs.declared.siting.EventSite.{EventSite}
-use Rattle.msc_import.specs.Places.{event_sites, places, sites_of}
+use Rattle.msc_import.specs.declared.spanning.EventSpans.{EventSpans}
+use Rattle.msc_import.specs.Places.{event_spans, places, sites_of}
 use Rattle.msc_place.specs.declared.position.Position.{Position}
 use Rattle.msc_scenarios.specs.Laws.{walked}
 use Rattle.msc_scenarios.specs.Naming.{names_behind}
-use Rattle.msc_import.specs.Whole.{WantedAll, all_of, all_scenarios, imported_all, imported_all_from, scenario_with, scenarios_on}
+use Rattle.msc_import.specs.Drawings.{scenario_with, scenarios_on}
+use Rattle.msc_import.specs.Whole.{WantedAll, all_of, all_scenarios, imported_all, imported_all_from}
 use Rattle.msc_import_laws.specs.Apart.{IsDrawnDown}
 use Rattle.msc_import_laws.specs.Drawn.{heights_in}
 use Rattle.msc_import_laws.specs.Ends.{IsEndOfItsArrow}
 use Rattle.msc_import_laws.specs.Heights.{IsDownward, IsOnlyOrder, IsWholeRun, ShareLines, height}
 use Rattle.msc_import_laws.specs.Imports.{IsScenarioOf, Reading, all_read_as, arrow_at, read_as}
 use Rattle.msc_import_laws.proofs.Descent.{enforced_down, visual_down, whole_run}
-use Rattle.msc_import_laws.proofs.Drafts.{bound, draft_drawn, draft_events}
+use Rattle.msc_import_laws.proofs.Drafts.{draft_drawn, draft_events}
+use Rattle.msc_mermaid.proofs.SpellLemmas.{bound}
 use Rattle.msc_import_laws.proofs.Sorted.{downward}
 use Rattle.msc_import_laws.proofs.Texts.{text_outlined}
 
 -- what is answered is answered of a diagram
-told_ok : {A : Type 0} (lines : List (List ℕ)) (r : Result A ImportFault) (y : A) → told_of lines r ≡ Ok y → r ≡ Ok y
+pub told_ok : {A : Type 0} (lines : List (List ℕ)) (r : Result A ImportFault) (y : A) → told_of lines r ≡ Ok y → r ≡ Ok y
 told_ok lines (Ok x) y e = let same : x ≡ y = cc in ap Ok same
 told_ok lines (Err f) y e = cc
 
@@ -64,11 +67,11 @@ drawn_with : (manner : Manner) (name : List ℕ) (d : Diagram) (given : List ℕ
 unfolding drawn_at
 drawn_with manner name d given is e =
     let a = bound (drawn manner name d given) _ is e in
-    let sited : List Position → List EventSite → Result Imported ImportFault = λ at events. Ok (record { draft = a.0; places = at; sites = sites_of d events }) in
-    let made : List Position → Result Imported ImportFault = λ at. event_sites manner d given >>= sited at in
+    let sited : List Position → List EventSpans → Result Imported ImportFault = λ at events. Ok (record { draft = a.0; places = at; spans = sites_of d events }) in
+    let made : List Position → Result Imported ImportFault = λ at. event_spans manner d given >>= sited at in
     let b = bound (places manner d given) made is a.2 in
-    let k = bound (event_sites manner d given) (sited b.0) is b.2 in
-    let f : ◌≡◌ {A = Result Imported ImportFault} (Ok (record { draft = a.0; places = b.0; sites = sites_of d k.0 })) (Ok is) = k.2 in
+    let k = bound (event_spans manner d given) (sited b.0) is b.2 in
+    let f : ◌≡◌ {A = Result Imported ImportFault} (Ok (record { draft = a.0; places = b.0; spans = sites_of d k.0 })) (Ok is) = k.2 in
     let same : a.0 ≡ is.draft = cc in
     a.1 ∙ ap Ok same
 

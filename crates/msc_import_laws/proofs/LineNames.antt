@@ -7,7 +7,7 @@ use Rattle.msc_chart.proofs.ListLemmas.{by_test}
 use Rattle.msc_chart.proofs.Places.{one_at}
 use Rattle.msc_mermaid.specs.declared.TheConstants.{LINE_LIMIT}
 use Rattle.msc_import.specs.Drafting.{fitted, line_name}
-use Rattle.msc_scenarios.specs.Courses.{line_at}
+use Rattle.msc_scenarios.specs.Steps.{line_at}
 use Rattle.msc_scenarios.specs.Naming.{names_behind}
 use Rattle.msc_import_laws.proofs.Drafts.{line_there}
 use Rattle.msc_import_laws.proofs.Names.{names_apart}

@@ -1,16 +1,17 @@
--- The messages of arrows, by the rounds in which they are met: one number is of one arrow in one list of rounds.
+-- The messages of arrows, by the rounds in which they are met: one number is of one arrow in one
+-- list of rounds.
 use Rattle.std.proofs.Common.{◌≡◌, ℕ, ◌<◌, ◌≤◌, Bool, length, sym, arith, List, ◌++◌, ap, ◌∙◌}
 use Rattle.std.specs.List.{AllByRecursion}
 use Rattle.msc_chart.specs.Lists.{Occurs}
-use Rattle.msc_scenarios.specs.declared.course.Message.{Message}
+use Rattle.msc_scenarios.specs.declared.steps.Message.{Message}
 use Rattle.msc_mermaid.specs.declared.statement.Arrow.{Arrow}
 use Rattle.msc_mermaid.specs.declared.statement.Placed.{Placed}
 use Rattle.msc_mermaid.specs.declared.statement.Statement.TheVariants.{Says}
-use Rattle.msc_scenarios.specs.Courses.{Walk, Walker, message_of}
+use Rattle.msc_scenarios.specs.Steps.{Walk, Walker, message_of}
 use Rattle.msc_import_laws.specs.Outlined.{AreDistinct, Differ}
 use Rattle.msc_import_laws.proofs.Growth.{Grows, NoneShared}
 use Rattle.msc_import_laws.proofs.Numbers.{IsRound, same_number, small_rounds}
-use Rattle.msc_import_laws.proofs.Numbers.{all_joined}
+use Rattle.msc_place.proofs.Walks.{AllByRecursion-append as all_joined}
 
 -- all arrows have small numbers
 abbrev pub AreLow : List Placed → Type 0

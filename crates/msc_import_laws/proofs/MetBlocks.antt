@@ -5,12 +5,12 @@ use Rattle.std.proofs.lemmas.Bool.{leb-true}
 use Rattle.msc_chart.specs.Lists.{Occurs}
 use Rattle.msc_chart.proofs.ListLemmas.{by_test}
 use Rattle.msc_scenarios.specs.declared.TheConstants.{ROUND_LIMIT}
-use Rattle.msc_scenarios.specs.declared.course.Message.{Message}
-use Rattle.msc_scenarios.specs.declared.course.Step.TheVariants as steps
+use Rattle.msc_scenarios.specs.declared.steps.Message.{Message}
+use Rattle.msc_scenarios.specs.declared.steps.Step.TheVariants as steps
 use Rattle.msc_mermaid.specs.declared.row.Kind.{Kind}
 use Rattle.msc_mermaid.specs.declared.row.Kind.TheVariants as kinds
 use Rattle.msc_mermaid.specs.declared.statement.Placed.{Placed}
-use Rattle.msc_scenarios.specs.Courses.{Walk, Walker, block, branch_at, branches_in, broken, choice_of, choose, follow, form_of, formed, is_there, most_of, put, rounds_from, side_by_side, then, unbroken, with_choice}
+use Rattle.msc_scenarios.specs.Steps.{Walk, Walker, block, branch_at, branches_in, broken, choice_of, choose, follow, passage_of, formed, is_there, most_of, put, rounds_from, side_by_side, then, unbroken, with_choice}
 use Rattle.msc_place.specs.declared.position.Position.{Position}
 use Rattle.msc_import_laws.specs.Outlined.{AreDistinct}
 use Rattle.msc_import_laws.proofs.Distinct.{distinct_branch, distinct_branches, in_branch, in_branches, together}
@@ -34,31 +34,31 @@ module _ (lines : List (List ℕ)) (d : ℕ) (inner : Walker) (good : Meets line
   Inside : Message → Type 0
   Inside = IsMet lines (d + 1) (together bs) rounds
 
-  follow_one : (c : ℕ) (w : Walk) → w.lines ≡ lines → Grows Inside w (follow inner (form_of kinds.Alt 2) bs rounds c w)
+  follow_one : (c : ℕ) (w : Walk) → w.lines ≡ lines → Grows Inside w (follow inner (passage_of kinds.Alt 2) bs rounds c w)
   unfolding follow Inside
   follow_one c w same = one_grows lines d inner good rounds short bs distinct low c w (unbroken (inner (branch_at bs c) rounds w)) same refl refl refl
 
-  follow_maybe : (c : ℕ) (w : Walk) → w.lines ≡ lines → Grows Inside w (follow inner (form_of kinds.Opt 0) bs rounds c w)
+  follow_maybe : (c : ℕ) (w : Walk) → w.lines ≡ lines → Grows Inside w (follow inner (passage_of kinds.Opt 0) bs rounds c w)
   unfolding follow Inside
   follow_maybe c w same =
       by_test (c == 0)
       (λ none. rw none (grows_same Inside w))
       (λ some. rw some (one_grows lines d inner good rounds short bs distinct low (c - 1) w (unbroken (inner (branch_at bs (c - 1)) rounds w)) same refl refl refl))
 
-  follow_break : (c : ℕ) (w : Walk) → w.lines ≡ lines → Grows Inside w (follow inner (form_of kinds.Break 0) bs rounds c w)
+  follow_break : (c : ℕ) (w : Walk) → w.lines ≡ lines → Grows Inside w (follow inner (passage_of kinds.Break 0) bs rounds c w)
   unfolding follow Inside
   follow_break c w same =
       by_test (c == 0)
       (λ none. rw none (grows_same Inside w))
       (λ some. rw some (one_grows lines d inner good rounds short bs distinct low 0 w (broken (inner (branch_at bs 0) rounds w)) same refl refl refl))
 
-  follow_first : (c : ℕ) (w : Walk) → w.lines ≡ lines → Grows Inside w (follow inner (form_of kinds.Critical 2) bs rounds c w)
+  follow_first : (c : ℕ) (w : Walk) → w.lines ≡ lines → Grows Inside w (follow inner (passage_of kinds.Critical 2) bs rounds c w)
   unfolding follow Inside
   follow_first c w same =
       let v : Walk = then (inner (branch_at bs 0) rounds w) (λ v. cond (c == 0) v (inner (branch_at bs c) rounds v)) in
       grows_after Inside w v (unbroken v) (options_grow lines d inner good rounds short bs distinct low c w same) refl refl refl
 
-  follow_rounds : (c : ℕ) (w : Walk) → c ≤ ROUND_LIMIT → w.lines ≡ lines → Grows Inside w (follow inner (form_of kinds.Loop 0) bs rounds c w)
+  follow_rounds : (c : ℕ) (w : Walk) → c ≤ ROUND_LIMIT → w.lines ≡ lines → Grows Inside w (follow inner (passage_of kinds.Loop 0) bs rounds c w)
   unfolding follow Inside
   follow_rounds c w le same =
       let body : List Placed = branch_at bs 0 in
@@ -69,7 +69,7 @@ module _ (lines : List (List ℕ)) (d : ℕ) (inner : Walker) (good : Meets line
       (grows_wider (IsInRounds lines d body rounds 0 c) Inside w v (λ m h. met_wider lines (d + 1) (d + 1) body (together bs) rounds (omega arith) in_body m (in_round lines d inner good body (distinct_branch bs 0 distinct) (low_in (together bs) body in_body low) rounds short 0 c m (omega (arith, le)) h)) first)
       refl refl refl
 
-  formed_par : (line : Position) (w : Walk) → w.lines ≡ lines → Grows Inside w (formed inner line (form_of kinds.Par 0) bs rounds w)
+  formed_par : (line : Position) (w : Walk) → w.lines ≡ lines → Grows Inside w (formed inner line (passage_of kinds.Par 0) bs rounds w)
   unfolding formed Inside
   formed_par line w same =
       let here : Message → Type 0 = IsMet lines d (together bs) rounds in
@@ -79,32 +79,32 @@ module _ (lines : List (List ℕ)) (d : ℕ) (inner : Walker) (good : Meets line
       let opened = grows_on (λ m. ⊥) here here w v u (grows_put (λ m. ⊥) (steps.Opens line) w refl) sides (λ m n g k e. g) (λ m g. absurd g) (λ m g. g) in
       grows_then here (λ m. ⊥) Inside w u (put steps.Closes) opened (grows_put (λ m. ⊥) steps.Closes u refl) (λ m n g k e. k) (met_wider lines d (d + 1) (together bs) (together bs) rounds (omega arith) (λ p o. o)) (λ m g. absurd g)
 
-  formed_plain : (line : Position) (w : Walk) → w.lines ≡ lines → Grows Inside w (formed inner line (form_of kinds.Plain 0) bs rounds w)
+  formed_plain : (line : Position) (w : Walk) → w.lines ≡ lines → Grows Inside w (formed inner line (passage_of kinds.Plain 0) bs rounds w)
   unfolding formed Inside
   formed_plain line w same = one_grows lines d inner good rounds short bs distinct low 0 w (inner (branch_at bs 0) rounds w) same refl refl refl
 
-  formed_one : (line : Position) (w : Walk) → w.lines ≡ lines → Grows Inside w (formed inner line (form_of kinds.Alt 2) bs rounds w)
+  formed_one : (line : Position) (w : Walk) → w.lines ≡ lines → Grows Inside w (formed inner line (passage_of kinds.Alt 2) bs rounds w)
   unfolding formed
-  formed_one line w same = choice_grows Inside line (most_of (form_of kinds.Alt 2) (length bs)) 0 w (follow inner (form_of kinds.Alt 2) bs rounds) (λ c v le e. follow_one c v (e ∙ same))
+  formed_one line w same = choice_grows Inside line (most_of (passage_of kinds.Alt 2) (length bs)) 0 w (follow inner (passage_of kinds.Alt 2) bs rounds) (λ c v le e. follow_one c v (e ∙ same))
 
-  formed_maybe : (line : Position) (w : Walk) → w.lines ≡ lines → Grows Inside w (formed inner line (form_of kinds.Opt 0) bs rounds w)
+  formed_maybe : (line : Position) (w : Walk) → w.lines ≡ lines → Grows Inside w (formed inner line (passage_of kinds.Opt 0) bs rounds w)
   unfolding formed
-  formed_maybe line w same = choice_grows Inside line (most_of (form_of kinds.Opt 0) (length bs)) 1 w (follow inner (form_of kinds.Opt 0) bs rounds) (λ c v le e. follow_maybe c v (e ∙ same))
+  formed_maybe line w same = choice_grows Inside line (most_of (passage_of kinds.Opt 0) (length bs)) 1 w (follow inner (passage_of kinds.Opt 0) bs rounds) (λ c v le e. follow_maybe c v (e ∙ same))
 
-  formed_break : (line : Position) (w : Walk) → w.lines ≡ lines → Grows Inside w (formed inner line (form_of kinds.Break 0) bs rounds w)
+  formed_break : (line : Position) (w : Walk) → w.lines ≡ lines → Grows Inside w (formed inner line (passage_of kinds.Break 0) bs rounds w)
   unfolding formed
-  formed_break line w same = choice_grows Inside line (most_of (form_of kinds.Break 0) (length bs)) 0 w (follow inner (form_of kinds.Break 0) bs rounds) (λ c v le e. follow_break c v (e ∙ same))
+  formed_break line w same = choice_grows Inside line (most_of (passage_of kinds.Break 0) (length bs)) 0 w (follow inner (passage_of kinds.Break 0) bs rounds) (λ c v le e. follow_break c v (e ∙ same))
 
-  formed_first : (line : Position) (w : Walk) → w.lines ≡ lines → Grows Inside w (formed inner line (form_of kinds.Critical 2) bs rounds w)
+  formed_first : (line : Position) (w : Walk) → w.lines ≡ lines → Grows Inside w (formed inner line (passage_of kinds.Critical 2) bs rounds w)
   unfolding formed
-  formed_first line w same = choice_grows Inside line (most_of (form_of kinds.Critical 2) (length bs)) 0 w (follow inner (form_of kinds.Critical 2) bs rounds) (λ c v le e. follow_first c v (e ∙ same))
+  formed_first line w same = choice_grows Inside line (most_of (passage_of kinds.Critical 2) (length bs)) 0 w (follow inner (passage_of kinds.Critical 2) bs rounds) (λ c v le e. follow_first c v (e ∙ same))
 
-  formed_rounds : (line : Position) (w : Walk) → w.lines ≡ lines → Grows Inside w (formed inner line (form_of kinds.Loop 0) bs rounds w)
+  formed_rounds : (line : Position) (w : Walk) → w.lines ≡ lines → Grows Inside w (formed inner line (passage_of kinds.Loop 0) bs rounds w)
   unfolding formed
-  formed_rounds line w same = choice_grows Inside line ROUND_LIMIT 1 w (follow inner (form_of kinds.Loop 0) bs rounds) (λ c v le e. follow_rounds c v le (e ∙ same))
+  formed_rounds line w same = choice_grows Inside line ROUND_LIMIT 1 w (follow inner (passage_of kinds.Loop 0) bs rounds) (λ c v le e. follow_rounds c v le (e ∙ same))
 
   -- a block of any kind
-  formed_grows : (line : Position) (n : ℕ) (kind : Kind) (w : Walk) → w.lines ≡ lines → Grows Inside w (formed inner line (form_of kind n) bs rounds w)
+  formed_grows : (line : Position) (n : ℕ) (kind : Kind) (w : Walk) → w.lines ≡ lines → Grows Inside w (formed inner line (passage_of kind n) bs rounds w)
   formed_grows line n kinds.Alt w same = by_test (nat_lt 1 n) (λ several. rw several (formed_one line w same)) (λ one. rw one (formed_maybe line w same))
   formed_grows line n kinds.Opt w same = formed_maybe line w same
   formed_grows line n kinds.Loop w same = formed_rounds line w same
@@ -121,5 +121,5 @@ module _ (lines : List (List ℕ)) (d : ℕ) (inner : Walker) (good : Meets line
       let bs : List (List Placed) = branches_in 0 inside in
       let found = formed_grows lines d inner good rounds short bs (distinct_branches 0 inside distinct) (low_in inside (together bs) (in_branches 0 inside) low) line (length bs) kind w same in
       by_test (is_there kind inside)
-      (λ there. rw there (grows_wider (IsMet lines (d + 1) (together bs) rounds) (IsMet lines (d + 1) inside rounds) w (formed inner line (form_of kind (length bs)) bs rounds w) (met_wider lines (d + 1) (d + 1) (together bs) inside rounds (omega arith) (in_branches 0 inside)) found))
+      (λ there. rw there (grows_wider (IsMet lines (d + 1) (together bs) rounds) (IsMet lines (d + 1) inside rounds) w (formed inner line (passage_of kind (length bs)) bs rounds w) (met_wider lines (d + 1) (d + 1) (together bs) inside rounds (omega arith) (in_branches 0 inside)) found))
       (λ none. rw none (grows_same (IsMet lines (d + 1) inside rounds) w))

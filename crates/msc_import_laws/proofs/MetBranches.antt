@@ -3,10 +3,10 @@ use Rattle.std.proofs.Common.{◌≡◌, ℕ, zero, suc, ◌+◌, false, cond, �
 use Rattle.std.specs.List.{AllByRecursion}
 use Rattle.std.proofs.lemmas.Bool.{ne_eqb}
 use Rattle.msc_chart.specs.Lists.{Occurs}
-use Rattle.msc_scenarios.specs.declared.course.Message.{Message}
-use Rattle.msc_scenarios.specs.declared.course.Step.TheVariants as steps
+use Rattle.msc_scenarios.specs.declared.steps.Message.{Message}
+use Rattle.msc_scenarios.specs.declared.steps.Step.TheVariants as steps
 use Rattle.msc_mermaid.specs.declared.statement.Placed.{Placed}
-use Rattle.msc_scenarios.specs.Courses.{Walk, Walker, branch_at, put, side_by_side, then, unbroken}
+use Rattle.msc_scenarios.specs.Steps.{Walk, Walker, branch_at, put, side_by_side, then, unbroken}
 use Rattle.msc_import_laws.specs.Outlined.{AreDistinct}
 use Rattle.msc_import_laws.proofs.Distinct.{branches_differ, distinct_branch, in_branch, joined_differ, joined_first, joined_second, together}
 use Rattle.msc_import_laws.proofs.Growth.{Grows, grows_after, grows_put, grows_same, grows_then, grows_wider}

@@ -3,14 +3,14 @@ use Rattle.std.proofs.Common.{◌≡◌, ℕ, zero, suc, ◌+◌, ◌<◌, ◌�
 use Rattle.std.specs.List.{AllByRecursion}
 use Rattle.std.proofs.lemmas.List.{append_assoc}
 use Rattle.msc_scenarios.specs.declared.TheConstants.{ROUND_LIMIT}
-use Rattle.msc_scenarios.specs.declared.course.Message.{Message}
+use Rattle.msc_scenarios.specs.declared.steps.Message.{Message}
 use Rattle.msc_mermaid.specs.declared.statement.Placed.{Placed}
-use Rattle.msc_scenarios.specs.Courses.{Walk, Walker, message_of, rounds_from}
+use Rattle.msc_scenarios.specs.Steps.{Walk, Walker, message_of, rounds_from}
 use Rattle.msc_import_laws.specs.Outlined.{AreDistinct}
 use Rattle.msc_import_laws.proofs.Growth.{Grows, grows_same, grows_then}
 use Rattle.msc_import_laws.proofs.Numbers.{IsRound}
 use Rattle.msc_import_laws.proofs.MetArrows.{AreLow, IsMet, Meets, same_met}
-use Rattle.msc_import_laws.proofs.Numbers.{all_joined}
+use Rattle.msc_place.proofs.Walks.{AllByRecursion-append as all_joined}
 
 module _ (lines : List (List ℕ)) where
   -- rounds k of a loop and later ones

@@ -17,14 +17,11 @@ use Rattle.msc_lexer.specs.declared.TheConstants.{NAME_LIMIT}
 use Rattle.msc_import.specs.Drafting.{fitted, is_chart_name}
 use Rattle.msc_scenarios.specs.Naming.{number_name, round_text}
 use Rattle.msc_mermaid.specs.Patterns.{is_empty}
+use Rattle.msc_place.proofs.Walks.{AllByRecursion-append as all_joined}
 
 -- a digit
 abbrev pub IsDigit : ℕ → Type 0
 IsDigit b = (48 ≤ b) × (b < 58)
-
-pub all_joined : {X : Type 0} (P : X → Type 0) (xs ys : List X) → AllByRecursion P xs → AllByRecursion P ys → AllByRecursion P (xs ++ ys)
-all_joined P [] ys h k = k
-all_joined P (x ∷ xs) ys h k = (h.0, all_joined P xs ys h.1 k)
 
 -- a number is digits
 pub decimal_digits : (n : ℕ) → n < 2 ^ 64 → AllByRecursion IsDigit (decimal n)

@@ -2,9 +2,9 @@
 use Rattle.std.proofs.Common.{ap, subst, sym, ◌∙◌, arith, ◌≡◌, ℕ, ◌+◌, ◌*◌, Bool, true, false, cond, eqb, List, [], ◌∷◌, ◌++◌, map, codes, refl}
 use Rattle.msc_parser.specs.declared.tree.Statement.{Statement as Drawn}
 use Rattle.msc_parser.specs.declared.tree.Statement.TheVariants.{Message as Signalled, Action as Acts}
-use Rattle.msc_parser.specs.declared.tree.Way.TheVariants as ways
-use Rattle.msc_scenarios.specs.declared.course.Message.{Message}
-use Rattle.msc_scenarios.specs.declared.course.Step.TheVariants as steps
+use Rattle.msc_parser.specs.declared.tree.Direction.TheVariants as directions
+use Rattle.msc_scenarios.specs.declared.steps.Message.{Message}
+use Rattle.msc_scenarios.specs.declared.steps.Step.TheVariants as steps
 use Rattle.msc_import.specs.declared.plan.Own.{Own}
 use Rattle.msc_import.specs.declared.plan.Own.TheVariants as owns
 use Rattle.msc_import.specs.Drafting.{drawn_event, ident_text, line_name, signal}
@@ -15,8 +15,8 @@ use Rattle.msc_chart.proofs.ListLemmas.{by_test}
 use Rattle.msc_chart.proofs.Places.{map-place, one_at, place-map}
 use Rattle.msc_import_laws.specs.Ends.{fall as drop}
 
--- an end of an arrow: its output, its input, both as one action, the output of what nobody takes, or an end of
--- the message that its receiver sends back
+-- an end of an arrow: its output, its input, both as one action, the output of what nobody takes,
+-- or an end of the message that its receiver sends back
 pub data Side : Type 0 where
   Out : Side
   In : Side
@@ -61,10 +61,10 @@ sides_on own line m = sides_by own (is_exchange m) m.lost (eqb m.from line) (eqb
 
 -- what is drawn of them
 abbrev pub drawn_part : List (List ℕ) → Message → Side → Drawn
-drawn_part names m Out = Signalled (signal ways.Output m (line_name names m.to))
-drawn_part names m In = Signalled (signal ways.Input m (line_name names m.from))
-drawn_part names m OutBack = Signalled (signal ways.Output m (line_name names m.from))
-drawn_part names m InBack = Signalled (signal ways.Input m (line_name names m.to))
+drawn_part names m Out = Signalled (signal directions.Output m (line_name names m.to))
+drawn_part names m In = Signalled (signal directions.Input m (line_name names m.from))
+drawn_part names m OutBack = Signalled (signal directions.Output m (line_name names m.from))
+drawn_part names m InBack = Signalled (signal directions.Input m (line_name names m.to))
 drawn_part names m Alone = Acts (ident_text m)
 drawn_part names m Lost = Acts (codes "lost " ++ ident_text m ++ codes " to " ++ line_name names m.to)
 

@@ -1,14 +1,14 @@
 -- The places of a draft's events are those of the arrows whose ends they are.
-use Rattle.std.proofs.Common.{◌≡◌, ℕ, suc, ◌+◌, ◌-◌, ◌*◌, Bool, true, false, cond, ◌==◌, length, sym, arith, List, [], ◌∷◌, ◌++◌, map, take, Option, None, Some, Result, Ok, Err, refl, ap, subst, ◌∙◌}
+use Rattle.std.proofs.Common.{◌≡◌, ℕ, suc, ◌+◌, ◌-◌, ◌*◌, ◌==◌, length, sym, arith, List, [], ◌∷◌, ◌++◌, map, take, Option, None, Some, Result, Ok, Err, refl, ap, subst, ◌∙◌}
 use Rattle.std.specs.List.{flat_map}
 use Rattle.std.proofs.lemmas.List.{append-nil, append_assoc, length-map, map-append}
 use Rattle.std.proofs.lemmas.Simd.{map-map}
 use Rattle.msc_chart.specs.Lists.{StandsAt}
 use Rattle.msc_chart.proofs.ListLemmas.{by_test}
 use Rattle.msc_place.specs.declared.position.Position.{Position}
-use Rattle.msc_scenarios.specs.declared.course.Message.{Message}
-use Rattle.msc_scenarios.specs.declared.course.Step.{Step}
-use Rattle.msc_scenarios.specs.declared.course.Step.TheVariants as steps
+use Rattle.msc_scenarios.specs.declared.steps.Message.{Message}
+use Rattle.msc_scenarios.specs.declared.steps.Step.{Step}
+use Rattle.msc_scenarios.specs.declared.steps.Step.TheVariants as steps
 use Rattle.msc_mermaid.specs.declared.fault.ImportFault.{ImportFault}
 use Rattle.msc_mermaid.specs.declared.fault.ImportFault.TheVariants.{Shared}
 use Rattle.msc_import.specs.declared.plan.Manner.{Manner}
@@ -23,6 +23,7 @@ use Rattle.msc_import_laws.specs.Ends.{fall as drop}
 use Rattle.msc_import_laws.proofs.EndLists.{End, end_at, ends_at, ends_from, ends_on_lines}
 use Rattle.msc_import_laws.proofs.Parts.{Same, fall, same_ends, sides_on}
 use Rattle.msc_import_laws.proofs.Sections.{plans_many}
+use Rattle.msc_import.proofs.OrderLemmas.{without_fault}
 
 -- what a plan has behind another
 abbrev Has : Plan → List Event → Plan → Type 0
@@ -50,10 +51,6 @@ ok_has p x q es e h = let same : x ≡ q = cc in subst (λ (y : Plan). Has p es 
 marked_events : (p : Plan) (f : Option _) → Has p [] (marked_last p f)
 marked_events p None = sym (append-nil p.events)
 marked_events p (Some f) = sym (append-nil p.events)
-
-without_fault : (b : Bool) (f : ImportFault) (x q : Plan) → cond b (Err f) (Ok x) ≡ Ok q → x ≡ q
-without_fault true f x q e = cc
-without_fault false f x q e = cc
 
 closed_events : (par : Par) (line : ℕ) (p : Plan) (f : Option _) (q : Plan) → closed_last par line p f ≡ Ok q → Has p [] q
 closed_events par line p None q e = ok_has p p q [] e (sym (append-nil p.events))

@@ -1,5 +1,5 @@
 -- What is read of a text keeps few lines, arrows between them, and a number of its own for each arrow.
-use Rattle.std.proofs.Common.{◌≡◌, ℕ, zero, suc, ◌+◌, ◌<◌, ◌≤◌, Bool, true, false, cond, nat_lt, length, drop, sym, arith, inl, inr, List, [], ◌∷◌, ◌++◌, Option, None, Some, Result, Ok, refl, ap, subst, ◌∙◌}
+use Rattle.std.proofs.Common.{◌≡◌, ℕ, zero, suc, ◌+◌, ◌<◌, ◌≤◌, Bool, true, false, cond, nat_lt, length, sym, arith, inl, inr, List, [], ◌∷◌, ◌++◌, Option, None, Some, Result, Ok, refl, ap, subst, ◌∙◌}
 use Rattle.std.specs.Str.{bytes_eq}
 use Rattle.std.proofs.lemmas.Bool.{ltb-true}
 use Rattle.std.proofs.lemmas.List.{length_push}
@@ -26,7 +26,8 @@ use Rattle.msc_mermaid.specs.Reading.{Read, untold, is_arrow, listed, noted, rea
 use Rattle.msc_place.specs.declared.position.Position.{Position}
 use Rattle.msc_import_laws.specs.Lines.{StandsOnce}
 use Rattle.msc_import_laws.specs.Outlined.{AreDistinct, Differ, IsOutlined}
-use Rattle.msc_import_laws.proofs.Drafts.{bound, unless_is}
+use Rattle.msc_import_laws.proofs.Drafts.{unless_is}
+use Rattle.msc_mermaid.proofs.SpellLemmas.{bound}
 use Rattle.msc_import_laws.proofs.Stands.{first_joined, joined_at, second_joined}
 
 -- lines behind others, with these among them
@@ -202,12 +203,6 @@ one_read n cross spot bytes r q read e =
     let whole = span_of spot.first (length bytes) in
     let b = bound (said_at cross r.dying spot.here bytes) (noted r spot.here whole) q e in
     all_noted n r read spot.here whole q b.0 b.2
-
-pub drop_short : {X : Type 0} (k : ℕ) (xs : List X) → length (drop k xs) ≤ length xs
-drop_short zero [] = omega arith
-drop_short zero (x ∷ xs) = omega arith
-drop_short (suc k) [] = omega arith
-drop_short (suc k) (x ∷ xs) = let r = drop_short k xs in omega (arith, r)
 
 -- a diagram is what was read, where all blocks have ended
 closed_is : {A : Type 0} (lines after : A) (x : Option _) → closed_by lines x ≡ Ok after → lines ≡ after

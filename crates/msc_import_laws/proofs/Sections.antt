@@ -1,4 +1,4 @@
--- The events of a draft are the ends of its course's arrows.
+-- The events of a draft are the ends of its path's arrows.
 use Rattle.std.proofs.Common.{◌≡◌, ℕ, zero, suc, ◌+◌, ◌*◌, ◌<◌, length, sym, arith, List, [], ◌∷◌, ◌++◌, map, replicate, Some, Result, Ok, Err, refl, ap, subst, ◌∙◌}
 use Rattle.std.specs.List.{flat_map}
 use Rattle.std.proofs.lemmas.List.{append-nil, append_assoc, length_push, length-replicate, map-append}
@@ -11,9 +11,9 @@ use Rattle.msc_parser.specs.declared.tree.Statement.{Statement as Drawn}
 use Rattle.msc_parser.specs.Drafts.{statements_in}
 use Rattle.msc_chart.specs.Events.{Act, DraftEvent, act_of, drawn, events_of, events_of_item, events_of_items, events_of_sections, next_segment}
 use Rattle.msc_chart.specs.Lists.{StandsAt}
-use Rattle.msc_scenarios.specs.declared.course.Message.{Message}
-use Rattle.msc_scenarios.specs.declared.course.Step.{Step}
-use Rattle.msc_scenarios.specs.declared.course.Step.TheVariants as steps
+use Rattle.msc_scenarios.specs.declared.steps.Message.{Message}
+use Rattle.msc_scenarios.specs.declared.steps.Step.{Step}
+use Rattle.msc_scenarios.specs.declared.steps.Step.TheVariants as steps
 use Rattle.msc_mermaid.specs.declared.fault.ImportFault.{ImportFault}
 use Rattle.msc_import.specs.declared.plan.Manner.{Manner}
 use Rattle.msc_import.specs.declared.plan.Own.{Own}
@@ -178,7 +178,7 @@ module _ (lines names : List (List ℕ)) (ps : List Placed) (own : Own) (ss : Li
       ∙ ap (λ x. map (end_does names) (ends_from own line 0 ss) ++ x) rest
       ∙ sym (map-append (end_does names) (ends_from own line 0 ss) (ends_on_lines own ss (line + 1) (length plans)))
 
--- the events of a draft do what the ends of its course's arrows do, line by line
+-- the events of a draft do what the ends of its path's arrows do, line by line
 module _ (manner : Manner) (name : List ℕ) (lines names : List (List ℕ)) (ps : List Placed) (ss : List Step) (plans : List Plan) where
   unfoldable pub the_draft : Tree
   the_draft = tree_of name (sections_on lines names ps 0 plans [])

@@ -9,21 +9,22 @@ use Rattle.msc_import.specs.declared.importing.Imported.{Imported}
 use Rattle.msc_import.specs.declared.plan.Manner.{Manner}
 use Rattle.msc_import.specs.Drafting.{drawn}
 use Rattle.msc_import.specs.Importing.{Wanted, chosen, diagram_from, diagram_in, drawn_at, imported, imported_from, scenario_of}
-use Rattle.msc_import.specs.declared.siting.EventSite.{EventSite}
-use Rattle.msc_import.specs.Places.{event_sites, places, places_in, sites_of, walk_places}
+use Rattle.msc_import.specs.declared.spanning.EventSpans.{EventSpans}
+use Rattle.msc_import.specs.Places.{event_spans, places, places_in, sites_of, walk_places}
 use Rattle.msc_import.specs.Laws.{ends_on}
 use Rattle.msc_import.specs.Plans.{Event, plans_of, sides_on}
 use Rattle.msc_mermaid.specs.Gives.{◌>>=◌}
 use Rattle.msc_mermaid.specs.declared.fault.ImportFault.{ImportFault}
 use Rattle.msc_mermaid.specs.declared.statement.Diagram.{Diagram}
 use Rattle.msc_place.specs.declared.position.Position.{Position}
-use Rattle.msc_scenarios.specs.declared.course.Message.{Message}
-use Rattle.msc_scenarios.specs.declared.course.Step.TheVariants as steps
-use Rattle.msc_scenarios.specs.Courses.{Walk, message_of, unended}
+use Rattle.msc_scenarios.specs.declared.steps.Message.{Message}
+use Rattle.msc_scenarios.specs.declared.steps.Step.TheVariants as steps
+use Rattle.msc_scenarios.specs.Steps.{Walk, message_of, unended}
 use Rattle.msc_scenarios.specs.Laws.{walked}
 use Rattle.msc_import_laws.specs.Outlined.{IsOutlined}
 use Rattle.msc_import_laws.specs.Spelled.{SpellsItsArrow}
-use Rattle.msc_import_laws.proofs.Drafts.{bound, draft_ends, met as arrow_met, walked_lines}
+use Rattle.msc_import_laws.proofs.Drafts.{draft_ends, met as arrow_met, walked_lines}
+use Rattle.msc_mermaid.proofs.SpellLemmas.{bound}
 use Rattle.msc_import_laws.proofs.EndLists.{End, ends_on_lines}
 use Rattle.msc_markdown.specs.Markdowns.{markdown}
 use Rattle.msc_import_laws.proofs.Imports.{answered_ok, diagram_found, found_ok}
@@ -46,11 +47,11 @@ module _ (manner : Manner) (name : List ℕ) (d : Diagram) (out : IsOutlined d) 
   unfolding drawn_at
   made =
       let a = bound (drawn manner name d given) _ is e in
-      let sited : List Position → List EventSite → Result Imported ImportFault = λ at events. Ok (record { draft = a.0; places = at; sites = sites_of d events }) in
-      let next : List Position → Result Imported ImportFault = λ at. event_sites manner d given >>= sited at in
+      let sited : List Position → List EventSpans → Result Imported ImportFault = λ at events. Ok (record { draft = a.0; places = at; spans = sites_of d events }) in
+      let next : List Position → Result Imported ImportFault = λ at. event_spans manner d given >>= sited at in
       let b = bound (places manner d given) next is a.2 in
-      let k = bound (event_sites manner d given) (sited b.0) is b.2 in
-      let f : ◌≡◌ {A = Result Imported ImportFault} (Ok (record { draft = a.0; places = b.0; sites = sites_of d k.0 })) (Ok is) = k.2 in
+      let k = bound (event_spans manner d given) (sited b.0) is b.2 in
+      let f : ◌≡◌ {A = Result Imported ImportFault} (Ok (record { draft = a.0; places = b.0; spans = sites_of d k.0 })) (Ok is) = k.2 in
       let draft : a.0 ≡ is.draft = cc in
       let at : b.0 ≡ is.places = cc in
       (a.1 ∙ ap Ok draft, b.1 ∙ ap Ok at)

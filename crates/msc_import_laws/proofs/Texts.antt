@@ -24,8 +24,9 @@ use Rattle.msc_mermaid.proofs.StepLemmas.{read_all, read_parts}
 use Rattle.msc_place.specs.declared.position.Position.{Position}
 use Rattle.msc_import_laws.specs.Lines.{StandsOnce}
 use Rattle.msc_import_laws.specs.Outlined.{IsOutlined}
-use Rattle.msc_import_laws.proofs.Drafts.{bound}
-use Rattle.msc_import_laws.proofs.Reading.{IsFound, IsRead, drop_short, none_read, one_read, read_outlined, read_same}
+use Rattle.msc_mermaid.proofs.SpellLemmas.{bound}
+use Rattle.msc_import_laws.proofs.Reading.{IsFound, IsRead, none_read, one_read, read_outlined, read_same}
+use Rattle.msc_mermaid.proofs.StepLemmas.{drop_short}
 
 led_room : (front : List ℕ) (ls : List (List ℕ)) → 1 ≤ room ls → room (led_by front ls) ≡ length front + room ls
 unfolding room
@@ -106,8 +107,8 @@ module _ (cross : Option Cross) (d : Diagram) where
     block_outlined : (s : Start) (others : List Start) → block_diagram any cross f s others ≡ Ok d → IsFound d
     block_outlined s others e = by (is_block s) e
       where
-        by : (b : Bool) → ◌≡◌ {A = Result Diagram ImportFault} (cond b (said_by (is_markup s.form) any cross f (own_parts s others f.parts)) (Err (Stray (first_place (own_parts s others f.parts) f.end)))) (Ok d) → IsFound d
-        by true e = let o = own_room s others f.parts in said_outlined (is_markup s.form) (own_parts s others f.parts) (omega (arith, o, few)) e
+        by : (b : Bool) → ◌≡◌ {A = Result Diagram ImportFault} (cond b (said_by (is_markup s.kind) any cross f (own_parts s others f.parts)) (Err (Stray (first_place (own_parts s others f.parts) f.end)))) (Ok d) → IsFound d
+        by true e = let o = own_room s others f.parts in said_outlined (is_markup s.kind) (own_parts s others f.parts) (omega (arith, o, few)) e
         by false e = cc
 
     first_outlined : (n : ℕ) (blocks : List Start) → first_diagram any cross f n blocks ≡ Ok d → IsFound d

@@ -1,4 +1,5 @@
--- The draft of a course whose arrows and lines are told apart has no fault, and is drawn from top to bottom.
+-- The draft of a path whose arrows and lines are told apart has no fault, and is drawn from top to
+-- bottom.
 use Rattle.std.proofs.Common.{◌/◌, ◌≡◌, ℕ, ◌+◌, ◌*◌, ◌<◌, ◌≤◌, Bool, true, false, not, cond, length, sym, arith, inl, inr, List, [], ◌∷◌, map, slice_get, Option, Some, Ok, refl, ap, subst, ◌∙◌, count_by, IsTrue}
 use Rattle.std.specs.List.{sum_by}
 use Rattle.std.proofs.lemmas.Bool.{and_parts, cases_lt, eqb-true, ltb-true}
@@ -20,9 +21,9 @@ use Rattle.msc_chart.proofs.Lawful.{no_fault}
 use Rattle.msc_chart.proofs.Matched.{chart_count, chart_in_text_order, drawn_at}
 use Rattle.msc_chart.proofs.Places.{map-place, one_at, place-map}
 use Rattle.msc_chart.proofs.TableLemmas.{place-stands}
-use Rattle.msc_scenarios.specs.declared.course.Message.{Message}
-use Rattle.msc_scenarios.specs.declared.course.Step.{Step}
-use Rattle.msc_scenarios.specs.declared.course.Step.TheVariants as steps
+use Rattle.msc_scenarios.specs.declared.steps.Message.{Message}
+use Rattle.msc_scenarios.specs.declared.steps.Step.{Step}
+use Rattle.msc_scenarios.specs.declared.steps.Step.TheVariants as steps
 use Rattle.msc_import.specs.declared.plan.Manner.{Manner}
 use Rattle.msc_mermaid.specs.declared.statement.Placed.{Placed}
 use Rattle.msc_import.specs.Drafting.{fitted, line_name, sections_on, tree_of, drawn_event}
@@ -37,11 +38,12 @@ use Rattle.msc_import_laws.specs.Ends.{IsEndOfItsArrow, heights_of}
 use Rattle.msc_import_laws.specs.Heights.{AreDrawnAt, height}
 use Rattle.msc_import_laws.proofs.Acts.{IsEndAs, act_at, act_by, alone_is, back_key, end_as, fall_of_end, home_of_input, in_act, in_back_act, key_of, one_source, out_act, out_back_act, sent_is, source, taken_is, the_in, the_in_back, the_out, the_out_back, way, way_number, way_source}
 use Rattle.msc_import_laws.proofs.Acts.IsEndAs.{Comes, ComesBack, Goes, GoesBack}
-use Rattle.msc_import_laws.proofs.Counts.{OnceEach, alones_once, count_mapped, count_same, few_pass, ins_once, is_alone, is_in, is_out, outs_once}
+use Rattle.msc_import_laws.proofs.Counts.{OnceEach, alones_once, count_same, few_pass, ins_once, is_alone, is_in, is_out, outs_once}
+use Rattle.msc_markdown.proofs.PassLemmas.{count_view as count_mapped}
 use Rattle.msc_import_laws.proofs.Descent.{visual_down}
 use Rattle.msc_import_laws.proofs.EndLists.{End, IsEndOf, ends_on_lines, at_home, end_of, has_end}
 use Rattle.msc_import_laws.proofs.EndOrder.{Earlier, ends_apart, ends_ordered}
-use Rattle.msc_import_laws.proofs.EndPairs.{back_apart, comes_back, comes_in, goes_back, goes_out}
+use Rattle.msc_import_laws.proofs.EndPairs.{back_apart, comes_back, comes_in, goes_back, goes_out, no_truth as not_so}
 use Rattle.msc_import_laws.proofs.Parts.Side.{Out, In, OutBack, InBack}
 use Rattle.msc_import_laws.proofs.Parts.{Side, fall, is_back, sides_on}
 use Rattle.msc_import_laws.proofs.Sections.{Doing, heights_are, doing, draft_does, end_does, plans_many, section_named, sections_are, sections_from, sections_many, the_draft}
@@ -52,10 +54,6 @@ same_not true true e = refl
 same_not true false e = cc
 same_not false true e = cc
 same_not false false e = refl
-
-not_so : (b : Bool) → not b ≡ true → b ≡ false
-not_so true e = cc
-not_so false e = refl
 
 so : (b : Bool) → not b ≡ false → b ≡ true
 so true e = refl

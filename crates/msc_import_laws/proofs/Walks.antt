@@ -1,4 +1,5 @@
--- A walk meets each arrow once in each of its rounds: the numbers of the arrows that it meets differ.
+-- A walk meets each arrow once in each of its rounds: the numbers of the arrows that it meets
+-- differ.
 use Rattle.std.proofs.Common.{◌≡◌, ℕ, zero, suc, ◌+◌, ◌<◌, Bool, nat_le, ◌==◌, take, drop, sym, arith, List, [], ◌∷◌, refl, ap, subst, ◌∙◌}
 use Rattle.std.specs.List.{AllByRecursion}
 use Rattle.std.proofs.lemmas.Bool.{leb-true}
@@ -6,13 +7,13 @@ use Rattle.std.proofs.lemmas.List.{append-nil}
 use Rattle.msc_chart.specs.Lists.{StandsAt, Occurs}
 use Rattle.msc_chart.proofs.ListLemmas.{by_test}
 use Rattle.msc_scenarios.specs.declared.TheConstants.{ARROW_LIMIT}
-use Rattle.msc_scenarios.specs.declared.course.Message.{Message}
-use Rattle.msc_scenarios.specs.declared.course.Step.TheVariants as steps
+use Rattle.msc_scenarios.specs.declared.steps.Message.{Message}
+use Rattle.msc_scenarios.specs.declared.steps.Step.TheVariants as steps
 use Rattle.msc_mermaid.specs.declared.statement.Arrow.{Arrow}
 use Rattle.msc_mermaid.specs.declared.statement.Placed.{Placed}
 use Rattle.msc_mermaid.specs.declared.statement.Statement.{Statement}
 use Rattle.msc_mermaid.specs.declared.statement.Statement.TheVariants.{Declares, Says, Begins, Closes}
-use Rattle.msc_scenarios.specs.Courses.{Walk, Walker, block, extent, heads, is_choice, is_loss, meet, message_of, one, owned_by, said, start_of, then, walk, walk_on}
+use Rattle.msc_scenarios.specs.Steps.{Walk, Walker, block, extent, heads, is_choice, is_loss, meet, message_of, one, owned_by, said, start_of, then, walk, walk_on}
 use Rattle.msc_import_laws.specs.Outlined.{AreDistinct, Differ}
 use Rattle.msc_import_laws.proofs.Distinct.{distinct_drop, distinct_take, in_drop, in_take, parts_differ}
 use Rattle.msc_import_laws.proofs.Growth.{Grows, grows_none, grows_same, grows_then, grows_wider}

@@ -4,7 +4,7 @@ use Rattle.msc_chart.specs.Lists.{Occurs, StandsAt}
 use Rattle.msc_import.specs.Drafting.{fitted, line_name}
 use Rattle.msc_import.specs.Importing.{diagram_in}
 use Rattle.msc_mermaid.specs.declared.statement.Diagram.{Diagram}
-use Rattle.msc_scenarios.specs.Courses.{line_at}
+use Rattle.msc_scenarios.specs.Steps.{line_at}
 use Rattle.msc_scenarios.specs.Naming.{names_behind}
 use Rattle.msc_import_laws.specs.Imports.{Reading}
 

@@ -13,12 +13,12 @@ use Rattle.msc_mermaid.specs.declared.statement.Diagram.{Diagram}
 use Rattle.msc_mermaid.specs.declared.statement.Placed.{Placed}
 use Rattle.msc_mermaid.specs.declared.statement.Statement.TheVariants.{Says}
 use Rattle.msc_place.specs.declared.position.Position.{Position}
-use Rattle.msc_scenarios.specs.declared.course.Step.TheVariants as steps
-use Rattle.msc_scenarios.specs.Courses.{message_of}
+use Rattle.msc_scenarios.specs.declared.steps.Step.TheVariants as steps
+use Rattle.msc_scenarios.specs.Steps.{message_of}
 use Rattle.msc_scenarios.specs.Naming.{names_behind}
 
--- An event stands where the statement of an arrow begins, and is an end of that arrow in some rounds, where it is
--- lost or arrives: it has the arrow's lines, label and number.
+-- An event stands where the statement of an arrow begins, and is an end of that arrow in some
+-- rounds, where it is lost or arrives: it has the arrow's lines, label and number.
 pub record SpellsItsArrow (manner : Manner) (d : Diagram) (places : List Position) (e : ℕ) (v : DraftEvent) : Type 0 where
   pub statement : Placed
   pub arrow : Arrow

@@ -1,4 +1,4 @@
-//! What is told of the blocks of a text of Markdown.
+//! Notes on the blocks of a text of Markdown.
 
 ghost use Rattle.std.specs.Prelude.{◌≡◌, IfOk};
 
@@ -6,13 +6,13 @@ use crate::hints::{hint, what_stands, worded};
 use listed::Listed;
 use msc_markdown::Markdown;
 use msc_mermaid::{Expectation, ImportFault};
-use msc_notes::{Note, Tag, Told};
+use msc_notes::{FaultNotes, Note, Tag};
 use std::alloc::{AllocError, Global};
 
-/// The most numbers of blocks that are told.
+/// The greatest number of numbers in a hint.
 const NUMBERS: usize = 20;
 
-/// Puts the hint on the numbers of a text's sequence diagrams behind notes, if it has some.
+/// Appends the hint on the numbers of a text's sequence diagrams to notes, if it has some.
 fn put_numbers(alloc: Global, notes: &mut Vec<Note>, numbers: &[usize]) -> Result<(), AllocError> {
     let Some((first, more)) = numbers.split_first() else {
         return Ok(());
@@ -38,7 +38,7 @@ fn put_numbers(alloc: Global, notes: &mut Vec<Note>, numbers: &[usize]) -> Resul
     hint(alloc, notes, words.as_slice())
 }
 
-/// Whether the text has blocks, none of which is a sequence diagram.
+/// Whether the text has blocks, and none of them is a sequence diagram.
 fn has_others(found: &Markdown<'_>, fence: Option<usize>) -> bool {
     let is_markdown = fence.is_some() || !found.is_diagram();
     is_markdown && found.numbers().is_empty() && !found.blocks().is_empty()
@@ -63,18 +63,18 @@ fn asks_number(found: &Markdown<'_>, fence: Option<usize>, fault: ImportFault) -
     }
 }
 
-/// What is told of a fault with notes on the blocks of its text, where the block of a number is
-/// asked for, or none. The only error is want of memory.
+/// The notes on a fault, with further ones on the blocks of its text, if a block is requested by
+/// its number, or none is. The only error is want of memory.
 pub fn with_block_notes(
     alloc: Global,
     found: &Markdown<'_>,
     fence: Option<usize>,
     fault: ImportFault,
-    told: Told,
-) -> Result<Told, AllocError>
-    ensures place { IfOk result (λ t. t.place ≡ told.place) }
+    fault_notes: FaultNotes,
+) -> Result<FaultNotes, AllocError>
+    ensures place { IfOk result (λ t. t.place ≡ fault_notes.place) }
 {
-    let Told { place, notes } = told;
+    let FaultNotes { place, notes } = fault_notes;
     let mut notes = notes.into_vec();
     if begins_none(fault) && has_others(found, fence) {
         hint(
@@ -86,25 +86,25 @@ pub fn with_block_notes(
     if asks_number(found, fence, fault) {
         put_numbers(alloc, &mut notes, found.numbers())?;
     }
-    Ok(Told {
+    Ok(FaultNotes {
         place,
         notes: Listed::from_vec(notes),
     })
 }
 
-/// What is told of a fault of the text of a block, with what was found as it stands in the whole
-/// text, whose places are the same. The only error is want of memory.
+/// The notes on a fault of the text of a block, with the bytes as they are in the whole text, whose
+/// places are the same. The only error is want of memory.
 pub fn with_whole_lines(
     alloc: Global,
     whole: &[u8],
     block: &[u8],
-    told: Told,
-) -> Result<Told, AllocError>
-    ensures place { IfOk result (λ t. t.place ≡ told.place) }
+    fault_notes: FaultNotes,
+) -> Result<FaultNotes, AllocError>
+    ensures place { IfOk result (λ t. t.place ≡ fault_notes.place) }
 {
-    let Told { place, notes } = told;
+    let FaultNotes { place, notes } = fault_notes;
     let Some(at) = place else {
-        return Ok(Told { place, notes });
+        return Ok(FaultNotes { place, notes });
     };
     let before = what_stands(alloc, block, at)?;
     let mut kept = Vec::new(alloc);
@@ -115,7 +115,7 @@ pub fn with_whole_lines(
             kept.push(note)?;
         }
     }
-    Ok(Told {
+    Ok(FaultNotes {
         place,
         notes: Listed::from_vec(kept),
     })

@@ -1,26 +1,26 @@
-//! Bytes of statements: white space, entities, arrows and runs of bytes that look like one.
+//! Bytes of statements: white space, entities, arrows and runs of bytes that look like arrows.
 
 use msc_mermaid::{is_word_byte, trimmed};
 use std::alloc::{AllocError, Global};
 
-/// The arrows, longer ones before those that they begin with.
+/// The arrows, each before those that it begins with.
 const ARROWS: &[&[u8]] = &[
     b"<<-->>", b"<<->>", b"-->>", b"--|\\", b"--|/", b"--\\\\", b"--//", b"/|--", b"\\|--",
     b"//--", b"\\\\--", b"->>", b"-->", b"--)", b"-|\\", b"-|/", b"-\\\\", b"-//", b"--x", b"--X",
     b"/|-", b"\\|-", b"//-", b"\\\\-", b"->", b"-)", b"-x", b"-X",
 ];
 
-/// What a run of bytes that is meant for an arrow holds one of.
+/// What a run of bytes has that is meant for an arrow: one of these.
 const SIGNS: &[&[u8]] = &[
     b"->", b"=>", b"~>", b"<-", b"<=", b"--", b"==", b"-|", b">>",
 ];
 
-/// The bytes behind so many, or none.
+/// The bytes after the first `count`, or none.
 pub(crate) fn behind(bytes: &[u8], count: usize) -> &[u8] {
     bytes.get(count..).unwrap_or(b"")
 }
 
-/// The first bytes, so many, or all.
+/// The first `count` bytes, or all.
 pub(crate) fn front(bytes: &[u8], count: usize) -> &[u8] {
     bytes.get(..count).unwrap_or(bytes)
 }
@@ -30,7 +30,7 @@ pub(crate) fn between(bytes: &[u8], first: usize, past: usize) -> &[u8] {
     bytes.get(first..past).unwrap_or(b"")
 }
 
-/// How many bytes of white space stand in front.
+/// The number of bytes of white space in front.
 pub(crate) fn white_in_front(bytes: &[u8]) -> usize {
     let mut past = 0usize;
     for i in 0..bytes.len() {
@@ -45,7 +45,7 @@ pub(crate) fn white_in_front(bytes: &[u8]) -> usize {
     bytes.len()
 }
 
-/// How many bytes the character takes that stands in front, if it is white space; else none.
+/// The number of bytes of the character in front, if it is white space; otherwise 0.
 pub(crate) fn begins_with_white(bytes: &[u8]) -> usize {
     for size in 1..4 {
         let first = front(bytes, size);
@@ -61,7 +61,7 @@ pub(crate) fn past_white(bytes: &[u8], at: usize) -> usize {
     at.saturating_add(white_in_front(behind(bytes, at)))
 }
 
-/// The place behind which only white space stands.
+/// The place after which there is only white space.
 pub(crate) fn before_white(bytes: &[u8]) -> usize {
     let own = trimmed(bytes).len();
     if own == 0 {
@@ -70,7 +70,7 @@ pub(crate) fn before_white(bytes: &[u8]) -> usize {
     white_in_front(bytes).saturating_add(own)
 }
 
-/// How many bytes of a word stand in front.
+/// The number of bytes of the word in front.
 pub(crate) fn word_length(bytes: &[u8]) -> usize {
     let mut length = 0usize;
     for byte in bytes {
@@ -97,7 +97,7 @@ pub(crate) fn found_from(bytes: &[u8], sought: &[u8], from: usize) -> Option<usi
     None
 }
 
-/// How many bytes the entity takes that stands in front: `#`, a word and `;`; else none.
+/// The number of bytes of the entity in front: `#`, a word and `;`; otherwise 0.
 fn entity_length(bytes: &[u8]) -> usize {
     if bytes.first() != Some(&b'#') {
         return 0;
@@ -123,8 +123,8 @@ pub(crate) fn bare(alloc: Global, bytes: &[u8]) -> Result<Vec<u8>, AllocError> {
     Ok(letters)
 }
 
-/// How many bytes of a line a statement has that begins here: up to a `;` that ends no entity, or a
-/// `#` that begins none.
+/// The number of bytes of a statement that begins here: up to a `;` that ends no entity, or a `#`
+/// that begins none.
 pub(crate) fn statement_length(bytes: &[u8]) -> usize {
     let mut past = 0usize;
     for (i, byte) in bytes.iter().enumerate() {
@@ -138,7 +138,7 @@ pub(crate) fn statement_length(bytes: &[u8]) -> usize {
     bytes.len()
 }
 
-/// How many bytes the arrow takes that stands in front; else none.
+/// The number of bytes of the arrow in front; otherwise 0.
 pub(crate) fn arrow_length(bytes: &[u8]) -> usize {
     for arrow in ARROWS {
         if bytes.starts_with(arrow) {
@@ -148,7 +148,7 @@ pub(crate) fn arrow_length(bytes: &[u8]) -> usize {
     0
 }
 
-/// The place of the first arrow from this place on, and the place behind it.
+/// The place of the first arrow from this place on, and the place after it.
 pub(crate) fn arrow_from(bytes: &[u8], from: usize) -> Option<(usize, usize)> {
     for at in from..bytes.len() {
         let length = arrow_length(behind(bytes, at));
@@ -159,7 +159,7 @@ pub(crate) fn arrow_from(bytes: &[u8], from: usize) -> Option<(usize, usize)> {
     None
 }
 
-/// Whether what stands in front is a drawn arrow, or else a dash of a word processor: U+2190 to
+/// Whether the character in front is a drawn arrow, or else a dash of a word processor: U+2190 to
 /// U+21FF, U+27F0 to U+27FF and U+2900 to U+297F are arrows, U+2013, U+2014 and U+2212 are dashes.
 fn drawn(bytes: &[u8]) -> Option<bool> {
     match bytes {
@@ -172,7 +172,7 @@ fn drawn(bytes: &[u8]) -> Option<bool> {
     }
 }
 
-/// How many bytes of the character in front can be a part of an arrow: all of it, or none.
+/// The number of bytes of the character in front if it can be a part of an arrow; otherwise 0.
 fn part_length(bytes: &[u8]) -> usize {
     if drawn(bytes).is_some() {
         return 3;
@@ -183,7 +183,7 @@ fn part_length(bytes: &[u8]) -> usize {
     }
 }
 
-/// How many bytes of such characters stand in front.
+/// The number of bytes of such characters in front.
 fn run_length(bytes: &[u8]) -> usize {
     let mut past = 0usize;
     for i in 0..bytes.len() {
@@ -198,7 +198,7 @@ fn run_length(bytes: &[u8]) -> usize {
     past
 }
 
-/// Whether what stands in front makes an arrow of a run of such bytes.
+/// Whether the bytes in front make an arrow of a run of such bytes.
 fn begins_sign(bytes: &[u8]) -> bool {
     match drawn(bytes) {
         Some(true) => true,

@@ -4,13 +4,13 @@ use crate::bytes::{behind, found_from, front, past_white, white_in_front};
 use crate::statement::line_rest;
 use msc_mermaid::{is_head, trimmed};
 
-/// The place behind the line of a place.
+/// The place after the line of a place.
 fn next_line(text: &[u8], at: usize) -> usize {
     at.saturating_add(line_rest(text, at).len())
         .saturating_add(1)
 }
 
-/// The first line that is not blank, if there is one: where it begins.
+/// The place of the first line that is not blank, if there is one.
 pub(crate) fn first_filled(text: &[u8]) -> Option<usize> {
     let mut past = 0usize;
     for at in 0..text.len() {
@@ -24,7 +24,7 @@ pub(crate) fn first_filled(text: &[u8]) -> Option<usize> {
     None
 }
 
-/// Where the front matter of a text begins, and the line behind it if it has an end.
+/// The place of the front matter of a text, and of the line after it if it has an end.
 fn front_matter(text: &[u8]) -> Option<(usize, Option<usize>)> {
     let start = first_filled(text)?;
     if trimmed(line_rest(text, start)) != b"---".as_slice() {
@@ -42,7 +42,7 @@ fn front_matter(text: &[u8]) -> Option<(usize, Option<usize>)> {
     Some((start, None))
 }
 
-/// Where a text begins whose front matter has no end.
+/// The place of the front matter of a text, if it has no end.
 pub(crate) fn open_front(text: &[u8]) -> Option<usize> {
     match front_matter(text) {
         Some((start, None)) => Some(past_white_of(text, start)),
@@ -55,7 +55,7 @@ pub(crate) fn past_white_of(text: &[u8], start: usize) -> usize {
     start.saturating_add(white_in_front(line_rest(text, start)))
 }
 
-/// Where the lines begin that stand behind the front matter; none, if that has no end.
+/// The place after the front matter; none if it has no end.
 fn behind_front(text: &[u8]) -> Option<usize> {
     match front_matter(text) {
         None => Some(0),
@@ -63,7 +63,7 @@ fn behind_front(text: &[u8]) -> Option<usize> {
     }
 }
 
-/// What was read of the lines of a text, one by one.
+/// How far the lines of a text were read.
 #[derive(Clone, Copy)]
 struct Going {
     /// The directive that is open, if one is.
@@ -72,7 +72,7 @@ struct Going {
     first: Option<usize>,
 }
 
-/// The place of a directive with which a line begins, behind the word that a diagram begins with.
+/// The place of a directive at the beginning of a line, after the word that a diagram begins with.
 fn directive_at(text: &[u8], start: usize) -> Option<usize> {
     let mut at = past_white_of(text, start);
     if is_head(behind(text, at)) {
@@ -86,7 +86,7 @@ fn directive_at(text: &[u8], start: usize) -> Option<usize> {
 }
 
 impl Going {
-    /// Behind the line that begins here.
+    /// The state after the line that begins here.
     fn behind_line(self, text: &[u8], start: usize) -> Going {
         let line = line_rest(text, start);
         let Going { open, first } = self;
@@ -111,7 +111,7 @@ impl Going {
     }
 }
 
-/// What was read of all lines of a text.
+/// The state after all lines of a text.
 fn gone(text: &[u8]) -> Going {
     let mut going = Going {
         open: None,
@@ -139,7 +139,7 @@ pub(crate) fn first_counting(text: &[u8]) -> Option<usize> {
     gone(text).first
 }
 
-/// The place behind the last `}` of a line, if it has one and is no comment.
+/// The place after the last `}` of a line, if it has one and is no comment.
 fn past_brace(line: &[u8]) -> Option<usize> {
     if trimmed(line).starts_with(b"%%") {
         return None;
@@ -153,7 +153,7 @@ fn past_brace(line: &[u8]) -> Option<usize> {
     past
 }
 
-/// The place behind the last `}` of a text that stands in no comment.
+/// The place after the last `}` of a text, outside comments.
 fn past_braces(text: &[u8]) -> usize {
     let mut past = 0usize;
     let mut last = 0usize;
@@ -168,7 +168,7 @@ fn past_braces(text: &[u8]) -> usize {
     last
 }
 
-/// The place behind `accDescr` and `{`, if they stand here.
+/// The place after `accDescr` and `{`, if they are here.
 fn description_here(text: &[u8], at: usize) -> Option<usize> {
     if !front(behind(text, at), 8).eq_ignore_ascii_case(b"accdescr") {
         return None;
@@ -180,7 +180,7 @@ fn description_here(text: &[u8], at: usize) -> Option<usize> {
     None
 }
 
-/// The place behind the `{` of the description that is open at the end of a text.
+/// The place after the `{` of the description that is open at the end of a text.
 pub(crate) fn open_description(text: &[u8]) -> Option<usize> {
     for at in past_braces(text)..text.len() {
         let found = description_here(text, at);

@@ -1,4 +1,4 @@
-//! Notes of the faults of a statement: what was found, and hints.
+//! Notes on the faults of a statement: what was found, and hints.
 
 use crate::bytes::{
     arrow_from, behind, between, first_word, found_from, front, past_white, run_around, shown,
@@ -11,7 +11,7 @@ use msc_mermaid::trimmed;
 use msc_notes::{Note, Tag};
 use std::alloc::{AllocError, Global};
 
-/// The hint on what arrows there are.
+/// The hint on the arrows that there are.
 pub(crate) const ARROWS: &[u8] = b"arrows are ->> -->> -> --> -x --x -) --) <<->> <<-->>";
 
 /// The words that a misspelt one may have been, in the order of their bytes.
@@ -48,7 +48,7 @@ const NEAR: &[&[u8]] = &[
     b"title",
 ];
 
-/// The most bytes that are told of what was found.
+/// The greatest number of bytes that are shown of what was found.
 const FOUND: usize = 40;
 
 /// A note of a text.
@@ -71,13 +71,13 @@ pub(crate) fn placed(tag: Tag, text: Vec<u8>, place: usize) -> Note {
     }
 }
 
-/// Puts a hint behind notes.
+/// Appends a hint to notes.
 pub(crate) fn hint(alloc: Global, notes: &mut Vec<Note>, text: &[u8]) -> Result<(), AllocError> {
     notes.push(worded(Tag::Hint, Vec::from_slice(alloc, text)?))?;
     Ok(())
 }
 
-/// The bytes up to the next space, behind spaces.
+/// The bytes up to the next space, after leading spaces.
 fn first_part(bytes: &[u8]) -> &[u8] {
     let mut start = 0;
     for (i, byte) in bytes.iter().enumerate() {
@@ -91,7 +91,7 @@ fn first_part(bytes: &[u8]) -> &[u8] {
     behind(bytes, start)
 }
 
-/// What stands at a place of a text.
+/// The part of a text that begins at a place, as it is shown.
 pub(crate) fn what_stands(alloc: Global, text: &[u8], at: usize) -> Result<Vec<u8>, AllocError> {
     let rest = line_rest(text, at);
     if !trimmed(rest).is_empty() {
@@ -103,19 +103,19 @@ pub(crate) fn what_stands(alloc: Global, text: &[u8], at: usize) -> Result<Vec<u
     Vec::from_slice(alloc, b"the end of the line")
 }
 
-/// A note of what stands at a place of a text.
+/// A note on what was found at a place of a text.
 pub(crate) fn found(alloc: Global, text: &[u8], at: usize) -> Result<Note, AllocError> {
     Ok(worded(Tag::Found, what_stands(alloc, text, at)?))
 }
 
-/// The place of a fault of a statement, behind its first byte, and what follows the fault.
+/// The place of a fault of a statement, after its first byte, and the notes that follow it.
 #[derive(Drop)]
 pub(crate) struct Answer {
     pub offset: usize,
     pub notes: Vec<Note>,
 }
 
-/// The word of `&WORD;`, with which the line before a statement ends, if it does.
+/// The word of `&WORD;` at the end of the line before a statement, if it is there.
 fn entity_before(before: &[u8]) -> Option<&[u8]> {
     let line = trimmed(before);
     let mut start = None;
@@ -132,7 +132,7 @@ fn entity_before(before: &[u8]) -> Option<&[u8]> {
     Some(word)
 }
 
-/// Puts the hint on the semicolon before a statement, if one stands there.
+/// Appends the hint on the semicolon before a statement, if there is one.
 fn semicolon(alloc: Global, notes: &mut Vec<Note>, own: &Statement) -> Result<(), AllocError> {
     if own.is_first() {
         return Ok(());
@@ -150,7 +150,7 @@ fn semicolon(alloc: Global, notes: &mut Vec<Note>, own: &Statement) -> Result<()
     Ok(())
 }
 
-/// The notes of what was found at a place of a statement, or of a run of bytes there.
+/// The notes on what was found at a place of a statement, or on a run of bytes there.
 fn begun(
     alloc: Global,
     text: &[u8],
@@ -168,7 +168,7 @@ fn begun(
     Ok(notes)
 }
 
-/// What a key word means for a statement that fits none of its patterns.
+/// The hint on the meaning of the key word of a statement that fits none of its patterns.
 fn key_word_hint(alloc: Global, own: &Statement) -> Result<Option<Vec<u8>>, AllocError> {
     let next = own.has_arrow_next();
     if own.has_key_word() && (next || own.behind_word().starts_with(b"-")) {
@@ -239,7 +239,7 @@ fn no_name(
     })
 }
 
-/// The answer on a name before an arrow, that ends in a part of one: the run around the arrow.
+/// The answer on a name before an arrow that ends with a part of one: the run around the arrow.
 pub(crate) fn run_before(
     alloc: Global,
     text: &[u8],
@@ -253,7 +253,7 @@ pub(crate) fn run_before(
     no_name(alloc, text, own, place, &[ARROWS])
 }
 
-/// The answer on a name behind `-x` or `--x`, at this place, up to a second arrow.
+/// The answer on a name after `-x` or `--x`, at this place, up to a second arrow.
 fn cross_in_name(
     alloc: Global,
     text: &[u8],
@@ -268,12 +268,12 @@ fn cross_in_name(
     no_name(alloc, text, own, (cross.0, None), &[more.as_slice()])
 }
 
-/// Whether a byte of `<`, `=` or `>` stands in a name.
+/// Whether a name has one of the bytes `<`, `=` and `>`.
 fn has_arrow_byte(name: &[u8]) -> bool {
     name.iter().any(|byte| matches!(byte, b'<' | b'=' | b'>'))
 }
 
-/// The second arrow in a name behind an arrow with a cross, if a letter follows the cross.
+/// The second arrow in a name after an arrow with a cross, if a letter follows the cross.
 fn second_arrow(own: &Statement, arrow: (usize, usize), past: usize) -> Option<usize> {
     let bare = own.bare.as_slice();
     let last = between(bare, arrow.1.saturating_sub(1), arrow.1);
@@ -284,7 +284,7 @@ fn second_arrow(own: &Statement, arrow: (usize, usize), past: usize) -> Option<u
     None
 }
 
-/// The answer on a name between two places, behind this arrow if one is given.
+/// The answer on a name between two places, after this arrow if one is given.
 pub(crate) fn name_between(
     alloc: Global,
     text: &[u8],
@@ -325,7 +325,7 @@ pub(crate) fn joined(alloc: Global, text: &[u8], own: &Statement) -> Result<Answ
     )
 }
 
-/// The answer on an arrow right behind another one, at this place.
+/// The answer on an arrow right after another one, at this place.
 pub(crate) fn second(
     alloc: Global,
     text: &[u8],

@@ -1,4 +1,4 @@
-//! What a text is that is no sequence diagram.
+//! The kind of a text that is no sequence diagram.
 
 use crate::bytes::first_word;
 use crate::counting_lines::first_counting;
@@ -44,7 +44,7 @@ const KINDS: &[&[u8]] = &[
 /// The word that a sequence diagram begins with.
 const HEAD: &[u8] = b"sequenceDiagram";
 
-/// What is told of the word that a text begins with.
+/// The note on the word that a text begins with.
 fn kind_of(alloc: Global, word: &[u8]) -> Result<Option<(Tag, Vec<u8>)>, AllocError> {
     if KINDS.iter().any(|kind| *kind == word) {
         let mut text = Vec::from_slice(alloc, word)?;
@@ -66,8 +66,8 @@ fn kind_of(alloc: Global, word: &[u8]) -> Result<Option<(Tag, Vec<u8>)>, AllocEr
     }
 }
 
-/// The note on what a text is, whose fault stands at this place: with a place of its own, if that
-/// is on another line.
+/// The note on the kind of a text whose fault is at this place: with a place of its own, if that is
+/// on another line.
 pub(crate) fn kind_note(
     alloc: Global,
     text: &[u8],

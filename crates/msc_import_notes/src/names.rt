@@ -1,4 +1,4 @@
-//! Which name of a statement does not fit, and where names stand.
+//! The name of a statement that does not fit, and the places of names.
 
 use crate::bytes::{
     arrow_from, before_white, begins_with_white, behind, first_word, found_from, front, past_white,
@@ -9,7 +9,7 @@ use crate::statement::Statement;
 use msc_mermaid::trimmed;
 use std::alloc::{AllocError, Global};
 
-/// What no name holds.
+/// Parts that no name has.
 const BARRED: &[&[u8]] = &[b"%%", b"()", b"-/", b"-\\", b"-|"];
 
 /// Whether the bytes are a name.
@@ -22,7 +22,7 @@ fn is_name(name: &[u8]) -> bool {
     !name.is_empty() && !barred && !ends && !has_barred(name)
 }
 
-/// Whether the bytes hold something that no name does.
+/// Whether the bytes have a part that no name has.
 fn has_barred(name: &[u8]) -> bool {
     BARRED
         .iter()
@@ -35,7 +35,7 @@ fn is_joining(name: &[u8]) -> bool {
         .any(|byte| matches!(byte, b'-' | b'/' | b'\\' | b'('))
 }
 
-/// Whether `as` stands here, with white space behind it.
+/// Whether `as` is here, with white space after it.
 fn begins_alias(word: &[u8]) -> bool {
     front(word, 2).eq_ignore_ascii_case(b"as") && begins_with_white(behind(word, 2)) > 0
 }
@@ -55,7 +55,7 @@ fn alias_from(bytes: &[u8], from: usize) -> usize {
     bytes.len()
 }
 
-/// Where the name of a declaration begins, and where what is taken for it ends.
+/// The place of the name of a declaration, and the end of what is taken for it.
 pub(crate) fn declared(own: &Statement) -> (usize, usize) {
     let bare = own.bare.as_slice();
     let mut at = own.word.len();
@@ -68,7 +68,7 @@ pub(crate) fn declared(own: &Statement) -> (usize, usize) {
     (at, brace.min(alias_from(bare, at)))
 }
 
-/// Where the sign behind an arrow ends: `+`, `-` or `()`.
+/// The end of the sign after an arrow: `+`, `-` or `()`.
 fn past_sign(bare: &[u8], at: usize) -> usize {
     let rest = behind(bare, at);
     if rest.starts_with(b"+") || rest.starts_with(b"-") {
@@ -80,14 +80,14 @@ fn past_sign(bare: &[u8], at: usize) -> usize {
     at
 }
 
-/// Where the receiver of an arrow that ends here begins, and the colon behind it.
+/// The place of the receiver of an arrow that ends here, and of the colon after it.
 pub(crate) fn receiver(bare: &[u8], past: usize) -> (usize, usize) {
     let at = past_sign(bare, past_white(bare, past));
     let colon = found_from(bare, b":", at).unwrap_or(bare.len());
     (past_white(bare, at), colon)
 }
 
-/// The name of the sender before an arrow, and whether `()` stands behind it.
+/// The name of the sender before an arrow, and whether `()` follows it.
 pub(crate) fn sender(bare: &[u8], arrow: usize) -> (&[u8], bool) {
     let part = trimmed(front(bare, arrow));
     if part.ends_with(b"()") {

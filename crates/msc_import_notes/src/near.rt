@@ -11,23 +11,23 @@ pub(crate) fn lowered(alloc: Global, bytes: &[u8]) -> Result<Vec<u8>, AllocError
         .collect(alloc)
 }
 
-/// The most bytes of a word that one of those looked for can be near to.
+/// The greatest number of bytes of a word that can be near to one of those known.
 const MOST: usize = 24;
 
-/// How many bytes have to be put in, dropped or changed at least, capital letters counted as small
-/// ones.
+/// The least number of bytes that have to be added, dropped or changed; capital letters count as
+/// small ones.
 fn distance(alloc: Global, a: &[u8], b: &[u8]) -> Result<usize, AllocError> {
     let a = lowered(alloc, a)?;
     let b = lowered(alloc, b)?;
     generic_levenshtein(alloc, &a, &b)
 }
 
-/// Whether so many changes are few for the two words.
+/// Whether this number of changes is small for the two words.
 fn is_few(distance: usize, a: &[u8], b: &[u8]) -> bool {
     distance.saturating_mul(3) <= a.len().max(b.len())
 }
 
-/// The word that is nearest to one, the first of several, where few changes are enough.
+/// The word that is nearest to one, the first of several, if few changes are enough.
 pub(crate) fn nearest<'w>(
     alloc: Global,
     words: &[&'w [u8]],

@@ -7,7 +7,7 @@ use crate::hints::hint;
 use listed::Listed;
 use msc_markdown::Markdown;
 use msc_mermaid::ImportFault;
-use msc_notes::{Note, Tag, Told};
+use msc_notes::{FaultNotes, Note, Tag};
 use std::alloc::{AllocError, Global};
 
 /// Whether a text is a sequence diagram, by the first of its lines that counts, or is Markdown that
@@ -22,7 +22,7 @@ pub fn is_sequence_diagram(alloc: Global, text: &[u8]) -> Result<bool, AllocErro
     }
 }
 
-/// The notes with this hint in the place of others: behind what was found, and before the rest.
+/// The notes with this hint in place of others: after what was found, and before the rest.
 fn with_hint(alloc: Global, notes: Vec<Note>, words: &[u8]) -> Result<Vec<Note>, AllocError> {
     let mut first = Vec::new(alloc);
     let mut rest = Vec::new(alloc);
@@ -40,19 +40,24 @@ fn with_hint(alloc: Global, notes: Vec<Note>, words: &[u8]) -> Result<Vec<Note>,
     Ok(first)
 }
 
-/// What is told of the first fault of a text that was read as a chart and is a sequence diagram:
-/// that it is one, and what reads it, in place of other hints. The only error is want of memory.
-pub fn tell_other_way(alloc: Global, told: Told, is_check: bool) -> Result<Told, AllocError>
-    ensures { IfOk result (λ other. other.place ≡ told.place) }
+/// The notes on the first fault of a text that was read as a chart and is a sequence diagram: that
+/// it is one, and which command reads it, in place of other hints. The only error is want of
+/// memory.
+pub fn tell_other_way(
+    alloc: Global,
+    fault_notes: FaultNotes,
+    is_check: bool,
+) -> Result<FaultNotes, AllocError>
+    ensures { IfOk result (λ other. other.place ≡ fault_notes.place) }
 {
     let words: &[u8] = if is_check {
         b"this is a sequence diagram of Mermaid: --from any reads it"
     } else {
         b"this is a sequence diagram of Mermaid: msc import makes a chart of it"
     };
-    let Told { place, notes } = told;
+    let FaultNotes { place, notes } = fault_notes;
     let notes = with_hint(alloc, notes.into_vec(), words)?;
-    Ok(Told {
+    Ok(FaultNotes {
         place,
         notes: Listed::from_vec(notes),
     })

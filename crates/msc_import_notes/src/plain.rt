@@ -1,4 +1,5 @@
-//! The text of a diagram with one LF for each end of a line, whose places are those of faults.
+//! The text of a diagram with one LF at each end of a line; places of faults are places of this
+//! text.
 
 ghost use Rattle.std.specs.Prelude.{◌≡◌, ◌++◌, IfOk, OnOk, map, option_map, replicate};
 ghost use Rattle.std.specs.List.{slice_get};
@@ -65,7 +66,7 @@ fn put_line(text: &mut Vec<u8>, line: &[u8], part: Option<LinePart>) -> Result<(
     put_blanks(text, rest.saturating_sub(part.bytes.len()))
 }
 
-/// The part of an index, if there is one.
+/// The part with an index, if there is one.
 fn part_at<'t>(parts: &[LinePart<'t>], at: usize) -> Option<LinePart<'t>>
     ensures { option_map stretch result ≡ slice_get (map stretch parts.now) at }
 {
@@ -76,7 +77,7 @@ fn part_at<'t>(parts: &[LinePart<'t>], at: usize) -> Option<LinePart<'t>>
     }
 }
 
-/// The part of the line of a number, if one of these is.
+/// The part on the line with this number, if there is one.
 fn part_on<'t>(parts: &[LinePart<'t>], number: usize) -> Option<LinePart<'t>>
     ensures { option_map stretch result ≡ part_on number (map stretch parts.now) }
 {
@@ -103,9 +104,9 @@ fn joined_block(
     Ok(plain)
 }
 
-/// The text of a block of Markdown, by its number from 1: that of the whole file with one LF for
-/// each end of a line, in which blanks stand for all that does not belong to the block. So places
-/// are those of the whole text. The only error is want of memory.
+/// The text of a block of Markdown, by its number from 1: that of the whole file with one LF at
+/// each end of a line, and with blanks for all that does not belong to the block. So places are
+/// those of the whole text. The only error is want of memory.
 pub fn block_text(alloc: Global, found: &Markdown<'_>, number: usize) -> Result<Vec<u8>, AllocError>
     ensures { IfOk result (λ v. v.items ≡ block_text number found.now) }
 {

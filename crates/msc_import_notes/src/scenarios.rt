@@ -1,15 +1,15 @@
-//! What is told of a diagram of more scenarios than the limit.
+//! Notes on a diagram of more scenarios than the limit.
 
 ghost use Rattle.std.specs.Prelude.{◌≡◌, None, IfOk};
 
 use crate::hints::{hint, worded};
 use listed::Listed;
 use msc_mermaid::{Closer, Cross, Diagram, Fate, ImportFault, Kind, Placed, Statement, diagram_of};
-use msc_notes::{Note, Tag, Told};
+use msc_notes::{FaultNotes, Note, Tag};
 use msc_scenarios::{SCENARIO_LIMIT, scenarios};
 use std::alloc::{AllocError, Global};
 
-/// The blocks around a statement: how many, and the number of the outermost loop among them.
+/// The blocks around a statement: their number, and the number of the outermost loop among them.
 #[derive(Clone, Copy)]
 struct Around {
     depth: usize,
@@ -17,7 +17,7 @@ struct Around {
 }
 
 impl Around {
-    /// The blocks around what follows a statement.
+    /// The blocks around the statement that follows.
     fn behind(self, statement: &Statement) -> Around {
         let Around { depth, outermost } = self;
         match statement {
@@ -38,7 +38,7 @@ impl Around {
     }
 }
 
-/// Whether an arrow stands in a loop.
+/// Whether an arrow is in a loop.
 fn has_rounds(statements: &[Placed]) -> bool {
     let mut around = Around {
         depth: 0,
@@ -61,7 +61,7 @@ fn has_cross(statements: &[Placed]) -> bool {
     })
 }
 
-/// The hint on the limit that is enough for so many scenarios.
+/// The hint on the limit that is enough for `count` scenarios.
 fn limit_hint(alloc: Global, count: usize) -> Result<Vec<u8>, AllocError> {
     let mut digits = itoa::Buffer::new();
     let number = Vec::from_slice(alloc, digits.format(count).as_bytes())?;
@@ -73,7 +73,7 @@ fn limit_hint(alloc: Global, count: usize) -> Result<Vec<u8>, AllocError> {
     Ok(words)
 }
 
-/// What makes the scenarios of a diagram fewer, or the limit high enough.
+/// The hints that make the scenarios of a diagram fewer, or the limit high enough.
 fn notes_of(alloc: Global, diagram: &Diagram, rounds: &[usize]) -> Result<Vec<Note>, AllocError> {
     let mut notes = Vec::new(alloc);
     let count = scenarios(alloc, diagram, rounds)?;
@@ -94,22 +94,22 @@ fn notes_of(alloc: Global, diagram: &Diagram, rounds: &[usize]) -> Result<Vec<No
     Ok(notes)
 }
 
-/// What is told of a diagram of more scenarios than the limit, where loops go these numbers of
-/// rounds: what helps. The only error is want of memory.
+/// The notes on a diagram of more scenarios than the limit, if loops go these numbers of rounds.
+/// The only error is want of memory.
 pub fn tell_scenarios(
     alloc: Global,
     text: &[u8],
     cross: Option<Cross>,
     rounds: &[usize],
-) -> Result<Told, AllocError>
-    ensures { IfOk result (λ told. told.place ≡ None) }
+) -> Result<FaultNotes, AllocError>
+    ensures { IfOk result (λ fault_notes. fault_notes.place ≡ None) }
 {
     let notes = match diagram_of(alloc, cross, text) {
         Ok(diagram) => notes_of(alloc, &diagram, rounds)?,
         Err(ImportFault::Memory) => return Err(AllocError),
         Err(_) => Vec::new(alloc),
     };
-    Ok(Told {
+    Ok(FaultNotes {
         place: None,
         notes: Listed::from_vec(notes),
     })

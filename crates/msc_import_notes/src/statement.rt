@@ -1,4 +1,4 @@
-//! A statement of a text that was refused, and the parts of it that notes speak of.
+//! A statement of a text that was refused, and its parts that notes name.
 
 use crate::bytes::{
     arrow_length, bare, before_white, behind, between, first_word, front, past_white,
@@ -8,7 +8,7 @@ use crate::near::lowered;
 use msc_mermaid::is_head;
 use std::alloc::{AllocError, Global};
 
-/// The words that a statement begins with and that are no names.
+/// The words at the beginning of statements that are no names.
 const KEY_WORDS: &[&[u8]] = &[
     b"loop",
     b"alt",
@@ -62,7 +62,7 @@ pub(crate) fn line_start(text: &[u8], at: usize) -> usize {
     start
 }
 
-/// What stands from a place on, up to the end of its line.
+/// The rest of the line from a place on.
 pub(crate) fn line_rest(text: &[u8], at: usize) -> &[u8] {
     let rest = behind(text, at);
     let mut length = 0usize;
@@ -97,8 +97,8 @@ impl<'t> Statement<'t> {
         })
     }
 
-    /// Whether it is the first statement of its line: before it stand only white space, marks of
-    /// quotes, and the word that the diagram begins with.
+    /// Whether it is the first statement of its line: before it there are only white space, marks
+    /// of quotes, and the word that the diagram begins with.
     pub(crate) fn is_first(&self) -> bool {
         let mut at = past_white(self.before, 0);
         for i in 0..self.before.len() {
@@ -120,12 +120,12 @@ impl<'t> Statement<'t> {
         words.iter().any(|word| self.word.as_slice() == *word)
     }
 
-    /// What stands behind its first word.
+    /// The part after its first word.
     pub(crate) fn behind_word(&self) -> &[u8] {
         behind(self.bare.as_slice(), self.word.len())
     }
 
-    /// Whether an arrow stands behind its first word.
+    /// Whether an arrow follows its first word.
     pub(crate) fn has_arrow_next(&self) -> bool {
         let rest = self.behind_word();
         arrow_length(behind(rest, past_white(rest, 0))) > 0

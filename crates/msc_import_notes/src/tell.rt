@@ -1,4 +1,4 @@
-//! What is told of a fault of an import beside its line.
+//! The notes on a fault of an import, and its place.
 
 ghost use Rattle.std.specs.Prelude.{◌≡◌, IfNone, IfOk, IfSome, None};
 ghost use Rattle.msc_import_notes.specs.Places.{fault_line, IsOnLine};
@@ -12,11 +12,11 @@ use crate::near::lowered;
 use crate::statement::Statement;
 use listed::Listed;
 use msc_mermaid::{Expectation, ImportFault, diagram_of};
-use msc_notes::{Note, Tag, Told};
+use msc_notes::{FaultNotes, Note, Tag};
 use msc_place::{Lines, Position};
 use std::alloc::{AllocError, Global};
 
-/// Where a fault stands, if it stands anywhere.
+/// The position of a fault, if it has one.
 fn position_of(fault: ImportFault) -> Option<Position>
     ensures some { IfSome result (λ here. here.line ≡ fault_line fault) }
     ensures none { IfNone result (fault_line fault ≡ 1) }
@@ -32,7 +32,7 @@ fn position_of(fault: ImportFault) -> Option<Position>
     }
 }
 
-/// The line of a diagram's text on which a fault stands; the first, where it stands on none.
+/// The line of a diagram's text that has a fault; the first, if none has it.
 pub fn fault_line(fault: ImportFault) -> usize
     ensures { result ≡ fault_line fault }
 {
@@ -42,7 +42,7 @@ pub fn fault_line(fault: ImportFault) -> usize
     }
 }
 
-/// Whether a byte begins what stands in a column: it is counted, or it continues no letter.
+/// Whether a byte begins a column: it is counted, or it continues no letter.
 fn begins_column(before: u8, byte: u8) -> bool {
     byte < 128 || byte > 191 || before < 128
 }
@@ -70,47 +70,47 @@ fn place_of(text: &[u8], here: Position) -> Option<usize> {
     None
 }
 
-/// What is told at a place with these notes.
-fn told(at: usize, notes: Vec<Note>) -> Told {
-    Told {
+/// A place with these notes.
+fn fault_notes(at: usize, notes: Vec<Note>) -> FaultNotes {
+    FaultNotes {
         place: Some(at),
         notes: Listed::from_vec(notes),
     }
 }
 
-/// What is told of a fault whose place is known, beside what was found there.
-fn told_found(
+/// The notes on a fault whose place is known, after the note on what was found there.
+fn found_notes(
     alloc: Global,
     text: &[u8],
     at: usize,
     more: Option<Note>,
-) -> Result<Told, AllocError> {
+) -> Result<FaultNotes, AllocError> {
     let mut notes = Vec::new(alloc);
     notes.push(found(alloc, text, at)?)?;
     if let Some(note) = more {
         notes.push(note)?;
     }
-    Ok(told(at, notes))
+    Ok(fault_notes(at, notes))
 }
 
-/// The note on where a part begins that has no end.
+/// The note on the place of a part that has no end.
 fn opened(alloc: Global, at: Option<usize>) -> Option<Note> {
     at.map(|place| placed(Tag::Opened, Vec::new(alloc), place))
 }
 
-/// What is told of a statement.
-fn told_answer(own: usize, answer: Answer) -> Told {
+/// The notes on a statement.
+fn answer_notes(own: usize, answer: Answer) -> FaultNotes {
     let Answer { offset, notes } = answer;
-    told(own.saturating_add(offset), notes)
+    fault_notes(own.saturating_add(offset), notes)
 }
 
-/// What is told of a statement with a configuration: of what follows that, or of its end.
-fn told_config(
+/// The notes on a statement with a configuration: on what follows that, or on its end.
+fn config_notes(
     alloc: Global,
     text: &[u8],
     own: &Statement,
     is_open: bool,
-) -> Result<Told, AllocError> {
+) -> Result<FaultNotes, AllocError> {
     let end = own.held.len();
     let (_, brace) = declared(own);
     let past = match own.held.get(brace..) {
@@ -123,18 +123,18 @@ fn told_config(
         _ => end,
     };
     let at = own.at.saturating_add(past_white(own.held, past).min(end));
-    told_found(alloc, text, at, None)
+    found_notes(alloc, text, at, None)
 }
 
-/// What is told of a statement of which something else was expected.
-fn told_statement(
+/// The notes on a statement where something else was expected.
+fn statement_notes(
     alloc: Global,
     text: &[u8],
     at: usize,
     what: Expectation,
-) -> Result<Told, AllocError> {
+) -> Result<FaultNotes, AllocError> {
     if behind(text, at).starts_with(b"%%{") {
-        return told_found(alloc, text, at, None);
+        return found_notes(alloc, text, at, None);
     }
     let own = Statement::of(alloc, text, at)?;
     let answer = match what {
@@ -145,60 +145,60 @@ fn told_statement(
         }
         _ => no_statement(alloc, text, &own)?,
     };
-    Ok(told_answer(at, answer))
+    Ok(answer_notes(at, answer))
 }
 
-/// What is told of what was expected at this place.
-fn told_expected(
+/// The notes on what was expected at this place.
+fn expected_notes(
     alloc: Global,
     text: &[u8],
     at: usize,
     what: Expectation,
-) -> Result<Told, AllocError> {
+) -> Result<FaultNotes, AllocError> {
     let is_last = at >= text.len();
     match what {
-        Expectation::Front => told_found(alloc, text, at, opened(alloc, open_front(text))),
+        Expectation::Front => found_notes(alloc, text, at, opened(alloc, open_front(text))),
         Expectation::Directive => {
             let open = open_directive(text).filter(|_| is_last);
-            told_found(alloc, text, at, opened(alloc, open))
+            found_notes(alloc, text, at, opened(alloc, open))
         }
         Expectation::Description if is_last => {
-            told_found(alloc, text, at, opened(alloc, open_description(text)))
+            found_notes(alloc, text, at, opened(alloc, open_description(text)))
         }
         Expectation::Description => {
-            told_config(alloc, text, &Statement::of(alloc, text, at)?, true)
+            config_notes(alloc, text, &Statement::of(alloc, text, at)?, true)
         }
         Expectation::StatementEnd => {
-            told_config(alloc, text, &Statement::of(alloc, text, at)?, false)
+            config_notes(alloc, text, &Statement::of(alloc, text, at)?, false)
         }
-        Expectation::LineEnd => told_found(alloc, text, at, None),
+        Expectation::LineEnd => found_notes(alloc, text, at, None),
         Expectation::AnyDiagram | Expectation::Diagram => {
-            told_found(alloc, text, at, kind_note(alloc, text, at)?)
+            found_notes(alloc, text, at, kind_note(alloc, text, at)?)
         }
-        _ => told_statement(alloc, text, at, what),
+        _ => statement_notes(alloc, text, at, what),
     }
 }
 
-/// What is told with one hint, at this place.
-fn told_hint(alloc: Global, at: usize, text: &[u8]) -> Result<Told, AllocError> {
+/// One hint, at this place.
+fn hint_notes(alloc: Global, at: usize, text: &[u8]) -> Result<FaultNotes, AllocError> {
     let mut notes = Vec::new(alloc);
     hint(alloc, &mut notes, text)?;
-    Ok(told(at, notes))
+    Ok(fault_notes(at, notes))
 }
 
-/// What is told of an arrow to the left, of the statement at this place.
-fn told_leftward(alloc: Global, text: &[u8], at: usize) -> Result<Told, AllocError> {
+/// The notes on an arrow to the left, of the statement at this place.
+fn leftward_notes(alloc: Global, text: &[u8], at: usize) -> Result<FaultNotes, AllocError> {
     let own = Statement::of(alloc, text, at)?;
     let first = arrow_from(own.bare.as_slice(), 0).map_or(0, |(first, _)| first);
     let words = b"the arrow goes to the left: write it the other way round";
-    told_hint(alloc, at.saturating_add(first), words)
+    hint_notes(alloc, at.saturating_add(first), words)
 }
 
-/// What is told of a block without end, at this place.
-fn told_unended(alloc: Global, text: &[u8], at: usize) -> Result<Told, AllocError> {
+/// The notes on a block without end, at this place.
+fn unended_notes(alloc: Global, text: &[u8], at: usize) -> Result<FaultNotes, AllocError> {
     let mut words = lowered(alloc, word_at(text, at))?;
     words.extend_from_slice(b" needs its own end")?;
-    told_hint(alloc, at, words.as_slice())
+    hint_notes(alloc, at, words.as_slice())
 }
 
 /// The place of the innermost block that is open before a place of a text.
@@ -210,17 +210,18 @@ fn open_block(alloc: Global, text: &[u8], at: usize) -> Result<Option<usize>, Al
     }
 }
 
-/// What is told of a word outside of its block, at this place.
-fn told_outside(alloc: Global, text: &[u8], at: usize) -> Result<Told, AllocError> {
+/// The notes on a word outside its block, at this place.
+fn outside_notes(alloc: Global, text: &[u8], at: usize) -> Result<FaultNotes, AllocError> {
     let mut notes = Vec::new(alloc);
     if let Some(block) = open_block(alloc, text, at)? {
         let word = lowered(alloc, word_at(text, block))?;
         notes.push(placed(Tag::Inside, word, block))?;
     }
-    Ok(told(at, notes))
+    Ok(fault_notes(at, notes))
 }
 
-/// Whether the sender of the arrow at a place is a line too many: an arrow from it to itself is.
+/// Whether the sender of the arrow at a place is a line too many. It is if an arrow from it to
+/// itself is refused too.
 fn is_sender_new(alloc: Global, text: &[u8], at: usize, name: &[u8]) -> Result<bool, AllocError> {
     let mut tried = Vec::from_slice(alloc, between(text, 0, at))?;
     tried.extend_from_slice(name)?;
@@ -251,36 +252,44 @@ fn new_name(alloc: Global, text: &[u8], at: usize) -> Result<usize, AllocError> 
     Ok(at.saturating_add(receiver(bare, arrow.1).0))
 }
 
-/// What is told of a fault at the place that its position has.
-fn told_at(alloc: Global, text: &[u8], at: usize, fault: ImportFault) -> Result<Told, AllocError> {
+/// The notes on a fault at the place of its position.
+fn notes_at(
+    alloc: Global,
+    text: &[u8],
+    at: usize,
+    fault: ImportFault,
+) -> Result<FaultNotes, AllocError> {
     match fault {
-        ImportFault::Expected(_, what) => told_expected(alloc, text, at, what),
-        ImportFault::Unsupported(_, _) => told_leftward(alloc, text, at),
-        ImportFault::Unended(_) => told_unended(alloc, text, at),
-        ImportFault::Outside(_, _) => told_outside(alloc, text, at),
+        ImportFault::Expected(_, what) => expected_notes(alloc, text, at, what),
+        ImportFault::Unsupported(_, _) => leftward_notes(alloc, text, at),
+        ImportFault::Unended(_) => unended_notes(alloc, text, at),
+        ImportFault::Outside(_, _) => outside_notes(alloc, text, at),
         ImportFault::Stray(_) => {
-            told_hint(
+            hint_notes(
                 alloc,
                 at,
                 b"in Markdown a diagram stands between ```mermaid and ```",
             )
         }
-        ImportFault::Entity(_) => told_hint(alloc, at, b"write the character itself"),
-        ImportFault::TooManyLines(_) => Ok(told(new_name(alloc, text, at)?, Vec::new(alloc))),
+        ImportFault::Entity(_) => hint_notes(alloc, at, b"write the character itself"),
+        ImportFault::TooManyLines(_) => Ok(fault_notes(
+            new_name(alloc, text, at)?,
+            Vec::new(alloc),
+        )),
         ImportFault::Shared(_, _) => {
-            told_hint(
+            hint_notes(
                 alloc,
                 at,
                 b"--par drawn draws the branches one below the other",
             )
         }
-        _ => Ok(told(at, Vec::new(alloc))),
+        _ => Ok(fault_notes(at, Vec::new(alloc))),
     }
 }
 
-/// What is told of a fault that has no place.
-fn told_nowhere(alloc: Global, fault: ImportFault) -> Result<Told, AllocError>
-    ensures { IfOk result (λ told. told.place ≡ None) }
+/// The notes on a fault that has no place.
+fn notes_without_place(alloc: Global, fault: ImportFault) -> Result<FaultNotes, AllocError>
+    ensures { IfOk result (λ fault_notes. fault_notes.place ≡ None) }
 {
     let mut notes = Vec::new(alloc);
     if matches!(fault, ImportFault::Several(_)) {
@@ -288,13 +297,13 @@ fn told_nowhere(alloc: Global, fault: ImportFault) -> Result<Told, AllocError>
             b"--choose main takes each first branch of an alt, each opt, one round of each loop";
         hint(alloc, &mut notes, words)?;
     }
-    Ok(Told {
+    Ok(FaultNotes {
         place: None,
         notes: Listed::from_vec(notes),
     })
 }
 
-/// The place, where it stands on this line of the text.
+/// The place, if it is on this line of the text.
 fn kept(lines: &Lines, place: Option<usize>, line: usize) -> Option<usize>
     ensures { IfSome result (λ at. IsOnLine lines.now line at) }
 {
@@ -310,22 +319,22 @@ fn kept(lines: &Lines, place: Option<usize>, line: usize) -> Option<usize>
     }
 }
 
-/// What is told of a fault of an import of a text whose lines end in LF alone. The only error is
-/// want of memory.
-pub fn tell_import(alloc: Global, text: &[u8], fault: ImportFault) -> Result<Told, AllocError>
-    ensures place { IfOk result (λ told. IfSome told.place
+/// The notes on a fault of an import of a text whose lines end with LF only. The only error is want
+/// of memory.
+pub fn tell_import(alloc: Global, text: &[u8], fault: ImportFault) -> Result<FaultNotes, AllocError>
+    ensures place { IfOk result (λ fault_notes. IfSome fault_notes.place
         (λ at. IsOnLine text.now (fault_line fault) at)) }
 {
     let Some(here) = position_of(fault) else {
-        let told = told_nowhere(alloc, fault)?;
-        return Ok(told);
+        let fault_notes = notes_without_place(alloc, fault)?;
+        return Ok(fault_notes);
     };
     let lines = Lines::of(alloc, text)?;
-    let Told { place, notes } = match place_of(text, here) {
-        Some(at) => told_at(alloc, text, at, fault)?,
-        None => told_nowhere(alloc, fault)?,
+    let FaultNotes { place, notes } = match place_of(text, here) {
+        Some(at) => notes_at(alloc, text, at, fault)?,
+        None => notes_without_place(alloc, fault)?,
     };
-    Ok(Told {
+    Ok(FaultNotes {
         place: kept(&lines, place, here.line),
         notes,
     })

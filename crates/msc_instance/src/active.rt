@@ -14,8 +14,8 @@ use msc_chart::{Chart, Event, Queues};
 use msc_fifo::{Inlet, Outlet};
 use std::snapshot::Snapshot;
 
-/// The post of an instance: the architecture, its number, the numbers of its line's first event and
-/// past its last, and the ends with which it began.
+/// The post of an instance: the architecture, its number, the number of its line's first event and
+/// the number past the last, and the ends with which it began.
 #[derive(Drop)]
 pub(crate) struct Post {
     pub queues: Queues,
@@ -25,9 +25,9 @@ pub(crate) struct Post {
     pub began: Snapshot<InstanceEnds>,
 }
 
-/// An instance between two steps: its ends, its log and its clock. `next` is the number up to which
-/// its outputs and local events are logged, `first` one up to which all its events are. Once it has
-/// nothing more to send it is `shut`: its outlets are closed.
+/// An instance between two steps: its ends, its log and its clock. Its outputs and local events
+/// below `next` are logged, and all its events below `first`. Once it has nothing more to send it
+/// is `shut`: its outlets are closed.
 #[derive(Drop)]
 pub(crate) struct Active {
     pub outlets: Vec<(u32, Outlet)>,
@@ -40,7 +40,7 @@ pub(crate) struct Active {
 }
 
 impl Active {
-    /// Goes on to the next output or local event and to the first event that is not logged.
+    /// Advances to the next output or local event and to the first event that is not logged.
     pub fn look(&mut self, chart: &Chart, post: &Post)
         requires { IsSound chart.now post.now self.old }
         ensures sound { IsSound chart.now post.now self.new }
@@ -57,7 +57,8 @@ impl Active {
         self.first = first_missing(&self.journal, self.first, post.end);
     }
 
-    /// Sends the message of the next event, an output, and logs it. False: the clock is spent.
+    /// Sends the message of the next event, an output, and logs it. False means that the clock is
+    /// spent.
     pub fn send(&mut self, chart: &Chart, post: &Post) -> bool
         requires sound { IsSound chart.now post.now self.old }
         requires within { self.old.next < post.now.end }

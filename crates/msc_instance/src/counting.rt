@@ -1,4 +1,4 @@
-//! How many messages go from whom through which queue, counted in one pass.
+//! The number of messages from each sender through each queue, counted in one pass.
 
 ghost use Rattle.std.specs.Prelude.{◌≡◌, ℕ, ◌*◌, length, get_or};
 ghost use Rattle.msc_chart.specs.Orders.{queue_bound};
@@ -19,7 +19,7 @@ pub(crate) fn count(chart: &Chart, queues: Queues, counts: &mut [u32], receivers
     queues_are_bounded();
     queue_numbers_are_bounded();
     events_have_queues();
-    chart.accepted();
+    chart.facts();
     let instances = chart.instances() as usize;
     for m in 0..chart.messages() {
         let q = chart.queue(m, queues) as usize;

@@ -1,10 +1,11 @@
-//! The ends that an instance has of its queues, and what it leaves.
+//! The ends of an instance's queues, and the parts that the instance leaves.
 
 use msc_chart::{Event, Queues};
 use msc_ending::End;
 use msc_fifo::{Inlet, Outlet};
 
-/// The ends of an instance under an architecture, each with the number of its queue, ascending.
+/// The ends of the queues of an instance under an architecture, each with the number of its queue,
+/// ascending.
 #[derive(Drop)]
 pub struct InstanceEnds {
     /// The architecture.
@@ -15,7 +16,7 @@ pub struct InstanceEnds {
     pub inlets: Vec<(u32, Inlet)>,
 }
 
-/// What an instance leaves.
+/// The parts that an instance leaves.
 #[derive(Drop)]
 pub struct InstanceEnd {
     /// The events that it logged, in order.

@@ -21,10 +21,10 @@ use std::alloc::Global;
 use std::sync::Wait;
 use std::thread::Threads;
 
-/// What the run of a chart leaves.
+/// The parts that the execution of a chart leaves.
 #[derive(Drop)]
 pub struct Execution {
-    /// What each instance logged, in order.
+    /// The events that each instance logged, in order.
     pub logs: Vec<Vec<Event>>,
     /// How each instance ended.
     pub ends: Vec<End>,
@@ -33,9 +33,9 @@ pub struct Execution {
 }
 
 /// Runs a chart under an architecture: each instance in a thread of its own, over fresh queues. All
-/// memory that the instances need is taken before the first thread is started. Where a thread can't
-/// be started, the outlets of its instance and of all later ones are closed, the earlier ones end,
-/// and nothing is handed back but the instance's number. `Memory` may come at any growth.
+/// memory that the instances need is taken before the first thread is started. If a thread can't be
+/// started, the outlets of its instance and of all later ones are closed, the earlier ones end, and
+/// only the instance's number is returned. `Memory` may come at any growth.
 pub fn run_chart<R: Threads + Wait + Sync, G: Gate + Sync>(
     rt: &R,
     alloc: Global,
@@ -47,15 +47,15 @@ pub fn run_chart<R: Threads + Wait + Sync, G: Gate + Sync>(
     ensures execution { IfOk result (λ x.
         IsExecution queues chart.now G.is_open patience (outcome_of x)) }
 
-    // Where all have finished, all logs are whole and nothing is left in a queue.
+    // If all have finished, all logs are whole and nothing is left in a queue.
     ensures finished { IfOk result (λ x.
         AreFinished x.ends.items → IsFinished chart.now (outcome_of x)) }
 
-    // A gate that is known to be open stops nobody.
+    // A gate that is known to be open stops no instance.
     ensures open { IfOk result (λ x.
         IsTrue G.is_open → (i : ℕ) → end_at (outcome_of x) i ≢ Stopped) }
 
-    // The gate has let each event of a log, but for an input at which its instance was stopped.
+    // The gate has allowed each event of a log, except an input at which its instance was stopped.
     ensures asked { IfOk result (λ x. (i : ℕ) → i < length chart.now.instances
         → WasLet (G.lets gate.now) chart.now i (log_at (outcome_of x) i) (end_at (outcome_of x) i)) }
     ensures started { IfErr result (λ f.
@@ -65,7 +65,7 @@ pub fn run_chart<R: Threads + Wait + Sync, G: Gate + Sync>(
     settled_runs_are_executions();
     finished_executions_leave_nothing();
     no_clock_is_spent();
-    chart.accepted();
+    chart.facts();
     let jobs = prepare_all(alloc, chart, queues)?;
     let answers = Vec::with_capacity(alloc, jobs.len())?;
     let back = Vec::with_capacity(alloc, jobs.len())?;

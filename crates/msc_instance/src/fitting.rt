@@ -1,4 +1,4 @@
-//! Whether ends fit an instance, told by counts of its messages in tables of a fixed size.
+//! Whether ends fit an instance, by counts of its messages in tables of a fixed size.
 
 ghost use Rattle.std.specs.Prelude.{◌≡◌, ℕ, ◌↔◌, IsTrue, length, get_or};
 ghost use Rattle.msc_chart.specs.Orders.{queue_bound};
@@ -21,7 +21,8 @@ fn no_counts() -> [u32; QUEUE_LIMIT]
     [0; QUEUE_LIMIT]
 }
 
-/// Counts the messages that instance `i` sends to each queue, and those that it takes from it.
+/// Counts the messages that instance `i` sends to each queue, and the messages that it takes from
+/// it.
 fn count_own(chart: &Chart, queues: Queues, i: u32, sent: &mut [u32], taken: &mut [u32])
     requires zero { (q : ℕ) → get_or sent.old q 0 ≡ 0 }
     requires none { (q : ℕ) → get_or taken.old q 0 ≡ 0 }
@@ -33,7 +34,7 @@ fn count_own(chart: &Chart, queues: Queues, i: u32, sent: &mut [u32], taken: &mu
 {
     queue_numbers_are_bounded();
     events_have_queues();
-    chart.accepted();
+    chart.facts();
     for m in 0..chart.messages() {
         let q = chart.queue(m, queues) as usize;
         sent[q] += u32::from(chart.sender(m) == i);
@@ -57,14 +58,14 @@ fn are_numbered<T>(ends: &[(u32, T)], counts: &[u32]) -> bool
     k == ends.len()
 }
 
-/// Whether the outlet is open, with room for so many messages more.
+/// Whether the outlet is open, with room for `messages` more messages.
 fn has_room(outlet: &Outlet, messages: u32) -> bool
     ensures { IsTrue result ↔ HasRoomFor outlet.now messages }
 {
     !outlet.is_closed() && messages <= outlet.left()
 }
 
-/// How many messages of queue `q` the table has.
+/// The number of messages of queue `q` in the table.
 fn messages_of(counts: &[u32], q: u32) -> u32
     ensures { result ≡ get_or counts.now q 0 }
 {
@@ -112,7 +113,7 @@ fn fit_counted(
 
 impl InstanceEnds {
     /// Whether the ends fit instance `i` of the chart, from 0: an open outlet for each queue to
-    /// which it sends, with room for what it sends there, an inlet for each queue from which it
+    /// which it sends, with room for its messages there, an inlet for each queue from which it
     /// takes, and no other; both lists ascend. It takes no memory.
     pub fn fits(&self, chart: &Chart, i: u32) -> bool
         ensures { IsTrue result ↔ IsFit (role self.now.queues chart.now i) (ends_of self.now) }

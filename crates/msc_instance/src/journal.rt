@@ -7,10 +7,10 @@ ghost use Rattle.msc_chart.specs.declared.TheConstants.{EVENT_LIMIT};
 
 use msc_chart::{EVENT_LIMIT, Event};
 
-/// How many events a journal can mark: those of the largest chart.
+/// The number of events that a journal can mark: those of the largest chart.
 const MARKS: usize = EVENT_LIMIT as usize;
 
-/// What an instance has logged. Whether an event is in it costs no walk.
+/// The log of an instance. The look-up of an event needs no walk.
 #[derive(Drop)]
 pub(crate) struct Journal {
     pub log: Vec<Event>,

@@ -9,7 +9,7 @@ ghost use Rattle.msc_instance.specs.Active.{HasPut, IsAscending, IsClosedFrom};
 
 use msc_fifo::Outlet;
 
-/// The place of the outlet of a queue; the numbers of the queues ascend.
+/// The place of the outlet of a queue. The numbers of the queues ascend.
 pub(crate) fn outlet_at(outlets: &[(u32, Outlet)], queue: u32) -> usize
     requires there { IsTrue (occurs (map (λ (o : NumberedOutlet). o.0) outlets.now) queue) }
     requires ascending { IsAscending (map (λ (o : NumberedOutlet). o.0) outlets.now) }
@@ -29,7 +29,7 @@ pub(crate) fn outlet_at(outlets: &[(u32, Outlet)], queue: u32) -> usize
     low
 }
 
-/// Sends a message with this clock. It answers the clock after it, or none where that is spent.
+/// Sends a message with this clock. Returns the clock after it, or none if the clock is spent.
 pub(crate) fn put_one(outlet: &mut (u32, Outlet), m: u32, clock: u64) -> Option<u64>
     requires { HasRoom outlet.old.1 }
     ensures put { IfSome result (λ now. HasPut m clock now outlet.old outlet.new) }

@@ -73,10 +73,10 @@ impl Active {
 }
 
 /// Runs instance `i` of a chart with these ends, which fit, and logs its events into `log`. It
-/// sends what its line lets it send and takes what comes, until all its events are logged or
-/// another end is reached; its outlets are closed then. `patience` is how many rounds of takes in a
-/// row may find nothing. It never waits for another thread: an empty round gives up the rest of its
-/// time slice. It takes no memory.
+/// sends the messages that its line allows and takes those that come, until all its events are
+/// logged or another end is reached; its outlets are closed then. `patience` is the number of
+/// rounds of takes in a row that may find nothing. It never waits for another thread: an empty
+/// round gives up the rest of its time slice. It takes no memory.
 pub fn run_instance<G: Gate>(
     chart: &Chart,
     i: u32,
@@ -94,7 +94,7 @@ pub fn run_instance<G: Gate>(
     ensures asked { WasLet (G.lets gate.now) chart.now i result.log.items result.end }
     ensures same { result.ends.queues ≡ ends.queues }
 {
-    chart.accepted();
+    chart.facts();
     lines_are_ranges();
     outputs_have_outlets();
     logs_keep_quotas();

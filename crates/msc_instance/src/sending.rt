@@ -1,4 +1,4 @@
-//! What an instance does of itself: outputs and local events.
+//! The events that an instance controls: outputs and local events.
 
 ghost use Rattle.std.specs.Prelude.{◌≡◌, ◌<◌, ◌+◌, ℕ, false, true, IsTrue};
 ghost use Rattle.msc_chart.specs.Lists.{occurs};
@@ -14,7 +14,7 @@ use crate::gate::Gate;
 use crate::outlets::close_all;
 use msc_chart::Chart;
 
-/// How far an instance came without a take.
+/// The progress of an instance without a take.
 #[derive(Clone, Copy)]
 pub(crate) enum Sending {
     Done,
@@ -23,8 +23,8 @@ pub(crate) enum Sending {
 }
 
 impl Active {
-    /// Does the next event, an output or a local event, where the gate lets it. False: it is
-    /// stopped.
+    /// Does the next event, an output or a local event, if the gate allows it. False means that the
+    /// instance is stopped.
     pub fn do_next<G: Gate>(&mut self, chart: &Chart, post: &Post, gate: &G) -> bool
         requires sound { IsSound chart.now post.now self.old }
         requires within { self.old.next < post.now.end }
@@ -53,7 +53,7 @@ impl Active {
         true
     }
 
-    /// Does what is ready, until all is done or something waits.
+    /// Does the events that are ready, until all are done or one waits.
     pub fn do_ready<G: Gate>(&mut self, chart: &Chart, post: &Post, gate: &G) -> Sending
         requires { IsSound chart.now post.now self.old }
         ensures sound { IsSound chart.now post.now self.new }
@@ -86,8 +86,8 @@ impl Active {
         }
     }
 
-    /// Does what is ready, and closes the outlets once nothing more is to be sent. False: it is
-    /// stopped.
+    /// Does the events that are ready, and closes the outlets once nothing more is to be sent.
+    /// False means that the instance is stopped.
     pub fn go_on<G: Gate>(&mut self, chart: &Chart, post: &Post, gate: &G) -> bool
         requires { IsSound chart.now post.now self.old }
         ensures sound { IsSound chart.now post.now self.new }

@@ -1,9 +1,11 @@
-//! The start of all threads: no instance begins before it is known whether each has a thread.
+//! The start of all threads: no instance begins before all threads are known to have started or one
+//! was refused.
 
 use std::sync::atomic::{AtomicBool, Ordering};
 use std::thread;
 
-/// How often a thread looks whether all were started; it does not begin earlier without knowing.
+/// The greatest number of times that a thread checks whether all were started, before it begins
+/// without knowing.
 const LOOKS: u32 = u32::MAX;
 
 /// Whether all threads were started, and whether one was refused.
@@ -14,7 +16,7 @@ pub(crate) struct Start {
 }
 
 impl Start {
-    /// Neither is known.
+    /// Neither is noted.
     pub fn new() -> Start {
         Start {
             complete: AtomicBool::new(false),
@@ -22,17 +24,17 @@ impl Start {
         }
     }
 
-    /// Tells that all threads were started.
+    /// Notes that all threads were started.
     pub fn complete(&self) {
         self.complete.store(true, Ordering::SeqCst);
     }
 
-    /// Tells that a thread was refused.
+    /// Notes that a thread was refused.
     pub fn refuse(&self) {
         self.refused.store(true, Ordering::SeqCst);
     }
 
-    /// Waits until either is told, and answers whether a thread was refused. Instances that begin
+    /// Waits until either is noted, and returns whether a thread was refused. Instances that begin
     /// earlier could wait for each other, and for one that never begins, until their patience ends.
     pub fn was_refused(&self) -> bool {
         for _ in 0..LOOKS {

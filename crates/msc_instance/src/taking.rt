@@ -11,7 +11,7 @@ use crate::gate::Gate;
 use msc_chart::{Chart, Queues};
 use msc_fifo::{Inlet, Taken};
 
-/// What a take of an instance came to.
+/// The result of a take of an instance.
 #[derive(Clone, Copy)]
 pub(crate) enum TakeStep {
     Nothing,
@@ -28,7 +28,7 @@ fn take_one(inlet: &mut (u32, Inlet), clock: u64) -> Taken
     inlet.1.take(clock)
 }
 
-/// Whether a message is of the chart in a queue.
+/// Whether the chart has a message in a queue.
 fn is_of(chart: &Chart, queues: Queues, queue: u32, m: u32) -> bool
     ensures { IsTrue result
         ↔ ((m < length chart.now.messages) × (queue_of queues chart.now m ≡ queue)) }
@@ -37,7 +37,7 @@ fn is_of(chart: &Chart, queues: Queues, queue: u32, m: u32) -> bool
 }
 
 impl Active {
-    /// Takes from inlet `k`. A message is logged as its input, and then the gate is asked.
+    /// Takes from inlet `k`. A message is logged as its input, and then the gate is called.
     pub fn take<G: Gate>(&mut self, chart: &Chart, post: &Post, gate: &G, k: usize) -> TakeStep
         requires sound { IsSound chart.now post.now self.old }
         requires inlet { k < length self.old.inlets.items }

@@ -21,7 +21,7 @@ use std::sync::Wait;
 use std::thread;
 use std::thread::{Promise, Scope, Threads};
 
-/// What an instance starts from.
+/// The parts from which an instance starts.
 #[derive(Drop)]
 pub(crate) struct Job {
     /// The number of the instance.
@@ -32,16 +32,16 @@ pub(crate) struct Job {
     pub log: Vec<Event>,
 }
 
-/// What a thread answers: what its instance left, or its job with the outlets closed, not begun,
-/// where another thread was refused.
+/// The result of a thread: the parts that its instance left, or its job with the outlets closed,
+/// not begun, if another thread was refused.
 #[derive(Drop)]
 pub(crate) enum Answer {
     Ran(InstanceEnd),
     NotRun(Job),
 }
 
-/// What came of instances: the answers of those whose threads were started, and the jobs of the
-/// others, with their outlets closed. In both the first instance stands last.
+/// The results of instances: those of the threads that were started, and the jobs of the others,
+/// with their outlets closed. In both lists the first instance is last.
 #[derive(Drop)]
 pub(crate) struct Gathered {
     pub answers: Vec<Answer>,
@@ -64,7 +64,7 @@ impl<'a, G: Gate> Promise<Answer> for Ran<'a, G> {
         p.patience p.job.value r };
 }
 
-/// What an instance starts from, with these ends.
+/// The parts from which an instance starts, with these ends.
 fn prepare(alloc: Global, chart: &Chart, number: u32, ends: InstanceEnds) -> Result<Job, AllocError>
     requires known { number < length chart.now.instances }
     requires fit { IsFit (role ends.queues chart.now number) (ends_of ends) }
@@ -77,7 +77,7 @@ fn prepare(alloc: Global, chart: &Chart, number: u32, ends: InstanceEnds) -> Res
     Ok(Job { number, ends, log })
 }
 
-/// What each instance starts from, in the order of the chart.
+/// The parts from which each instance starts, in the order of the chart.
 pub(crate) fn prepare_all(
     alloc: Global,
     chart: &Chart,
@@ -85,7 +85,7 @@ pub(crate) fn prepare_all(
 ) -> Result<Vec<Job>, AllocError>
     ensures { IfOk result (λ jobs. AreJobs queues chart.now jobs.items) }
 {
-    chart.accepted();
+    chart.facts();
     let all = wire(alloc, chart, queues)?;
     let mut jobs = Vec::with_capacity(alloc, all.len())?;
     let mut number = 0;
@@ -103,7 +103,7 @@ fn close(job: &mut Job)
     close_all(job.ends.outlets.as_mut_slice());
 }
 
-/// Closes the outlets of all these.
+/// Closes the outlets of all these instances.
 fn close_each(jobs: &mut [Job])
     ensures { AllZip IsClosedJob jobs.old jobs.new }
 {
@@ -112,7 +112,7 @@ fn close_each(jobs: &mut [Job])
     }
 }
 
-/// Runs an instance once all threads were started, or closes its outlets where one was refused.
+/// Runs an instance once all threads were started, or closes its outlets if one was refused.
 fn run_job<G: Gate>(chart: &Chart, mut job: Job, gate: &G, patience: u32, start: &Start) -> Answer
     requires ready { IsReady chart.now job }
     ensures { AnswersRun chart.now (rule G.is_open (G.lets gate.now)) patience job result }
@@ -137,9 +137,9 @@ fn next_job(chart: &Chart, jobs: &mut Vec<Job>) -> Option<Job>
     jobs.pop()
 }
 
-/// Closes the outlets of all later instances, once that one whose thread was refused has answered
-/// in this thread. It joins none, so whatever the earlier ones wait for has ended before they are
-/// joined.
+/// Closes the outlets of all later instances, after the instance whose thread was refused has
+/// returned in this thread. It joins no thread, so whatever the earlier instances wait for has
+/// ended before they are joined.
 fn stop(answer: Answer, mut jobs: Vec<Job>, mut answers: Vec<Answer>) -> Gathered
     requires later { vec_len jobs < vec_capacity jobs }
     requires room { vec_len answers < vec_capacity answers }
@@ -158,9 +158,9 @@ fn stop(answer: Answer, mut jobs: Vec<Job>, mut answers: Vec<Answer>) -> Gathere
 }
 
 /// Starts the thread of the first instance, does the same for the rest, and joins the first. The
-/// last job is the first instance's, and so is the last of what comes back. Where a thread can't be
-/// started, no later one is, and the outlets of its instance and of all later ones are closed
-/// before an earlier one is joined, so that the earlier ones end.
+/// last job of `so_far` is the first instance's, and so is the last result. If a thread can't be
+/// started, no later one is started, and the outlets of its instance and of all later ones are
+/// closed before an earlier one is joined, so that the earlier ones end.
 fn run_rest<'s, 'e, R: Threads + Wait + Sync, G: Gate + Sync>(
     rt: &'e R,
     scope: &Scope<'s, &'e ()>,
@@ -168,16 +168,19 @@ fn run_rest<'s, 'e, R: Threads + Wait + Sync, G: Gate + Sync>(
     gate: &'e G,
     patience: u32,
     start: &'e Start,
-    mut jobs: Vec<Job>,
-    answers: Vec<Answer>,
+    so_far: Gathered,
 ) -> Gathered
-    requires jobs { All (IsReady chart.now) jobs.items }
-    requires empty { answers.items ≡ [] }
-    requires room { vec_len jobs ≤ vec_capacity answers }
+    requires jobs { All (IsReady chart.now) so_far.unstarted.items }
+    requires empty { so_far.answers.items ≡ [] }
+    requires room { vec_len so_far.unstarted ≤ vec_capacity so_far.answers }
     ensures answered { HaveAnswered chart.entry.now (rule G.is_open (G.lets gate.entry.now))
-        patience jobs.items result }
-    ensures room { vec_capacity result.answers ≡ vec_capacity answers }
+        patience so_far.unstarted.items result }
+    ensures room { vec_capacity result.answers ≡ vec_capacity so_far.answers }
 {
+    let Gathered {
+        answers,
+        unstarted: mut jobs,
+    } = so_far;
     let Some(job) = next_job(chart, &mut jobs) else {
         start.complete();
         return Gathered {
@@ -204,7 +207,11 @@ fn run_rest<'s, 'e, R: Threads + Wait + Sync, G: Gate + Sync>(
             stop((refusal.value)(), jobs, answers)
         }
         Ok(handle) => {
-            let mut all = run_rest(rt, scope, chart, gate, patience, start, jobs, answers);
+            let rest = Gathered {
+                answers,
+                unstarted: jobs,
+            };
+            let mut all = run_rest(rt, scope, chart, gate, patience, start, rest);
             all.answers.push_reserved(handle.join(rt));
             all
         }
@@ -239,12 +246,18 @@ fn in_scope<R: Threads + Wait + Sync, G: Gate + Sync>(
             ensures answered { HaveAnswered chart.entry.now (rule G.is_open (G.lets gate.entry.now))
                 patience jobs.items result }
             ensures room { vec_capacity result.answers ≡ vec_capacity answers }
-        { run_rest(rt, scope, chart, gate, patience, start, jobs, answers) },
+        {
+            let so_far = Gathered {
+                answers,
+                unstarted: jobs,
+            };
+            run_rest(rt, scope, chart, gate, patience, start, so_far)
+        },
     )
 }
 
-/// What the instances left, in the order of the chart, in the room that was made. Where one was not
-/// begun, its number is answered.
+/// The parts that the instances left, in the order of the chart, in the room that was made. If an
+/// instance was not begun, its number is returned.
 fn all_left(mut answers: Vec<Answer>, mut ran: Vec<InstanceEnd>) -> Result<Vec<InstanceEnd>, u32>
     requires empty { ran.items ≡ [] }
     requires room { vec_len answers ≤ vec_capacity ran }
@@ -260,8 +273,9 @@ fn all_left(mut answers: Vec<Answer>, mut ran: Vec<InstanceEnd>) -> Result<Vec<I
     Ok(ran)
 }
 
-/// Runs each instance in a thread of its own, and answers what they leave, in their order. Where a
-/// thread can't be started it answers the instance's number, once all others have ended.
+/// Runs each instance in a thread of its own, and returns the parts that they leave, in their
+/// order. If a thread can't be started it returns the instance's number, after all others have
+/// ended.
 pub(crate) fn run_all<R: Threads + Wait + Sync, G: Gate + Sync>(
     rt: &R,
     chart: &Chart,

@@ -19,7 +19,7 @@ use msc_execution::laws::{wiring_grows, wirings_fit};
 use msc_fifo::{Inlet, Outlet, QUOTA_LIMIT, QueueFault, SENDER_LIMIT, queue};
 use std::alloc::{AllocError, Global};
 
-/// No ends yet for so many instances.
+/// No ends yet for `instances` instances.
 fn without_ends(
     alloc: Global,
     instances: u32,
@@ -40,7 +40,7 @@ fn without_ends(
     Ok(all)
 }
 
-/// The quotas of those who send at all, in their order.
+/// The quotas of the instances that send to the queue, in their order.
 fn senders_quotas(alloc: Global, quotas: &[u32]) -> Result<Vec<u32>, AllocError>
     ensures { IfOk result (λ own. own.items ≡ filter (nat_lt 0) quotas.now) }
 {
@@ -82,7 +82,7 @@ fn hand_out(
     Ok(())
 }
 
-/// Makes queue `q` and hands out its ends, where it has a sender.
+/// Makes queue `q` and hands out its ends, if it has a sender.
 fn wire_queue(
     alloc: Global,
     all: &mut [InstanceEnds],
@@ -127,7 +127,7 @@ fn wire_each(
 {
     wiring_grows();
     queues_are_bounded();
-    chart.accepted();
+    chart.facts();
     let instances = chart.instances() as usize;
     let bound = Wiring { chart, queues }.queue_count();
     for q in 0..bound {
@@ -139,8 +139,8 @@ fn wire_each(
 }
 
 /// Fresh ends for each instance of a chart under an architecture: one queue for each number that
-/// has a message, with an outlet for each sender, with room for what it sends, and the inlet for
-/// the receiver. An error is answered where a growth of memory was refused.
+/// has a message, with an outlet for each sender, which has room for its messages, and the inlet
+/// for the receiver. An error is a growth of memory that was refused.
 pub fn wire(alloc: Global, chart: &Chart, queues: Queues) -> Result<Vec<InstanceEnds>, AllocError>
     ensures wiring { IfOk result (λ all. IsWiring queues chart.now (map ends_of all.items)) }
     ensures architecture { IfOk result (λ all. All (λ e. e.queues ≡ queues) all.items) }
@@ -149,7 +149,7 @@ pub fn wire(alloc: Global, chart: &Chart, queues: Queues) -> Result<Vec<Instance
 {
     wiring_grows();
     wirings_fit();
-    chart.accepted();
+    chart.facts();
     let instances = chart.instances();
     let bound = Wiring { chart, queues }.queue_count() as usize;
     let mut counts = Vec::from_elem(alloc, 0u32, bound * instances as usize)?;

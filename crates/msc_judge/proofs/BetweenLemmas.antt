@@ -8,12 +8,12 @@ use Rattle.msc_chart.specs.Charts.{before, IsInTextOrder, IsSegmentEnd}
 use Rattle.msc_chart.specs.Drawings.{Drawing}
 use Rattle.msc_chart.specs.Lists.{pairs_to}
 use Rattle.msc_chart.specs.Orders.{IsRace}
-use Rattle.msc_chart.specs.Rounds.{round_of, twice}
+use Rattle.msc_chart.specs.Rounds.{round_of, two_rounds}
 use Rattle.msc_chart.proofs.Drawn.{before_parts}
 use Rattle.msc_chart.proofs.ListLemmas.{clash}
 use Rattle.msc_chart.proofs.RoundEvents.{events_many}
 use Rattle.msc_race.specs.Races.{is_raced}
-use Rattle.msc_race.specs.Views.{races_of, wiring_of, AreFrom, AreRacesOf}
+use Rattle.msc_race.specs.Views.{races_of, wiring_of, AreRacesOf}
 use Rattle.msc_race.specs.Wired.{EnforcedChart, IsEnforced}
 use Rattle.msc_race.proofs.Listing.Ascending.{of_ascends}
 use Rattle.msc_race.proofs.Listing.Counts.{below_few}
@@ -21,14 +21,14 @@ use Rattle.msc_race.proofs.Listing.DrawnPairs.{list_of_races}
 use Rattle.msc_race.proofs.Listing.Pairs.{below_all, below_more, below_none, of_from, of_rest, of_parts, pairs_below, pairs_between, pairs_none, to_parts}
 use Rattle.msc_reason.specs.Counting.{counts}
 use Rattle.msc_reason.specs.Kinds.{has_kind}
-use Rattle.msc_reason.specs.Marked.{lack_in}
+use Rattle.msc_reason.specs.Marked.{cause_in}
 use Rattle.msc_reason.specs.declared.left_out.LeftOut.{LeftOut}
 use Rattle.msc_judge.specs.Between.{are_next, is_told, told_of, told_with}
 use Rattle.msc_judge.specs.Rounds.{AreRoundRaces, IsTold}
 use Rattle.msc_judge.proofs.NextSegments.{after_segment, in_segment, next_from, next_parts}
 
 -- two rounds have each event twice
-pub two_many : (d two : Drawing) → two ≡ twice d → length two.events ≡ 2 * length d.events
+pub two_many : (d two : Drawing) → two ≡ two_rounds d → length two.events ≡ 2 * length d.events
 two_many d two is = ap (λ (x : Drawing). length x.events) is ∙ events_many 2 (length d.messages) d.events
 
 -- what is raced is drawn in the order
@@ -52,7 +52,7 @@ pub record Parts (d : Drawing) (two : EnforcedChart) (left : LeftOut) (x y : ℕ
   pub second : round_of 2 d.events y ≡ 1
   pub raced : is_raced two.chart.events two.order x y ≡ true
   pub next : are_next two.chart.events x y ≡ true
-  pub counts : counts left (lack_in two) (x, y) ≡ true
+  pub counts : counts left (cause_in two) (x, y) ≡ true
 
 module _ (d : Drawing) (two : EnforcedChart) (left : LeftOut) where
   -- the parts of the test
@@ -77,7 +77,7 @@ module _ (d : Drawing) (two : EnforcedChart) (left : LeftOut) where
 
   -- a pair that has all parts but the last is told where it counts
   pub told_when : (x y : ℕ) → round_of 2 d.events x ≡ 0 → round_of 2 d.events y ≡ 1 → is_raced two.chart.events two.order x y ≡ true
-      → are_next two.chart.events x y ≡ true → counts left (lack_in two) (x, y) ≡ is_told d two left x y
+      → are_next two.chart.events x y ≡ true → counts left (cause_in two) (x, y) ≡ is_told d two left x y
   unfolding is_told
   told_when x y first second raced next = rw (first, second, raced, next) refl
 
@@ -123,10 +123,6 @@ module _ (d : Drawing) (two : EnforcedChart) (left : LeftOut) where
       let p = to_parts (is_told d two left) x (length two.chart.events) y z there in
       let told : is_told d two left y z ≡ true = ap (λ (n : ℕ). is_told d two left n z) p.0 ∙ p.2 in
       (raced_is_race two is y z).0 (told_parts y z told).raced
-
-  -- and it is the first event of each
-  pub told_first : (x : ℕ) → AreFrom x (told_with d two left x)
-  told_first x y z there = (to_parts (is_told d two left) x (length two.chart.events) y z there).0
 
   -- the pairs of the events below k
   abbrev pub told_below : ℕ → List (ℕ × ℕ)
@@ -182,12 +178,12 @@ module _ (d : Drawing) (two : EnforcedChart) (left : LeftOut) where
 
 -- where kinds alone are left out, a race counts where it is of none of them
 pub counts_kind : (two : EnforcedChart) (left : LeftOut) → left.accepted ≡ None → (x y : ℕ)
-    → (counts left (lack_in two) (x, y) ≡ true) ↔ (has_kind left.kinds (lack_in two x y).kind ≡ false)
+    → (counts left (cause_in two) (x, y) ≡ true) ↔ (has_kind left.kinds (cause_in two x y).kind ≡ false)
 counts_kind two left none x y = rw none (λ h. not-true _ h, λ h. not_from_false _ h)
 
 -- what passes the test is told, and nothing else
 pub told_exact : (d : Drawing) (two : EnforcedChart) (left : LeftOut) → IsEnforced two → left.accepted ≡ None → (x y : ℕ)
-    → (is_told d two left x y ≡ true) ↔ IsTold d two left.kinds (lack_in two) x y
+    → (is_told d two left x y ≡ true) ↔ IsTold d two left.kinds (cause_in two) x y
 told_exact d two left is none x y = (
   λ h.
       let p = told_parts d two left x y h in
@@ -213,7 +209,7 @@ told_exact d two left is none x y = (
 
 -- so the list of what passes is the list of what is told
 pub told_list : (d : Drawing) (two : EnforcedChart) (left : LeftOut) → IsEnforced two → left.accepted ≡ None
-    → AreRoundRaces d two left.kinds (lack_in two) (told_of d two left)
+    → AreRoundRaces d two left.kinds (cause_in two) (told_of d two left)
 told_list d two left is none = record {
   ascending = of_ascends (is_told d two left) (length two.chart.events);
   each = λ x y. (

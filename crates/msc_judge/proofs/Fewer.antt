@@ -6,7 +6,7 @@ use Rattle.msc_race.specs.Wired.{EnforcedChart}
 use Rattle.msc_reason.specs.Counting.{counting, counts}
 use Rattle.msc_reason.specs.Kinds.{has_kind}
 use Rattle.msc_reason.specs.LeftOut.{is_accepted, of_kinds}
-use Rattle.msc_reason.specs.declared.lack.Lack.{Lack}
+use Rattle.msc_reason.specs.declared.cause.Cause.{Cause}
 use Rattle.msc_reason.specs.declared.left_out.LeftOut.{LeftOut}
 
 -- what is kept of more is no more
@@ -17,12 +17,12 @@ one_fewer true false x xs ys less = less
 one_fewer false true x xs ys less = omega (arith, less)
 one_fewer false false x xs ys less = less
 
-pub fewer_count : (e : EnforcedChart) (left : LeftOut) (lacks : ℕ → ℕ → Lack)
-    → length (counting e left lacks) ≤ length (counting e (of_kinds left.kinds) lacks)
-fewer_count e left lacks = by (races_of e)
+pub fewer_count : (e : EnforcedChart) (left : LeftOut) (causes : ℕ → ℕ → Cause)
+    → length (counting e left causes) ≤ length (counting e (of_kinds left.kinds) causes)
+fewer_count e left causes = by (races_of e)
   where
     -- of these races
-    by : (pairs : List (ℕ × ℕ)) → length (filter (counts left lacks) pairs) ≤ length (filter (counts (of_kinds left.kinds) lacks) pairs)
+    by : (pairs : List (ℕ × ℕ)) → length (filter (counts left causes) pairs) ≤ length (filter (counts (of_kinds left.kinds) causes) pairs)
     by [] = omega arith
     by (p ∷ pairs) =
-        one_fewer (not (is_accepted left p)) (not (has_kind left.kinds (lacks p.0 p.1).kind)) p (filter (counts left lacks) pairs) (filter (counts (of_kinds left.kinds) lacks) pairs) (by pairs)
+        one_fewer (not (is_accepted left p)) (not (has_kind left.kinds (causes p.0 p.1).kind)) p (filter (counts left causes) pairs) (filter (counts (of_kinds left.kinds) causes) pairs) (by pairs)

@@ -1,6 +1,8 @@
-pub mod KnownBytes
-pub mod Putting
 pub mod Telling
+pub mod RowTexts
+pub mod Printed
+pub mod Answered
+pub mod Listed
 pub mod Asked
 pub mod Whole
 pub mod Fewer

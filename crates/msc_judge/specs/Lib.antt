@@ -1,8 +1,8 @@
 -- what is promised
-pub mod Pages
-pub mod Questions
+pub mod Options
 pub mod Renderings
 pub mod Findings
 pub mod Telling
+pub mod Rows
 pub mod Rounds
 pub mod Between

@@ -1,64 +1,65 @@
-//! What a renderer is: it knows texts, and nothing of how an answer was found.
+//! Renderers: they know texts, and not how an answer was found.
 
-ghost use Rattle.std.specs.Prelude.{◌≡◌, ℕ, ◌<◌, ◌++◌, List, Option, IfOk, OnOk, length, option_map};
+ghost use Rattle.std.specs.Prelude.{◌≡◌, ℕ, ◌<◌, ◌++◌, List, Option, IfOk, OnOk, length};
+ghost use Rattle.std.specs.Prelude.{option_map};
 ghost use Rattle.std.specs.List.{All};
 ghost use Rattle.msc_chart.specs.Drawings.{Drawing};
 ghost use Rattle.msc_judge.specs.Renderings.{NamesEvents};
 ghost use Rattle.msc_judge.specs.declared.renderer.Finding.{Finding};
 ghost use Rattle.msc_judge.specs.declared.renderer.Heading.{Heading};
 
-use crate::page::Page;
 use msc_chart::{Chart, Event, Queues};
-use msc_reason::Lack;
+use msc_print::Page;
+use msc_reason::Cause;
 use std::alloc::{AllocError, Global};
 
-/// What is said of all findings before the first one.
+/// The numbers that precede the first finding.
 #[derive(Clone, Copy)]
 pub struct Heading {
     /// The architecture.
     pub queues: Queues,
-    /// How many races the chart has.
+    /// The number of races of the chart.
     pub races: u32,
-    /// How many of them are of a kind that is left out, where some are.
+    /// How many of them are of a kind that is left out, if kinds are left out.
     pub left_out: Option<u32>,
-    /// How many of the others are accepted, where marks are asked.
+    /// How many of the others are accepted, if marks are used.
     pub accepted: Option<u32>,
     /// How many of them count.
     pub counting: u32,
-    /// How many of those are closest, where these are asked for.
+    /// How many of those are closest, if only these are listed.
     pub closest: Option<u32>,
 }
 
-/// A race that is told.
+/// A race that is printed.
 #[derive(Clone, Copy)]
 pub struct Finding {
-    /// How many are told before it.
+    /// The number of findings before it.
     pub number: u32,
     pub first: Event,
     pub second: Event,
-    /// Of which kind it is and what it lacks, where that is asked for.
-    pub lack: Option<Lack>,
+    /// Its kind and what it lacks, if this is requested.
+    pub cause: Option<Cause>,
 }
 
-/// What writes a heading, each finding in order, and an end. Want of memory is the only error.
+/// What writes a heading, each finding in order, and an end. The only error is want of memory.
 pub trait Renderer {
     /// It can write of this chart.
     ghost fits: { Self → Drawing → Type 0 };
 
-    /// What it writes of a heading.
+    /// The text of a heading.
     ghost heading_text: { Self → Drawing → Heading → List ℕ };
 
-    /// What it makes of a run, once for all findings that the run shows.
+    /// The text of a run, made once for all findings that the run shows.
     ghost run_text: { Self → Drawing → List ℕ → List ℕ };
 
-    /// What it writes of a finding, and of what was made of the run that shows it, where one does.
+    /// The text of a finding, with the text of the run that shows it, if one does.
     ghost finding_text: { Self → Drawing → Finding → Option (List ℕ) → List ℕ };
 
-    /// What it writes behind the last finding, of the events whose marks accept no race.
+    /// The text after the last finding, with the events whose marks accept no race.
     ghost end_text: { Self → Drawing → List ℕ → List ℕ };
 
-    /// Puts a heading behind a page.
-    fn put_heading(
+    /// Appends a heading to a page.
+    fn print_heading(
         &self,
         page: &mut Page,
         chart: &Chart,
@@ -68,14 +69,14 @@ pub trait Renderer {
         ensures { OnOk result (page.new.bytes.items
             ≡ page.old.bytes.items ++ heading_text self.now chart.now heading) };
 
-    /// What it makes of a run.
+    /// The text of a run.
     fn run_line(&self, alloc: Global, chart: &Chart, run: &[Event]) -> Result<Vec<u8>, AllocError>
         requires fits { fits self.now chart.now }
         requires events { All (λ e. e < length chart.now.events) run.now }
         ensures { IfOk result (λ line. line.items ≡ run_text self.now chart.now run.now) };
 
-    /// Puts a finding behind a page, with what was made of a run where one is given.
-    fn put_finding(
+    /// Appends a finding to a page, with the text of a run if one is given.
+    fn print_finding(
         &self,
         page: &mut Page,
         chart: &Chart,
@@ -88,8 +89,8 @@ pub trait Renderer {
             ≡ page.old.bytes.items ++ finding_text self.now chart.now finding
             (option_map (λ l. l.now) line.entry)) };
 
-    /// Puts the end behind a page, with the events whose marks accept no race.
-    fn put_end(&self, page: &mut Page, chart: &Chart, stale: &[Event]) -> Result<(), AllocError>
+    /// Appends the end to a page, with the events whose marks accept no race.
+    fn print_end(&self, page: &mut Page, chart: &Chart, stale: &[Event]) -> Result<(), AllocError>
         requires fits { fits self.now chart.now }
         requires events { All (λ e. e < length chart.now.events) stale.now }
         ensures { OnOk result (page.new.bytes.items

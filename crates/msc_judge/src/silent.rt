@@ -2,12 +2,12 @@
 
 ghost use Rattle.std.specs.Prelude.{[]};
 
-use crate::page::Page;
 use crate::renderer::{Finding, Heading, Renderer};
 use msc_chart::{Chart, Event};
+use msc_print::Page;
 use std::alloc::{AllocError, Global};
 
-/// Writes nothing, where an answer alone is asked for.
+/// Writes nothing, if only the answer counts.
 #[derive(Clone, Copy)]
 pub struct Silent;
 
@@ -22,7 +22,7 @@ impl Renderer for Silent {
 
     ghost end_text = { λ s d stale. [] };
 
-    fn put_heading(
+    fn print_heading(
         &self,
         _page: &mut Page,
         _chart: &Chart,
@@ -40,7 +40,7 @@ impl Renderer for Silent {
         Ok(Vec::new(alloc))
     }
 
-    fn put_finding(
+    fn print_finding(
         &self,
         _page: &mut Page,
         _chart: &Chart,
@@ -50,7 +50,7 @@ impl Renderer for Silent {
         Ok(())
     }
 
-    fn put_end(
+    fn print_end(
         &self,
         _page: &mut Page,
         _chart: &Chart,

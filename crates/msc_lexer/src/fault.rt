@@ -10,7 +10,8 @@ use thiserror::Error;
 /// note. The messages are the words of the printed lines, without number and place.
 #[derive(Clone, Copy, Debug, PartialEq, Eq, Error)]
 pub enum LexFault {
-    /// The text has more than [`TEXT_LIMIT`](crate::TEXT_LIMIT) bytes. Comes before all others.
+    /// The text has more than [`TEXT_LIMIT`](crate::TEXT_LIMIT) bytes. This fault precedes all
+    /// others.
     #[error("text longer than 1048576 bytes")]
     TooLong,
     /// A byte here begins no token, note or white space.

@@ -1,4 +1,4 @@
-//! How many bytes at the front of one load of 16 bytes belong to a run.
+//! The number of bytes at the front of one load of 16 bytes that belong to a run.
 
 ghost use Rattle.std.specs.Prelude.{◌≡◌, ◌+◌, ◌≤◌, length, take, drop};
 ghost use Rattle.std.specs.List.{prefix_len};
@@ -10,7 +10,7 @@ use std::simd::prelude::*;
 /// The number of bytes of a load.
 pub const LANES: usize = 16;
 
-/// The place of the lowest bit that is set, or the number of lanes where none is.
+/// The place of the lowest bit that is set, or the number of lanes if none is.
 fn first_set(mask: u64) -> usize
     ensures { result ≡ first_set mask LANES }
 {
@@ -21,8 +21,8 @@ fn first_set(mask: u64) -> usize
     }
 }
 
-/// The number of bytes of the run at the front of the 16 bytes from a place on. What is no letter,
-/// no digit and no underscore stops it.
+/// The number of bytes of the run at the front of the 16 bytes from a place on. Any byte but a
+/// letter, a digit or an underscore ends it.
 pub fn run_in_load(text: &[u8], at: usize) -> usize
     requires { at + LANES ≤ length text.now }
     ensures { result ≡ prefix_len is_run_byte (take LANES (drop at text.now)) }

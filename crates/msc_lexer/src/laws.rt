@@ -1,5 +1,5 @@
-//! Laws of texts and tokens, over their definitions alone. The functions have no code: a caller
-//! calls one to rest its own proof on the law.
+//! Laws of texts and tokens, over their definitions only. The functions have no code: a caller that
+//! needs a law calls its function.
 
 ghost use Rattle.std.specs.Prelude.{◌≡◌};
 ghost use Rattle.msc_lexer.specs.Lexing.{OneReading};
@@ -12,7 +12,7 @@ pub fn one_reading()
     ensures { OneReading }
 {}
 
-/// What is printed as pieces that fit is read as those pieces.
+/// The printed text of pieces that fit is read as those pieces.
 pub fn prints_pieces()
     ensures { PrintsPieces }
 {}

@@ -16,8 +16,7 @@ use crate::word::Word;
 use crate::{NAME_LIMIT, TEXT_LIMIT};
 use std::alloc::Global;
 
-/// What stands at the front of a text: a piece of `length` bytes, which is a token if it has a
-/// kind.
+/// The front of a text: a piece of `length` bytes, which is a token if it has a kind.
 struct Front {
     kind: Option<Kind>,
     length: usize,
@@ -73,7 +72,7 @@ fn run(text: &[u8], place: usize) -> Result<Front, LexFault>
     }
 }
 
-/// The piece at the front of a text that is not empty. `place` is where a fault would be.
+/// The piece at the front of a text that is not empty. `place` is the place of a fault.
 fn first_piece(text: &[u8], place: usize) -> Result<Front, LexFault>
     requires { 0 < length text.now }
     ensures piece { IfOk result (λ f. StartsWith text.now f.kind f.length) }
@@ -106,7 +105,7 @@ fn pieces(alloc: Global, text: &[u8]) -> Result<Vec<Token>, LexFault>
     if text.len() > TEXT_LIMIT {
         return Err(LexFault::TooLong);
     }
-    // Most texts have no more tokens than that; where there are more, the list grows.
+    // Most texts have no more tokens than that; for more tokens the list grows.
     let Ok(mut tokens) = Vec::with_capacity(alloc, text.len() / 4) else {
         return Err(LexFault::Memory);
     };
@@ -128,18 +127,18 @@ fn pieces(alloc: Global, text: &[u8]) -> Result<Vec<Token>, LexFault>
 
 /// The tokens of a text, in the order of the text, or its first lexical fault.
 ///
-/// `TooLong` is answered before all others, and of the other faults the one with the first place.
-/// `Memory` is answered where a growth of memory was refused.
+/// `TooLong` precedes all other faults, and of the other faults the one with the first place is
+/// returned. `Memory` is returned if a growth of memory was refused.
 pub fn lex(alloc: Global, text: &[u8]) -> Result<Vec<Token>, LexFault>
-    // What is answered stands in the text.
+    // The text has the returned tokens, or the returned fault.
     ensures tokens { IfOk result (λ v. HasTokens text.now v.items) }
     ensures fault { IfErr result (λ e. e ≢ LexFault.Memory → HasFault text.now e) }
 
-    // What stands in the text is answered, unless memory runs out.
+    // The text's tokens or its fault are returned, unless memory runs out.
     ensures only_tokens { (ts : List Token) → HasTokens text.now ts → IsOkOrMemory ts result }
     ensures only_fault { (f : LexFault) → HasFault text.now f → IsErrOrMemory f result }
 
-    // What the tokens of every text keep.
+    // The facts on the tokens of every text.
     ensures within { IfOk result (λ v. AreWithin text.now v.items) }
     ensures named { IfOk result (λ v. HaveNames (lexemes text.now v.items)) }
     ensures few { IfOk result (λ v. length v.items ≤ length text.now) }

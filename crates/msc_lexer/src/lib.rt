@@ -1,7 +1,14 @@
 //! The tokens of a chart's text (a profile of MSC/PR, ITU-T Z.120), or its first lexical fault.
 //!
 //! A text is a list of bytes; places in it are byte places, from 0. Contracts see a text as a list
-//! of pieces, which are white space, notes and tokens: a text has at most one such list.
+//! of pieces, which are white space, notes and tokens; a text has at most one such list.
+//!
+//! # Choices
+//!
+//! - The end of a name is searched 16 bytes at a time (`lanes`), since names are most of a text.
+//!   Its contract is the same as that of a plain loop.
+//! - The end of a note is searched from slash to slash with `memchr`: a note may be most of a text,
+//!   and often has rows of stars, but few slashes.
 #![tactic(auto)]
 
 mod byte;

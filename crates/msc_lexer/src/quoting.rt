@@ -1,4 +1,4 @@
-//! What a text between apostrophes holds.
+//! The bytes that a text between apostrophes holds.
 
 ghost use Rattle.std.specs.Prelude.{◌≡◌, slice_range, IfOk};
 ghost use Rattle.msc_lexer.specs.Lexemes.{IsWithin, unquoted};
@@ -23,14 +23,14 @@ fn halved(alloc: Global, bytes: &[u8]) -> Result<Vec<u8>, AllocError>
     Ok(held)
 }
 
-/// What a text holds: the bytes between its outer apostrophes, each doubled apostrophe halved. So
-/// `'it''s'` holds `it's`. `token` is a text among the tokens of `text`. The only error is want of
-/// memory.
+/// The bytes that a text holds: those between its outer apostrophes, with each doubled apostrophe
+/// halved. So `'it''s'` holds `it's`. `token` is a text among the tokens of `text`. The only error
+/// is that memory ran out.
 pub fn text_bytes(alloc: Global, text: &[u8], token: &Token) -> Result<Vec<u8>, AllocError>
     requires within { IsWithin text.now token.now }
     requires text { token.now.kind ≡ Kind.Text }
 
-    // Quoted again, what is answered is what stands in the text; there is one such list.
+    // These bytes, quoted again, are the token in the text; there is one such list.
     ensures quoted { IfOk result (λ v.
         quoted v.items ≡ slice_range text.now token.now.start token.now.end) }
     ensures value { IfOk result (λ v.

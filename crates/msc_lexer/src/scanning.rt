@@ -1,4 +1,4 @@
-//! Where a note, a text or a run ends.
+//! The end of a note, a text or a run.
 
 ghost use Rattle.std.specs.Prelude.{◌≡◌, ℕ, ◌+◌, ◌≤◌, ◌<◌, length, IfSome};
 ghost use Rattle.std.specs.Prelude.{IfNone};
@@ -11,7 +11,7 @@ use crate::byte::is_run_byte;
 use crate::lanes::{LANES, run_in_load};
 use memchr::memchr;
 
-/// The number of bytes of the run at the front of a text, one after the other.
+/// The number of bytes of the run at the front of a text, one byte after the other.
 fn run_by_one(text: &[u8]) -> usize
     ensures length { result ≡ prefix_len is_run_byte text.now }
     ensures within { result ≤ length text.now }
@@ -34,7 +34,7 @@ pub fn run_length(text: &[u8]) -> usize
     at + run_by_one(&text[at..])
 }
 
-/// The place of the first `*/` in what follows the `/*` of a note.
+/// The place of the first `*/` in the bytes after the `/*` of a note.
 pub fn note_end(body: &[u8]) -> Option<usize>
     ensures found { IfSome result (ClosesAt body.now) }
     ensures none { IfNone result (NeverCloses body.now) }
@@ -50,7 +50,7 @@ pub fn note_end(body: &[u8]) -> Option<usize>
     None
 }
 
-/// The place of the closing apostrophe in what follows the opening one of a text.
+/// The place of the closing apostrophe in the bytes after the opening one of a text.
 pub fn quote_end(body: &[u8]) -> Option<usize>
     ensures found { IfSome result (QuoteEndsAt body.now) }
     ensures none { IfNone result (IsDoubled body.now) }

@@ -1,8 +1,8 @@
-//! Tokens: what a text is made of beside white space and notes.
+//! Tokens: the parts of a text other than white space and notes.
 
 use crate::word::Word;
 
-/// What a token is.
+/// The kind of a token.
 #[derive(Clone, Copy, Debug, PartialEq, Eq)]
 pub enum Kind {
     /// A reserved word, in capital or small letters.

@@ -1,6 +1,6 @@
 //! The reserved words of the profile of MSC/PR (ITU-T Z.120).
 //!
-//! Which of them the grammar supports is the parser's matter.
+//! The parser decides which of them the grammar supports.
 
 ghost use Rattle.std.specs.Prelude.{◌≡◌, Some, find};
 ghost use Rattle.msc_lexer.specs.Words.{spelling, is_spelled, word_of};
@@ -81,7 +81,7 @@ impl Word {
     }
 
     /// The word that these bytes spell, in capital or small letters.
-    // A token of a chart costs a call here otherwise, since imports ask for words too.
+    // Otherwise a token of a chart costs a call here, since imports also look up words.
     #[inline(always)]
     pub fn of(bytes: &[u8]) -> Option<Word>
         ensures { result ≡ word_of bytes.now }
@@ -103,7 +103,7 @@ impl Word {
     }
 }
 
-/// Shows the word in small letters.
+/// Prints the word in small letters.
 impl fmt::Display for Word {
     ghost output = { λ w. Some (spelling w) };
 

@@ -1,5 +1,6 @@
 -- The comments of a draft's events, collected from its tokens.
-use Rattle.std.proofs.Common.{◌≡◌, ℕ, ◌+◌, ◌≤◌, Bool, true, false, List, [], ◌∷◌, ◌++◌, length, Option, None, MatchOption, slice_get, refl, sym, ap, ◌∙◌, subst}
+use Rattle.std.proofs.Common.{◌≡◌, ℕ, ◌+◌, ◌≤◌, Bool, true, false, List, [], ◌∷◌, ◌++◌, length, Option, None, Some, MatchOption, slice_get, refl, sym, ap, ◌∙◌, subst}
+use Rattle.std.specs.List.{cons_option, enumerate_from, filter_map}
 use Rattle.std.specs.Option.{option_or}
 use Rattle.msc_lexer.specs.declared.token.Token.{Token}
 use Rattle.msc_lexer.specs.Lexemes.{Lexeme, lexemes}
@@ -12,8 +13,10 @@ use Rattle.msc_place.specs.Collecting.{collected, event_place, never}
 use Rattle.msc_place.proofs.Collected.{collected_led, collected_nil, collected_passed}
 use Rattle.msc_place.proofs.Walks.{Found, Walks, found_all, match_weaker}
 use Rattle.msc_place.proofs.EventWalks.{ReadsEvent, chart_events}
+use Rattle.msc_mark.specs.declared.fault.MarkFault.{MarkFault}
+use Rattle.msc_mark.specs.declared.mark.Mark.{Mark}
 use Rattle.msc_mark.specs.Comments.{comment_in, fault_from, fault_in, listed, mark_in, marks_from}
-use Rattle.msc_mark.specs.Statements.{CommentsAreThoseOfStatements, IsCommentOf, comments_of, fault_by, marks_by}
+use Rattle.msc_mark.specs.Statements.{CommentsAreThoseOfStatements, IsCommentOf, comments_of}
 use Rattle.msc_mark.proofs.Heard.{comment_told, event_end}
 use Rattle.msc_mark.proofs.Steps.{fault_nil, fault_none, fault_one, marks_nil, marks_none, marks_one}
 
@@ -36,23 +39,29 @@ comments_none : (l : Lexeme) (ls : List Lexeme) → begins_event l.symbol ≡ fa
 unfolding comments_of
 comments_none l ls is = rw is refl
 
+-- what these comments say, where the first event has this number
+abbrev pub marks_by : ℕ → List (Option Lexeme) → List Mark
+marks_by e cs = filter_map (λ (p : ℕ × Option Lexeme). mark_in p.0 p.1) (enumerate_from e cs)
+
+-- the first of those that are faulty
+abbrev pub fault_by : List (Option Lexeme) → Option MarkFault
+fault_by cs = slice_get (filter_map fault_in cs) 0
+
 marks_by_more : (e : ℕ) (c : Option Lexeme) (cs : List (Option Lexeme))
     → marks_by e (c ∷ cs) ≡ listed (mark_in e c) ++ marks_by (e + 1) cs
-unfolding marks_by
-marks_by_more e c cs = refl
-
-marks_by_nil : (e : ℕ) → marks_by e [] ≡ []
-unfolding marks_by
-marks_by_nil e = refl
+marks_by_more e c cs =
+    elim (mark_in e c) as (λ (o : Option Mark). cons_option o (marks_by (e + 1) cs) ≡ listed o ++ marks_by (e + 1) cs) [
+      | None ↦ refl
+      | Some m ↦ refl
+    ]
 
 fault_by_more : (c : Option Lexeme) (cs : List (Option Lexeme))
     → fault_by (c ∷ cs) ≡ option_or (fault_in c) (fault_by cs)
-unfolding fault_by
-fault_by_more c cs = refl
-
-fault_by_nil : fault_by [] ≡ None
-unfolding fault_by
-fault_by_nil = refl
+fault_by_more c cs =
+    elim (fault_in c) as (λ (o : Option MarkFault). slice_get (cons_option o (filter_map fault_in cs)) 0 ≡ option_or o (fault_by cs)) [
+      | None ↦ refl
+      | Some f ↦ refl
+    ]
 
 -- one token more, by whether it begins an event
 marks_step : (e : ℕ) (l : Lexeme) (ls : List Lexeme) (b : Bool) → begins_event l.symbol ≡ b
@@ -66,7 +75,7 @@ marks_step e l ls false is next same =
 
 -- the marks of the tokens are those of the comments
 marks_same : (ls : List Lexeme) (e : ℕ) → marks_from e ls ≡ marks_by e (comments_of ls)
-marks_same [] e = marks_nil e ∙ sym (marks_by_nil e) ∙ ap (marks_by e) (sym comments_nil)
+marks_same [] e = marks_nil e ∙ ap (marks_by e) (sym comments_nil)
 marks_same (l ∷ ls) e =
     marks_step e l ls (begins_event l.symbol) refl (marks_same ls (e + 1)) (marks_same ls e)
 
@@ -79,7 +88,7 @@ fault_step l ls false is same = fault_none l ls is ∙ same ∙ ap fault_by (sym
 
 -- and so is the first faulty one
 fault_same : (ls : List Lexeme) → fault_from ls ≡ fault_by (comments_of ls)
-fault_same [] = fault_nil ∙ sym fault_by_nil ∙ ap fault_by (sym comments_nil)
+fault_same [] = fault_nil ∙ ap fault_by (sym comments_nil)
 fault_same (l ∷ ls) = fault_step l ls (begins_event l.symbol) refl (fault_same ls)
 
 collect_step : (l : Lexeme) (ls : List Lexeme) (b : Bool) → begins_event l.symbol ≡ b

@@ -4,23 +4,17 @@ use Rattle.std.specs.List.{AllByRecursion}
 use Rattle.std.proofs.lemmas.List.{append_assoc}
 use Rattle.msc_lexer.specs.declared.word.Word.TheVariants as words
 use Rattle.msc_lexer.specs.Lexemes.{Symbol, Reserved, Named, Quoted, Semicolon, Lexeme}
-use Rattle.msc_parser.specs.declared.tree.Way.{Way}
-use Rattle.msc_parser.specs.declared.tree.Way.TheVariants as ways
+use Rattle.msc_parser.specs.declared.tree.Direction.{Direction}
+use Rattle.msc_parser.specs.declared.tree.Direction.TheVariants as directions
 use Rattle.msc_parser.specs.declared.tree.Statement.{Statement}
 use Rattle.msc_parser.specs.declared.tree.Statement.TheVariants.{Message, Action}
-use Rattle.msc_parser.specs.Grammar.{Tree, IsEnd, Plain, Commented, IsEvent, way_word, address_word}
+use Rattle.msc_parser.specs.Grammar.{Tree, IsEnd, Plain, Commented, IsEvent, direction_word, address_word}
 use Rattle.msc_place.specs.Standing.{tokens_with, IsStatement}
-use Rattle.msc_place.proofs.Walks.{weaker_all, neither, none_with}
+use Rattle.msc_place.proofs.Walks.{weaker_all, neither, none_with, AllByRecursion-append as all_joined}
 use Rattle.msc_place.proofs.Passing.{IsFree, pass_ident}
 use Rattle.msc_mark.specs.Comments.{comment_in, is_comment, is_semicolon}
 use Rattle.msc_mark.specs.Statements.{HasComment, HasNoComment, IsCommentOf, comment_end}
 use Rattle.msc_mark.proofs.Steps.{comment_none, comment_here, comment_later}
-
--- what holds of each of two lists
-all_joined : {X : Type 0} (P : X → Type 0) (xs ys : List X) → AllByRecursion P xs → AllByRecursion P ys
-    → AllByRecursion P (xs ++ ys)
-all_joined P [] ys h k = k
-all_joined P (x ∷ xs) ys h k = (h.0, all_joined P xs ys h.1 k)
 
 -- `;` or `comment`
 abbrev pub ends : Symbol → Bool
@@ -29,13 +23,13 @@ ends s = is_semicolon s || is_comment s
 ends_free : IsFree ends
 ends_free = record { named = λ n. refl; comma = refl; left = refl; right = refl }
 
-way_goes : (w : Way) → ends (Reserved (way_word w)) ≡ false
-way_goes ways.Output = refl
-way_goes ways.Input = refl
+way_goes : (w : Direction) → ends (Reserved (direction_word w)) ≡ false
+way_goes directions.Output = refl
+way_goes directions.Input = refl
 
-word_goes : (w : Way) → ends (Reserved (address_word w)) ≡ false
-word_goes ways.Output = refl
-word_goes ways.Input = refl
+word_goes : (w : Direction) → ends (Reserved (address_word w)) ≡ false
+word_goes directions.Output = refl
+word_goes directions.Input = refl
 
 -- the comment is behind what is neither
 behind_gap : (gap a : List Lexeme) → AllByRecursion (λ l. ends l.symbol ≡ false) gap
@@ -59,9 +53,9 @@ pub event_end : (b a : List Lexeme) (e : Statement) → IsEvent b e a → EventE
 event_end b a (Message e) h =
     let k = h.2 in
     let ident = pass_ident ends ends_free e h.0 k.word k.is_ident in
-    let word : Lexeme = record { symbol = Reserved (address_word e.way); place = k.is_word.0 } in
+    let word : Lexeme = record { symbol = Reserved (address_word e.direction); place = k.is_word.0 } in
     let name : Lexeme = record { symbol = Named e.address; place = k.is_address.0 } in
-    let first : Lexeme = record { symbol = Reserved (way_word e.way); place = h.1.0 } in
+    let first : Lexeme = record { symbol = Reserved (direction_word e.direction); place = h.1.0 } in
     let tail : k.word ≡ word ∷ name ∷ k.close = k.is_word.1 ∙ ap (λ ls. word ∷ ls) k.is_address.1 in
     record {
       first = first;
@@ -69,8 +63,8 @@ event_end b a (Message e) h =
       close = k.close;
       whole =
           h.1.1 ∙ ap (λ ls. first ∷ ls) (ident.whole ∙ ap (λ ls. ident.gap ++ ls) tail ∙ sym (append_assoc ident.gap (word ∷ name ∷ []) k.close));
-      goes = way_goes e.way;
-      inner = all_joined (λ l. ends l.symbol ≡ false) ident.gap (word ∷ name ∷ []) ident.fails (word_goes e.way, (refl, tt));
+      goes = way_goes e.direction;
+      inner = all_joined (λ l. ends l.symbol ≡ false) ident.gap (word ∷ name ∷ []) ident.fails (word_goes e.direction, (refl, tt));
       is_end = k.is_end;
     }
 event_end b a (Action l) h =

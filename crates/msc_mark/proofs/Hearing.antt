@@ -17,7 +17,7 @@ module _ {S : Type 0} (test : S → List ℕ → Bool) (step : S → List ℕ �
   word_nil s = refl
 
   -- word i, in its state
-  word_at : (s : S) (ws : List (List ℕ)) (i : ℕ) (w d : List ℕ) → i < length ws
+  pub word_at : (s : S) (ws : List (List ℕ)) (i : ℕ) (w d : List ℕ) → i < length ws
       → w ≡ get_or ws i d
       → some_word test step s (drop i ws) ≡ (test s w || some_word test step (step s w) (drop (i + 1) ws))
   word_at s ws i w d inside is =

@@ -10,3 +10,8 @@ pub mod Pairing
 -- the comments of statements
 pub mod Heard
 pub mod Collecting
+-- the events that marks name, by number
+pub mod Numbers
+pub mod Idents
+pub mod Naming
+pub mod Rows

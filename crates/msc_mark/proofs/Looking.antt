@@ -1,15 +1,16 @@
 -- The mark of an event that is for the architecture, looked up by its number.
-use Rattle.std.proofs.Common.{◌≡◌, ℕ, ◌<◌, ◌≤◌, Bool, true, false, List, [], length, get_or, Some, None, refl, sym, ap, ◌∙◌, arith}
+use Rattle.std.proofs.Common.{◌≡◌, ℕ, ◌<◌, ◌≤◌, Bool, true, false, List, [], length, get_or, Some, None, refl, sym, ap, ◌∙◌, subst, arith}
 use Rattle.std.specs.List.{position_or_len, slice_get}
 use Rattle.std.specs.Option.{option_map_or}
 use Rattle.std.specs.Prelude.{is_some}
 use Rattle.std.proofs.lemmas.List.{get_or_default}
 use Rattle.std.proofs.lemmas.List.Folds.{find_at}
 use Rattle.std.proofs.lemmas.List.Sums.{position_or_len_is}
-use Rattle.std.proofs.lemmas.Option.{slice_get_read, slice_get_past}
+use Rattle.std.proofs.lemmas.Option.{slice_get-get_or, slice_get_read, slice_get_past}
 use Rattle.msc_mark.specs.declared.mark.Mark.{Mark}
 use Rattle.msc_mark.specs.Accepting.{Acceptance, accepts_from, is_mark_for, mark_for, name_at, names_event, number_at}
 use Rattle.msc_mark.specs.Kept.{AreNumbers, number_of}
+use Rattle.msc_mark.specs.Named.{MarkedChart, marked_chart}
 
 -- what is read past the last mark
 abbrev pub no_mark : Mark
@@ -58,6 +59,16 @@ module _ (a : Acceptance) (e i : ℕ) (is : i ≡ number_of a e) where
   unfolding accepts_from
   accepts_none f past =
       ap (λ o. option_map_or (names_event (name_at a.chart f) (number_at a.chart f)) o false) (mark_none past)
+
+  -- the same, told by what is kept of the events that marks name
+  pub accepts_named : (f : ℕ) (n : MarkedChart) (r : Bool) → i < length a.marks → n ≡ marked_chart a.marks a.chart
+      → ((m : Mark) → slice_get n.marks i ≡ Some m → r ≡ names_event (name_at n.chart f) (number_at n.chart f) m)
+      → r ≡ accepts_from a.marks a.chart a.queues e f
+  accepts_named f n r inside same tells =
+      let m = get_or a.marks i no_mark in
+      let own = subst (λ k. (m : Mark) → slice_get k.marks i ≡ Some m → r ≡ names_event (name_at k.chart f) (number_at k.chart f) m) same tells in
+      own m (slice_get-get_or a.marks i no_mark inside)
+      ∙ sym (accepts_some f m inside (get_or_default a.marks i no_mark m inside))
 
   -- whether there is one
   pub has_mark : i < length a.marks → is_some (mark_for a.marks a.queues e) ≡ true

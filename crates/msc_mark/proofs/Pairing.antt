@@ -1,12 +1,12 @@
 -- Which races are accepted: put into a set race by race, and event by event.
-use Rattle.std.proofs.Common.{◌≡◌, ℕ, ◌+◌, ◌<◌, ◌≤◌, Bool, true, false, ◌&&◌, ◌||◌, nat_eq, List, [], ◌∷◌, ◌++◌, length, get_or, take, refl, sym, ap, ap₂, ◌∙◌, subst, arith}
+use Rattle.std.proofs.Common.{◌≡◌, ℕ, ◌+◌, ◌<◌, ◌≤◌, false, ◌&&◌, ◌||◌, nat_eq, List, length, get_or, take, refl, sym, ap, ap₂, ◌∙◌}
 use Rattle.std.specs.List.{list_any}
 use Rattle.std.proofs.lemmas.Bool.{and_from, and_parts, eq-eqb, eqb-true, false_from_ne_true}
 use Rattle.std.proofs.lemmas.List.{take_all}
 use Rattle.std.proofs.lemmas.List.Folds.{list_any-append, list_any_more}
 use Rattle.msc_chart.specs.Lists.{Occurs}
 use Rattle.msc_chart.proofs.ListLemmas.{by_test, clash}
-use Rattle.msc_race.specs.Views.{races_from, races_of}
+use Rattle.msc_race.specs.Views.{races_from}
 use Rattle.msc_race.specs.Wired.{EnforcedChart}
 use Rattle.msc_race.proofs.Listing.Raced.{no_races_below, races_below, races_below_more}
 use Rattle.msc_reason.proofs.Filtered.{any_in, any_parts}

@@ -13,6 +13,7 @@ use Rattle.msc_mark.specs.declared.mark.Mark.{Mark}
 use Rattle.msc_mark.specs.declared.place.MarkPlace.{MarkPlace}
 use Rattle.msc_mark.specs.Places.{behind, next}
 use Rattle.msc_mark.specs.Comments.{AddsComment, AreMarksOf, AreOwn, HasMarkFault, comment_in, fault_from, fault_in, first_text, is_comment, is_semicolon, listed, mark_in, marks_from}
+use Rattle.msc_place.proofs.Collected.{seen_more, seen_all}
 
 -- the token that is read past the end of a list
 abbrev pub no_token : Token
@@ -21,16 +22,6 @@ no_token = record { kind = kinds.Word words.Msc; start = 0; «end» = 0 }
 -- token i of a text, as a grammar sees it
 abbrev pub seen_at : List ℕ → List Token → ℕ → Lexeme
 seen_at text tokens i = lexeme_of text (get_or tokens i no_token)
-
--- the tokens from i on are token i and the others
-pub seen_more : (text : List ℕ) (tokens : List Token) (i : ℕ) → i < length tokens
-    → lexemes text (drop i tokens) ≡ seen_at text tokens i ∷ lexemes text (drop (i + 1) tokens)
-seen_more text tokens i inside = at_drop_more (lexemes text) tokens i no_token inside
-
--- past the last token there is none
-pub seen_all : (text : List ℕ) (tokens : List Token) (i : ℕ) → length tokens ≤ i
-    → lexemes text (drop i tokens) ≡ []
-seen_all text tokens i past = at_drop_all (lexemes text) tokens i past
 
 -- ---- the comment of a statement
 

@@ -1,5 +1,5 @@
 -- Which races marks accept.
-use Rattle.std.specs.Prelude.{◌≡◌, ℕ, Bool, true, false, ◌&&◌, ◌||◌, not, cond, nat_eq, List, [], ◌∷◌, length, filter, find, is_some, Option, None, Some, codes}
+use Rattle.std.specs.Prelude.{ℕ, Bool, true, false, ◌&&◌, ◌||◌, not, cond, nat_eq, List, [], ◌∷◌, length, filter, find, is_some, Option, None, Some, codes}
 use Rattle.std.specs.List.{list_any, range_with_len}
 use Rattle.std.specs.Option.{option_map_or}
 use Rattle.std.specs.Str.{bytes_eq}
@@ -149,8 +149,3 @@ is_stale a races x = is_some (mark_for a.marks a.queues x) && not (fits_some a r
 -- the events with such marks, ascending
 abbrev pub stale_events : Acceptance → List (ℕ × ℕ) → List ℕ
 stale_events a races = filter (is_stale a races) (range_with_len 0 (length a.chart.events))
-
--- where a text has no marks, no race is accepted, and no event has a mark that fits none
-pub record NothingIsAccepted : Type 0 where
-  pub accepted : (d : Drawing) (queues : Queues) (e f : ℕ) → is_accepted [] d queues e f ≡ false
-  pub stale : (d : Drawing) (queues : Queues) (races : List (ℕ × ℕ)) → stale_events (acceptance [] d queues) races ≡ []

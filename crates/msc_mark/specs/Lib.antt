@@ -7,4 +7,5 @@ pub mod Statements
 -- what marks accept
 pub mod Accepting
 -- what the code keeps
+pub mod Named
 pub mod Kept

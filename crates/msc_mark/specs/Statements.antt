@@ -1,6 +1,6 @@
 -- The comments that marks are read from are those of the statements of a draft's events.
-use Rattle.std.specs.Prelude.{◌≡◌, ◌≤◌, ℕ, ◌+◌, List, [], ◌∷◌, ◌++◌, length, slice_get, Option, None, MatchOption, cond}
-use Rattle.std.specs.Option.{option_or}
+use Rattle.std.specs.Prelude.{◌≡◌, ◌≤◌, ℕ, List, [], ◌∷◌, ◌++◌, length, slice_get, Option, MatchOption, cond}
+use Rattle.std.specs.List.{enumerate_from, filter_map}
 use Rattle.msc_lexer.specs.declared.word.Word.TheVariants as words
 use Rattle.msc_lexer.specs.declared.token.Token.{Token}
 use Rattle.msc_lexer.specs.Lexemes.{Reserved, Quoted, Semicolon, Lexeme, lexemes}
@@ -9,25 +9,13 @@ use Rattle.msc_parser.specs.declared.tree.Statement.{Statement}
 use Rattle.msc_parser.specs.Drafts.{statements_of}
 use Rattle.msc_parser.specs.Grammar.{Tree, IsChart}
 use Rattle.msc_place.specs.Standing.{begins_event, tokens_with, IsStatement}
-use Rattle.msc_mark.specs.declared.fault.MarkFault.{MarkFault}
-use Rattle.msc_mark.specs.declared.mark.Mark.{Mark}
-use Rattle.msc_mark.specs.Comments.{comment_in, fault_from, fault_in, is_comment, listed, mark_in, marks_from}
+use Rattle.msc_mark.specs.Comments.{comment_in, fault_from, fault_in, is_comment, mark_in, marks_from}
 
 -- the comments of the statements of events, event by event
 unfoldable pub comments_of : List Lexeme → List (Option Lexeme)
 comments_of [] = []
 comments_of (l ∷ ls) =
     cond (begins_event l.symbol) (comment_in ls ∷ comments_of ls) (comments_of ls)
-
--- the marks among them, where the first event has this number
-unfoldable pub marks_by : ℕ → List (Option Lexeme) → List Mark
-marks_by event [] = []
-marks_by event (c ∷ cs) = listed (mark_in event c) ++ marks_by (event + 1) cs
-
--- the first faulty one of them
-unfoldable pub fault_by : List (Option Lexeme) → Option MarkFault
-fault_by [] = None
-fault_by (c ∷ cs) = option_or (fault_in c) (fault_by cs)
 
 -- `comment`, a text and `;`
 abbrev pub comment_end : ℕ → List ℕ → ℕ → ℕ → List Lexeme
@@ -59,11 +47,13 @@ pub record HasNoComment (text : List ℕ) (t : Tree) (e : ℕ) : Type 0 where
 abbrev pub IsCommentOf : List ℕ → Tree → ℕ → Option Lexeme → Type 0
 IsCommentOf text t e comment = MatchOption comment (HasNoComment text t e) (HasComment text t e)
 
--- Each event of a draft has its comment, if it has one, and there are no more. The marks and the first
--- faulty comment of a text are those among these.
+-- Each event of a draft has its comment, if it has one, and there are no more. The marks of a text are
+-- what these comments say, each with the number of its event, and the first faulty one is the first of
+-- those that are faulty.
 pub record CommentsAreThoseOfStatements : Type 0 where
   pub comments : (text : List ℕ) (t : Tree) (tokens : List Token) → HasTokens text tokens
       → IsChart (lexemes text tokens) t → (e : ℕ)
       → MatchOption (slice_get (comments_of (lexemes text tokens)) e) (length (statements_of t.sections) ≤ e) (IsCommentOf text t e)
-  pub marks : (ls : List Lexeme) → marks_from 0 ls ≡ marks_by 0 (comments_of ls)
-  pub fault : (ls : List Lexeme) → fault_from ls ≡ fault_by (comments_of ls)
+  pub marks : (ls : List Lexeme)
+      → marks_from 0 ls ≡ filter_map (λ p. mark_in p.0 p.1) (enumerate_from 0 (comments_of ls))
+  pub fault : (ls : List Lexeme) → fault_from ls ≡ slice_get (filter_map fault_in (comments_of ls)) 0

@@ -6,49 +6,53 @@ ghost use Rattle.std.specs.List.{position_or_len};
 ghost use Rattle.msc_chart.specs.Lists.{Occurs};
 ghost use Rattle.msc_race.specs.Views.{races_of};
 ghost use Rattle.msc_reason.specs.PairTables.{has_pair};
-ghost use Rattle.msc_mark.specs.Accepting.{accepts_from, accepts_race, fits_race, fits_some};
+ghost use Rattle.msc_mark.specs.Accepting.{acceptance, accepts_from, accepts_race, fits_race};
+ghost use Rattle.msc_mark.specs.Accepting.{fits_some};
 ghost use Rattle.msc_mark.specs.Accepting.{is_accepted, is_mark_for, mark_for, stale_events};
-ghost use Rattle.msc_mark.specs.Kept.{accepts_pair, accepts_some, AreEvents};
+ghost use Rattle.msc_mark.specs.Kept.{accepts_pair, accepts_some, AreEvents, AreNumbers};
 
-use crate::ident::ident_of;
 use crate::mark::Mark;
 use crate::marks::Marks;
+use crate::named::NamedEvents;
 use msc_chart::{Chart, Event, Queues};
 use msc_race::{Enforced, Walk};
 use msc_reason::Pairs;
 use std::alloc::{AllocError, Global};
 use std::marker::Model;
 
-/// Which races of a chart marks accept, under an architecture. Contracts see the three.
+/// The races of a chart that marks accept, under an architecture. Contracts see the three.
 #[derive(Drop)]
 pub struct Accepted<'a> {
     marks: &'a Marks,
     chart: &'a Chart,
     queues: Queues,
-    /// For each event the number of its mark among those that are for the architecture, or how many
-    /// marks there are where it has none.
+    /// For each event the number of its mark among those that are for the architecture, or the
+    /// number of all marks if it has none.
     at: Vec<usize>,
+    /// The events that each mark is for.
+    named: NamedEvents<'a>,
 }
 
 impl<'a> Model for Accepted<'a> {
     ghost use Rattle.msc_mark.specs.Accepting.{Acceptance, acceptance};
-    ghost use Rattle.msc_mark.specs.Kept.{AreNumbers};
+    ghost use Rattle.msc_mark.specs.Kept.{IsLookedUp};
 
     ghost Value = { Acceptance };
 
     ghost view = { λ a. acceptance a.marks.now a.chart.now a.queues };
 
-    ghost invariant = { λ a. AreNumbers (acceptance a.marks.now a.chart.now a.queues) a.at.items };
+    ghost invariant = { λ a.
+        IsLookedUp (acceptance a.marks.now a.chart.now a.queues) a.at.items a.named };
 }
 
-/// Whether a mark is of event `e`, and for the architecture.
+/// Whether a mark is one of event `e`, and for the architecture.
 fn is_mark_for(mark: &Mark, e: Event, queues: Queues) -> bool
     ensures { result ≡ is_mark_for queues e mark.now }
 {
     mark.event == e as usize && mark.is_for(queues)
 }
 
-/// The number of the mark of event `e` that is for the architecture, or how many marks there are.
+/// The number of the mark of event `e` that is for the architecture, or the number of all marks.
 fn number_of(marks: &[Mark], e: Event, queues: Queues) -> usize
     ensures { result ≡ position_or_len (is_mark_for queues e) marks.now }
 {
@@ -60,7 +64,24 @@ fn number_of(marks: &[Mark], e: Event, queues: Queues) -> usize
     marks.len()
 }
 
-/// Notes whether a mark of event `x` fits, where none has so far.
+/// For each event of the chart the number of its mark that is for the architecture, or the number
+/// of all marks if it has none.
+fn numbers_of(
+    alloc: Global,
+    marks: &[Mark],
+    chart: &Chart,
+    queues: Queues,
+) -> Result<Vec<usize>, AllocError>
+    ensures { IfOk result (λ at. AreNumbers (acceptance marks.now chart.now queues) at.items) }
+{
+    let mut at = Vec::new(alloc);
+    for e in 0..chart.events() {
+        at.push(number_of(marks, e, queues))?;
+    }
+    Ok(at)
+}
+
+/// Records whether a mark of event `x` fits; one that fits is enough.
 fn note(fitting: &mut Vec<bool>, x: Event, fits: bool)
     requires { x < length fitting.old.items }
     ensures size { length fitting.new.items ≡ length fitting.old.items }
@@ -72,8 +93,8 @@ fn note(fitting: &mut Vec<bool>, x: Event, fits: bool)
 }
 
 impl<'a> Accepted<'a> {
-    /// What marks accept of a chart under an architecture. An error is a growth of memory that was
-    /// refused.
+    /// The races of a chart that marks accept under an architecture. An error is a growth of memory
+    /// that was refused.
     pub fn of(
         alloc: Global,
         marks: &'a Marks,
@@ -84,15 +105,12 @@ impl<'a> Accepted<'a> {
         ensures chart { IfOk result (λ accepted. accepted.chart ≡ chart.now) }
         ensures queues { IfOk result (λ accepted. accepted.queues ≡ queues) }
     {
-        let mut at = Vec::new(alloc);
-        for e in 0..chart.events() {
-            at.push(number_of(marks.as_slice(), e, queues))?;
-        }
         Ok(Accepted {
             marks,
             chart,
             queues,
-            at,
+            at: numbers_of(alloc, marks.as_slice(), chart, queues)?,
+            named: NamedEvents::of(alloc, marks, chart)?,
         })
     }
 
@@ -103,15 +121,14 @@ impl<'a> Accepted<'a> {
         ensures { result ≡ accepts_from self.now.marks self.now.chart self.now.queues e f }
     {
         let i = self.at[e as usize];
-        let marks = self.marks.as_slice();
-        if i >= marks.len() {
+        if i >= self.marks.as_slice().len() {
             return false;
         }
-        marks[i].is_with(ident_of(self.chart, f))
+        self.named.has(i, f)
     }
 
-    /// Whether the race (`e`, `f`) is accepted. It takes no memory, and where neither event has a
-    /// mark it is two look-ups.
+    /// Whether the race (`e`, `f`) is accepted. It takes no memory, and takes two look-ups if
+    /// neither event has a mark.
     pub fn has(&self, e: Event, f: Event) -> bool
         requires e_known { e < length self.now.chart.events }
         requires f_known { f < length self.now.chart.events }
@@ -120,7 +137,7 @@ impl<'a> Accepted<'a> {
         self.accepts_from(e, f) || self.accepts_from(f, e)
     }
 
-    /// Puts a race into a set, where it is accepted.
+    /// Adds a race to a set, if it is accepted.
     fn put_race(&self, pairs: &mut Pairs, e: Event, f: Event)
         requires size { pairs.old.events ≡ length self.now.chart.events }
         requires first { e < length self.now.chart.events }
@@ -134,7 +151,7 @@ impl<'a> Accepted<'a> {
         }
     }
 
-    /// Puts those of these races that are accepted into a set.
+    /// Adds the accepted ones of these races to a set.
     fn put_races(&self, pairs: &mut Pairs, races: &[(Event, Event)])
         requires size { pairs.old.events ≡ length self.now.chart.events }
         requires known { All (AreEvents self.now) races.now }
@@ -165,7 +182,7 @@ impl<'a> Accepted<'a> {
         Ok(pairs)
     }
 
-    /// Notes which of the events of a race have marks that fit it.
+    /// Records which of the events of a race have marks that fit it.
     fn note_race(&self, fitting: &mut Vec<bool>, e: Event, f: Event)
         requires size { length fitting.old.items ≡ length self.now.chart.events }
         requires first { e < length self.now.chart.events }
@@ -178,7 +195,7 @@ impl<'a> Accepted<'a> {
         note(fitting, f, self.accepts_from(f, e));
     }
 
-    /// Notes which events have marks that fit one of these races.
+    /// Records which events have marks that fit one of these races.
     fn note_races(&self, fitting: &mut Vec<bool>, races: &[(Event, Event)])
         requires size { length fitting.old.items ≡ length self.now.chart.events }
         requires known { All (AreEvents self.now) races.now }
@@ -209,7 +226,7 @@ impl<'a> Accepted<'a> {
         Ok(fitting)
     }
 
-    /// Whether event `e` has a mark for the architecture, and is not noted.
+    /// Whether event `e` has a mark for the architecture that fits no race.
     fn is_left(&self, fitting: &[bool], e: Event) -> bool
         requires known { e < length self.now.chart.events }
         requires size { length fitting.now ≡ length self.now.chart.events }

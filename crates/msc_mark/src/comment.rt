@@ -47,7 +47,7 @@ fn first_text(tokens: &[Token]) -> Option<Token>
     }
 }
 
-/// The text of the comment of a statement, of which the tokens follow the first word.
+/// The text of the comment of a statement; the tokens are those after its first word.
 pub(crate) fn comment_in(tokens: &[Token]) -> Option<Token>
     ensures value { (text : List ℕ)
         → option_map (lexeme_of text) result ≡ comment_in (lexemes text tokens.now) }

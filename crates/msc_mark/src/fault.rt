@@ -14,7 +14,7 @@ pub enum MarkFault {
     /// What follows `race ok` is no part of a mark.
     #[error("expected in, with or a reason")]
     Part(usize),
-    /// The reason lacks, and nothing else.
+    /// Only the reason is missing.
     #[error("no reason")]
     Reason(usize),
     /// A growth of memory was refused.

@@ -1,4 +1,4 @@
-//! What a mark calls an event.
+//! The name of an event in a mark.
 
 ghost use Rattle.std.specs.Prelude.{◌≡◌, ◌<◌, false, length};
 ghost use Rattle.std.specs.Option.{option_copied};
@@ -8,13 +8,13 @@ ghost use Rattle.msc_mark.specs.Accepting.{name_at, number_at};
 use msc_chart::{Chart, Event};
 
 /// The name of an event's message, and its message instance name, if it has one.
-#[derive(Clone, Copy)]
+#[derive(Clone, Copy, PartialEq, Eq, Hash)]
 pub(crate) struct Ident<'c> {
     pub name: &'c [u8],
     pub number: Option<&'c [u8]>,
 }
 
-/// What a mark calls event `e`: its message, or the word `action`. It takes no memory.
+/// The name of event `e` in a mark: its message, or the word `action`. It takes no memory.
 pub(crate) fn ident_of(chart: &Chart, e: Event) -> Ident
     requires { e < length chart.now.events }
     ensures name { result.name.now ≡ name_at chart.now e }

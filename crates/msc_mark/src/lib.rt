@@ -1,9 +1,18 @@
-//! Marks: races that are accepted, with their reasons, where the chart's text draws them.
+//! Marks: races that are accepted, with their reasons, in the chart's text.
 //!
-//! A mark is the comment of an event's statement that says `race ok`, the architectures and the
-//! other events that it is for, and a reason. [`Marks::of`] finds the marks of a text, and
-//! [`Accepted`] says which races of a chart they accept. Marks are this project's own. Events are
-//! numbered from 0, in the order of the text; places are bytes of it, from 0.
+//! A mark is the comment of an event's statement that begins with `race ok` and has the
+//! architectures and the other events that it is for, and a reason. [`Marks::of`] finds the marks
+//! of a text, and [`Accepted`] says which races of a chart they accept. Marks are this project's
+//! own. Events are numbered from 0, in the order of the text; places are bytes of it, from 0.
+//!
+//! # Choices
+//!
+//! - One blank is between two words, and none before `race`, a comma, a semicolon or the colon. A
+//!   mark with other blanks is faulty: whoever begins a comment with `race ok` means a mark. So
+//!   `race okay` is faulty, but ` race ok: x` and `Race ok: x` are comments.
+//! - The first colon ends the parts. So a reason may have any bytes.
+//! - A mark may name events that the chart does not have. It fits no race then, and is stale.
+//! - A message is named with its message instance name: `END_MARKER` is not `END_MARKER, 2`.
 #![tactic(auto)]
 
 mod accepted;
@@ -13,8 +22,11 @@ mod ident;
 pub mod laws;
 mod mark;
 mod marks;
+mod named;
+mod numbering;
 mod place;
 mod reading;
+mod row;
 mod word;
 
 pub use accepted::Accepted;

@@ -31,7 +31,7 @@ impl Model for Marks {
     ghost view = { λ m. m.list };
 }
 
-/// The tokens of a text, or none where it has a lexical fault.
+/// The tokens of a text, or none if it has a lexical fault.
 fn tokens_of(alloc: Global, text: &[u8]) -> Result<Vec<Token>, AllocError>
     ensures tokens { IfOk result
         (λ v. (ts : List LexedToken) → HasTokens text.now ts → v.items ≡ ts) }
@@ -47,7 +47,7 @@ fn tokens_of(alloc: Global, text: &[u8]) -> Result<Vec<Token>, AllocError>
     }
 }
 
-/// Appends what the comment of a statement says, of which the tokens follow the first word.
+/// Appends the mark in the comment of a statement; the tokens are those after its first word.
 fn push_comment(
     alloc: Global,
     list: &mut Vec<Mark>,
@@ -90,8 +90,8 @@ fn marks_among(alloc: Global, text: &[u8], tokens: &[Token]) -> Result<Vec<Mark>
 
 impl Marks {
     /// The marks of a text, or the first of the comments of its events' statements that begins with
-    /// `race ok` and is no mark. A text that has no tokens has none. `Memory` is answered where a
-    /// growth of memory was refused.
+    /// `race ok` and is no mark. A text that has no tokens has none. `Memory` means that a growth
+    /// of memory was refused.
     pub fn of(alloc: Global, text: &[u8]) -> Result<Marks, MarkFault>
         ensures { AreMarksOf text.now result }
     {

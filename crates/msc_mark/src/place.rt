@@ -21,17 +21,17 @@ pub(crate) enum MarkPlace {
     Ok,
     /// After `race ok`.
     Parts,
-    /// After `in`, or after the comma behind an architecture.
+    /// After `in`, or after the comma that follows an architecture.
     Architecture,
     /// After the last architecture.
     Events,
-    /// After `with`, or after the semicolon behind an event.
+    /// After `with`, or after the semicolon that follows an event.
     Event,
-    /// After the comma behind the name of a message.
+    /// After the comma that follows the name of a message.
     Number,
     /// After the last event.
     Done,
-    /// After a word that may not stand there.
+    /// After a word that may not be there.
     Wrong,
 }
 
@@ -44,7 +44,7 @@ fn is_architecture(name: &[u8]) -> bool
         || name == Queues::Single.word().as_bytes()
 }
 
-/// The place behind an architecture.
+/// The place after an architecture.
 fn behind_architecture(word: &[u8]) -> MarkPlace
     ensures { result ≡ behind_architecture word.now }
 {
@@ -58,7 +58,7 @@ fn behind_architecture(word: &[u8]) -> MarkPlace
     }
 }
 
-/// The place behind the name of an event's message.
+/// The place after the name of an event's message.
 fn behind_event(word: &[u8]) -> MarkPlace
     ensures { result ≡ behind_event word.now }
 {
@@ -70,7 +70,7 @@ fn behind_event(word: &[u8]) -> MarkPlace
     }
 }
 
-/// The place behind the number of an event's message.
+/// The place after the number of an event's message.
 fn behind_number(word: &[u8]) -> MarkPlace
     ensures { result ≡ behind_number word.now }
 {
@@ -81,7 +81,7 @@ fn behind_number(word: &[u8]) -> MarkPlace
     }
 }
 
-/// One place where the word is this one, and otherwise that it is wrong.
+/// This place if the word is the right one, otherwise that of a wrong word.
 fn only(is: bool, place: MarkPlace) -> MarkPlace
     ensures { result ≡ cond is place MarkPlace.Wrong }
 {
@@ -89,7 +89,7 @@ fn only(is: bool, place: MarkPlace) -> MarkPlace
 }
 
 impl MarkPlace {
-    /// The place behind a word.
+    /// The place after a word.
     pub(crate) fn next(self, word: &[u8]) -> MarkPlace
         ensures { result ≡ next self word.now }
     {
@@ -106,21 +106,21 @@ impl MarkPlace {
         }
     }
 
-    /// Whether it is behind `in` or the comma of an architecture.
+    /// Whether it is after `in` or the comma of an architecture.
     pub(crate) fn is_architecture(self) -> bool
         ensures { result ≡ is_architecture_place self }
     {
         matches!(self, MarkPlace::Architecture)
     }
 
-    /// Whether it is behind `with` or the semicolon of an event.
+    /// Whether it is after `with` or the semicolon of an event.
     pub(crate) fn is_event(self) -> bool
         ensures { result ≡ is_event_place self }
     {
         matches!(self, MarkPlace::Event)
     }
 
-    /// Whether it is behind the comma of a message's name.
+    /// Whether it is after the comma of a message's name.
     pub(crate) fn is_number(self) -> bool
         ensures { result ≡ is_number_place self }
     {
@@ -135,7 +135,7 @@ impl MarkPlace {
     }
 }
 
-/// The place behind the words of a mark.
+/// The place after the words of a mark.
 pub(crate) fn place_behind(words: &[Listed<u8>]) -> MarkPlace
     ensures { result ≡ behind Race words.now }
 {

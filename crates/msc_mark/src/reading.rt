@@ -1,4 +1,4 @@
-//! What a comment says.
+//! Reads comments.
 
 ghost use Rattle.std.specs.Prelude.{◌≡◌, ◌≤◌, length, nat_lt};
 ghost use Rattle.std.specs.List.{list_any, prefix_len};
@@ -12,7 +12,7 @@ use crate::word::words_of;
 use listed::Listed;
 use std::alloc::Global;
 
-/// How many bytes stand before the first colon.
+/// The number of bytes before the first colon.
 fn head_length(bytes: &[u8]) -> usize
     ensures length { result ≡ prefix_len is_head_byte bytes.now }
     ensures within { result ≤ length bytes.now }
@@ -20,21 +20,21 @@ fn head_length(bytes: &[u8]) -> usize
     bytes.iter().take_while(|byte| **byte != b':').count()
 }
 
-/// What stands before the first colon.
+/// The bytes before the first colon.
 fn head_of(bytes: &[u8]) -> &[u8]
     ensures { result.now ≡ head_of bytes.now }
 {
     &bytes[..head_length(bytes)]
 }
 
-/// Whether a byte above 32 stands in the bytes.
+/// Whether some byte is above 32.
 fn has_print(bytes: &[u8]) -> bool
     ensures { result ≡ list_any (λ b. nat_lt 32 b) bytes.now }
 {
     bytes.iter().any(|byte| *byte > 32)
 }
 
-/// Whether a byte above 32 stands behind the first colon.
+/// Whether a byte after the first colon is above 32.
 fn has_reason(bytes: &[u8]) -> bool
     ensures { result ≡ has_reason bytes.now }
 {
@@ -45,8 +45,8 @@ fn has_reason(bytes: &[u8]) -> bool
     has_print(&bytes[colon + 1..])
 }
 
-/// What a comment says, the text of which begins at `place` and holds these bytes, in the statement
-/// of an event: a mark, or nothing of races.
+/// The mark in a comment of an event's statement, if it is one. Its text begins at `place` and has
+/// these bytes.
 pub(crate) fn read_comment(
     alloc: Global,
     event: usize,

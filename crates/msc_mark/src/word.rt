@@ -1,4 +1,4 @@
-//! The words of a mark: what stands between blanks.
+//! The words of a mark, with blanks between them.
 
 ghost use Rattle.std.specs.Prelude.{◌≡◌, ◌≤◌, map, length, IfOk};
 ghost use Rattle.std.specs.List.{prefix_len, slice_split};
@@ -9,7 +9,7 @@ ghost use Rattle.msc_mark.specs.Words.{closing_by, closing_of, is_blank, name_of
 use listed::Listed;
 use std::alloc::{AllocError, Global};
 
-/// What a word has behind its letters, digits and underscores.
+/// What follows the letters, digits and underscores of a word.
 #[derive(Clone, Copy, Debug, PartialEq, Eq)]
 pub(crate) enum Closing {
     /// Nothing.
@@ -38,7 +38,7 @@ fn is_run_byte(byte: u8) -> bool
     byte.is_ascii_alphanumeric() || byte == b'_'
 }
 
-/// How many letters, digits and underscores a word begins with.
+/// The number of letters, digits and underscores at the beginning of a word.
 fn name_length(word: &[u8]) -> usize
     ensures length { result ≡ prefix_len is_run_byte word.now }
     ensures within { result ≤ length word.now }
@@ -46,14 +46,14 @@ fn name_length(word: &[u8]) -> usize
     word.iter().take_while(|byte| is_run_byte(**byte)).count()
 }
 
-/// The letters, digits and underscores that a word begins with.
+/// The letters, digits and underscores at the beginning of a word.
 pub(crate) fn name_of(word: &[u8]) -> &[u8]
     ensures { result.now ≡ name_of word.now }
 {
     &word[..name_length(word)]
 }
 
-/// What is told by what a word has behind its name.
+/// What follows the name of a word, by the rest of it.
 fn closing_by(rest: &[u8]) -> Closing
     ensures { result ≡ closing_by rest.now }
 {
@@ -69,7 +69,7 @@ fn closing_by(rest: &[u8]) -> Closing
     Closing::Other
 }
 
-/// What the word has behind them.
+/// What follows the name of a word.
 pub(crate) fn closing_of(word: &[u8]) -> Closing
     ensures { result ≡ closing_of word.now }
 {
@@ -80,7 +80,7 @@ pub(crate) fn closing_of(word: &[u8]) -> Closing
     closing_by(&word[length..])
 }
 
-/// What stands between the blanks.
+/// The parts between the blanks.
 fn parts(alloc: Global, bytes: &[u8]) -> Result<Vec<&[u8]>, AllocError>
     ensures { IfOk result (λ v. map (λ x. x.now) v.items ≡ slice_split is_blank bytes.now) }
 {

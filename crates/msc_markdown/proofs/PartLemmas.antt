@@ -1,12 +1,12 @@
 -- What of a line belongs to a block stands together in the line.
-use Rattle.std.proofs.Common.{◌≡◌, ◌≤◌, ℕ, zero, suc, ◌+◌, ◌-◌, Bool, true, false, cond, not, ◌&&◌, ◌==◌, nat_le, List, [], ◌∷◌, length, take, drop, slice_get, Option, None, Some, refl, sym, ap, ◌∙◌, subst, arith}
+use Rattle.std.proofs.Common.{◌≡◌, ℕ, zero, suc, ◌+◌, ◌-◌, Bool, true, false, cond, not, ◌&&◌, nat_le, List, [], ◌∷◌, length, take, drop, slice_get, Option, None, Some, refl, sym, ap, ◌∙◌, subst, arith}
 use Rattle.std.specs.List.{prefix_len}
 use Rattle.std.proofs.lemmas.List.{take_all}
 use Rattle.msc_mermaid.specs.Lines.{lines_of}
 use Rattle.msc_mermaid.specs.Mermaid.{is_head}
 use Rattle.msc_mermaid.specs.Parts.{Stretch}
 use Rattle.msc_markdown.specs.declared.around.Around.{Around}
-use Rattle.msc_markdown.specs.declared.around.Form.{Form}
+use Rattle.msc_markdown.specs.declared.around.BlockKind.{BlockKind}
 use Rattle.msc_markdown.specs.declared.closing.Closing.{Closing}
 use Rattle.msc_markdown.specs.declared.closing.Closing.TheVariants as closings
 use Rattle.msc_markdown.specs.declared.closing.Ends.{Ends}
@@ -19,18 +19,7 @@ use Rattle.msc_markdown.specs.Markdowns.{ends_in, found_in, parts_from}
 use Rattle.msc_markdown.specs.Marks.{marks, quoted, quotes_before}
 use Rattle.msc_markdown.specs.Markup.{is_inside}
 use Rattle.msc_markdown.specs.Seeking.{before}
-
--- bytes behind others
-drop_none : (k : ℕ) → drop {A = ℕ} k [] ≡ []
-drop_none zero = refl
-drop_none (suc k) = refl
-
-drop_twice : (m k : ℕ) (xs : List ℕ) → drop k (drop m xs) ≡ drop (m + k) xs
-drop_twice zero k xs = let same : k ≡ 0 + k = omega arith in ap (λ n. drop n xs) same
-drop_twice (suc m) k [] = drop_none k ∙ sym (drop_none (suc m + k))
-drop_twice (suc m) k (x ∷ xs) =
-    let same : suc (m + k) ≡ suc m + k = omega arith in
-    drop_twice m k xs ∙ ap (λ n. drop n (x ∷ xs)) same
+use Rattle.msc_mermaid.proofs.SpellLemmas.{drop_twice}
 
 -- the last bytes of a line
 record IsEndOf (line bytes : List ℕ) : Type 0 where
@@ -79,7 +68,7 @@ part_is at line around columns skipped bytes p = by (around.marked && not (is_le
     by true = record { number = refl; part = p }
     by false = nothing_of at line
 
-within_of : (at : ℕ) (line : List ℕ) (around : Around) (start : Option Form) (columns skipped : ℕ) (held : List ℕ) → IsEndOf line held → IsOf at line (within at around start columns skipped held).part
+within_of : (at : ℕ) (line : List ℕ) (around : Around) (start : Option BlockKind) (columns skipped : ℕ) (held : List ℕ) → IsEndOf line held → IsOf at line (within at around start columns skipped held).part
 unfolding within
 within_of at line around start columns skipped held e =
     part_is at line around columns skipped (before_end around.closing held) (end_part around.closing line held e)

@@ -2,13 +2,13 @@
 use Rattle.std.proofs.Common.{◌≡◌, ◌<◌, ◌≤◌, ℕ, ◌+◌, ◌-◌, Bool, true, false, cond, ◌||◌, List, [], ◌∷◌, ◌++◌, length, get_or, map, take, drop, count_by, Option, None, Some, refl, sym, ap, ◌∙◌, arith, append_assoc}
 use Rattle.std.specs.List.{list_any}
 use Rattle.std.proofs.lemmas.List.Sums.{sum_by-cons}
-use Rattle.std.proofs.lemmas.List.{append-nil, drop_more, drop_all, drop-map, take-map, length-map, map-append}
+use Rattle.std.proofs.lemmas.List.{append-nil, drop_more, drop_all, drop-map, take-map, length-map}
 use Rattle.msc_mermaid.specs.declared.ahead.Ahead.{Ahead}
 use Rattle.msc_mermaid.specs.Aheads.{ahead_behind}
 use Rattle.msc_mermaid.specs.declared.part.LinePart.{LinePart}
 use Rattle.msc_mermaid.specs.Parts.{Stretch, stretch}
 use Rattle.msc_markdown.specs.declared.around.Around.{Around}
-use Rattle.msc_markdown.specs.declared.around.Form.{Form}
+use Rattle.msc_markdown.specs.declared.around.BlockKind.{BlockKind}
 use Rattle.msc_markdown.specs.declared.closing.Ends.{Ends}
 use Rattle.msc_markdown.specs.declared.markdown.Start.{Start}
 use Rattle.msc_markdown.specs.declared.markup.Shortcode.TheVariants as shortcodes
@@ -40,9 +40,9 @@ starts_none : (n : ℕ) (o : Option Around) → starts_from n o [] ≡ []
 unfolding starts_from
 starts_none n o = refl
 
-start_before : (n : ℕ) (form : Option Form) (starts : List Start) → start_at n form starts ≡ start_at n form [] ++ starts
+start_before : (n : ℕ) (kind : Option BlockKind) (starts : List Start) → start_at n kind starts ≡ start_at n kind [] ++ starts
 start_before n None starts = refl
-start_before n (Some form) starts = refl
+start_before n (Some kind) starts = refl
 
 module _ {X : Type 0} (view : X → List ℕ) (xs : List X) (i : ℕ) (d : X) (inside : i < length xs) where
   -- fewer ends of blocks follow
@@ -75,7 +75,7 @@ module _ {X : Type 0} (view : X → List ℕ) (xs : List X) (i : ℕ) (d : X) (i
         ∙ append_assoc done (left.part ∷ []) (parts_from (n + 1) left.after rest)
         ∙ sym (ap (λ x. done ++ x) (parts_cons n o line rest)) ∙ sym (ap (λ x. done ++ parts_from n o (map view x)) (drop_more xs i d inside))
 
-    pub starts_more : (done next : List Start) (start : Option Form) → next ≡ done ++ start_at n start [] → start ≡ (left_by n e (view (get_or xs i d)) o).start → next ++ starts_from (n + 1) after (map view (drop (i + 1) xs)) ≡ done ++ starts_from n o (map view (drop i xs))
+    pub starts_more : (done next : List Start) (start : Option BlockKind) → next ≡ done ++ start_at n start [] → start ≡ (left_by n e (view (get_or xs i d)) o).start → next ++ starts_from (n + 1) after (map view (drop (i + 1) xs)) ≡ done ++ starts_from n o (map view (drop i xs))
     starts_more done next start more same =
         let rest = map view (drop (i + 1) xs) in
         let line = view (get_or xs i d) in
@@ -114,7 +114,7 @@ module _ {X : Type 0} (view : X → List ℕ) (xs : List X) (i : ℕ) (a : Ahead
   look_end over = ap (λ x. look a (map view x)) (drop_all i xs over) ∙ look_none a
 
 -- the numbers of one block more
-numbers_cons : (n : ℕ) (s : Start) (ss : List Start) (parts : List Stretch) → numbers_from n (s ∷ ss) parts ≡ number_if (is_sequence s.form (bytes_in (own_parts s ss parts))) n (numbers_from (n + 1) ss parts)
+numbers_cons : (n : ℕ) (s : Start) (ss : List Start) (parts : List Stretch) → numbers_from n (s ∷ ss) parts ≡ number_if (is_sequence s.kind (bytes_in (own_parts s ss parts))) n (numbers_from (n + 1) ss parts)
 unfolding numbers_from
 numbers_cons n s ss parts = refl
 
@@ -124,13 +124,13 @@ numbers_none n parts = refl
 
 module _ (ss : List Start) (i n : ℕ) (parts : List Stretch) where
   module _ (d : Start) (inside : i < length ss) where
-    numbers_next : numbers_from n (drop i ss) parts ≡ number_if (is_sequence (get_or ss i d).form (bytes_in (own_parts (get_or ss i d) (drop (i + 1) ss) parts))) n (numbers_from (n + 1) (drop (i + 1) ss) parts)
+    numbers_next : numbers_from n (drop i ss) parts ≡ number_if (is_sequence (get_or ss i d).kind (bytes_in (own_parts (get_or ss i d) (drop (i + 1) ss) parts))) n (numbers_from (n + 1) (drop (i + 1) ss) parts)
     numbers_next = ap (λ x. numbers_from n x parts) (drop_more ss i d inside) ∙ numbers_cons n (get_or ss i d) (drop (i + 1) ss) parts
 
-    module _ (done : List ℕ) (own : List Stretch) (others : List Start) (is : Bool) (of_block : own ≡ own_parts (get_or ss i d) others parts) (behind : others ≡ drop (i + 1) ss) (told : is ≡ is_sequence (get_or ss i d).form (bytes_in own)) where
-      block_is : is_sequence (get_or ss i d).form (bytes_in (own_parts (get_or ss i d) (drop (i + 1) ss) parts)) ≡ is
+    module _ (done : List ℕ) (own : List Stretch) (others : List Start) (is : Bool) (of_block : own ≡ own_parts (get_or ss i d) others parts) (behind : others ≡ drop (i + 1) ss) (told : is ≡ is_sequence (get_or ss i d).kind (bytes_in own)) where
+      block_is : is_sequence (get_or ss i d).kind (bytes_in (own_parts (get_or ss i d) (drop (i + 1) ss) parts)) ≡ is
       block_is =
-          sym (told ∙ ap (λ x. is_sequence (get_or ss i d).form (bytes_in x)) (of_block ∙ ap (λ x. own_parts (get_or ss i d) x parts) behind))
+          sym (told ∙ ap (λ x. is_sequence (get_or ss i d).kind (bytes_in x)) (of_block ∙ ap (λ x. own_parts (get_or ss i d) x parts) behind))
 
       pub numbers_on : is ≡ true → (done ++ n ∷ []) ++ numbers_from (n + 1) (drop (i + 1) ss) parts ≡ done ++ numbers_from n (drop i ss) parts
       numbers_on so =
@@ -159,7 +159,7 @@ bytes_view [] = refl
 bytes_view (p ∷ ps) = ap (λ x. p.bytes.now ∷ x) (bytes_view ps)
 
 -- a test of what a view makes of the items of a list
-any_view : {X Y : Type 0} (test : Y → Bool) (view : X → Y) (xs : List X) → list_any test (map view xs) ≡ list_any (λ x. test (view x)) xs
+pub any_view : {X Y : Type 0} (test : Y → Bool) (view : X → Y) (xs : List X) → list_any test (map view xs) ≡ list_any (λ x. test (view x)) xs
 any_view test view [] = refl
 any_view test view (x ∷ xs) = ap (λ b. test (view x) || b) (any_view test view xs)
 

@@ -1,5 +1,6 @@
--- What of a line belongs to a block is no longer than the line, with blanks for what stands before it.
-use Rattle.std.proofs.Common.{◌≡◌, ◌≤◌, ◌<◌, ℕ, zero, suc, ◌+◌, ◌-◌, Bool, true, false, cond, not, ◌&&◌, ◌==◌, nat_le, List, [], ◌∷◌, ◌++◌, length, map, take, drop, replicate, count_by, Option, None, Some, refl, sym, ap, ◌∙◌, arith, length-drop, length-take}
+-- What of a line belongs to a block is no longer than the line, with blanks for what stands before
+-- it.
+use Rattle.std.proofs.Common.{◌≡◌, ◌≤◌, ℕ, zero, suc, ◌+◌, ◌-◌, Bool, true, false, cond, not, ◌&&◌, ◌==◌, nat_le, List, [], ◌∷◌, length, map, take, drop, replicate, Option, None, Some, refl, ap, ◌∙◌, arith, length-drop, length-take}
 use Rattle.std.specs.List.{prefix_len}
 use Rattle.std.proofs.lemmas.List.{length-append, length-replicate}
 use Rattle.std.proofs.lemmas.List.Sums.{count_by-le-length, prefix_len-le-length}
@@ -8,7 +9,7 @@ use Rattle.msc_mermaid.specs.Lines.{is_counted}
 use Rattle.msc_mermaid.specs.Mermaid.{is_head}
 use Rattle.msc_mermaid.specs.Parts.{Stretch, blanked}
 use Rattle.msc_markdown.specs.declared.around.Around.{Around}
-use Rattle.msc_markdown.specs.declared.around.Form.{Form}
+use Rattle.msc_markdown.specs.declared.around.BlockKind.{BlockKind}
 use Rattle.msc_markdown.specs.declared.closing.Closing.{Closing}
 use Rattle.msc_markdown.specs.declared.closing.Closing.TheVariants as closings
 use Rattle.msc_markdown.specs.declared.closing.Ends.{Ends}
@@ -21,6 +22,7 @@ use Rattle.msc_markdown.specs.Markup.{is_inside}
 use Rattle.msc_markdown.specs.Seeking.{before}
 use Rattle.msc_markdown.specs.Marks.{is_quote, is_quoted, marks, quoted, quotes_before}
 use Rattle.msc_markdown.specs.Markdowns.{ends_in, next_line, own_parts, parts_from}
+use Rattle.msc_mermaid.proofs.StepLemmas.{drop_short}
 
 -- how long the line of a part is
 pub width : Stretch → ℕ
@@ -33,12 +35,6 @@ width_is s = length-append (replicate s.before 32) s.bytes ∙ ap (λ n. n + len
 width_same : (s : Stretch) → width s ≡ length (blanked s)
 unfolding width
 width_same s = refl
-
-drop_short : {X : Type 0} (k : ℕ) (xs : List X) → length (drop k xs) ≤ length xs
-drop_short zero [] = omega arith
-drop_short zero (x ∷ xs) = omega arith
-drop_short (suc k) [] = omega arith
-drop_short (suc k) (x ∷ xs) = let r = drop_short k xs in omega (arith, r)
 
 take_short : {X : Type 0} (k : ℕ) (xs : List X) → length (take k xs) ≤ length xs
 take_short zero [] = omega arith
@@ -75,7 +71,7 @@ end_short closings.Colons held = either (is_end closings.Colons held)
     either true = omega arith
     either false = omega arith
 
-within_width : (at : ℕ) (around : Around) (start : Option Form) (before skipped : ℕ) (held : List ℕ) → width (within at around start before skipped held).part ≤ before + length held
+within_width : (at : ℕ) (around : Around) (start : Option BlockKind) (before skipped : ℕ) (held : List ℕ) → width (within at around start before skipped held).part ≤ before + length held
 unfolding within
 within_width at around start before skipped held =
     let p = part_width at around before skipped (before_end around.closing held) in

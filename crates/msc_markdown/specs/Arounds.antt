@@ -1,10 +1,11 @@
--- One line more of a text of Markdown: what of it belongs to a block, and which block is around the next one.
+-- One line more of a text of Markdown: what of it belongs to a block, and which block is around the
+-- next one.
 use Rattle.std.specs.Prelude.{ℕ, ◌+◌, ◌-◌, Bool, cond, not, ◌||◌, ◌&&◌, ◌==◌, nat_le, nat_lt, List, [], ◌∷◌, length, take, drop, count_by, Option, None, Some}
 use Rattle.std.specs.List.{prefix_len}
 use Rattle.msc_lexer.specs.Bytes.{begins, is_run_byte}
 use Rattle.msc_markdown.specs.declared.around.Around.{Around}
-use Rattle.msc_markdown.specs.declared.around.Form.{Form}
-use Rattle.msc_markdown.specs.declared.around.Form.TheVariants as forms
+use Rattle.msc_markdown.specs.declared.around.BlockKind.{BlockKind}
+use Rattle.msc_markdown.specs.declared.around.BlockKind.TheVariants as kinds
 use Rattle.msc_markdown.specs.declared.closing.Closing.{Closing}
 use Rattle.msc_markdown.specs.declared.closing.Closing.TheVariants as closings
 use Rattle.msc_markdown.specs.declared.closing.Ends.{Ends}
@@ -16,11 +17,11 @@ use Rattle.msc_mermaid.specs.White.{trimmed}
 use Rattle.msc_markdown.specs.Closings.{before_end, closing_of, has_options, is_end, is_marked, text_of}
 use Rattle.msc_markdown.specs.Marks.{is_quoted, marks, quoted, quotes, quotes_before}
 
--- what a line leaves: what of it belongs to a block, the form of the block of a diagram that starts on it, and
--- the block around the next line
+-- what a line leaves: what of it belongs to a block, the form of the block of a diagram that starts
+-- on it, and the block around the next line
 pub record Left : Type 0 where
   pub part : Stretch
-  pub start : Option Form
+  pub start : Option BlockKind
   pub after : Option Around
 
 -- nothing of the line of a number
@@ -49,7 +50,8 @@ abbrev pub is_left_out : Around → List ℕ → Bool
 is_left_out around bytes =
     around.options && (is_empty (trimmed bytes) || is_option (trimmed bytes))
 
--- what belongs to the block of what stands behind so many columns of a line, which have so many bytes
+-- what belongs to the block of what stands behind so many columns of a line, which have so many
+-- bytes
 abbrev pub part_of : ℕ → Around → ℕ → ℕ → List ℕ → Stretch
 part_of at around before skipped bytes =
     cond (around.marked && not (is_left_out around bytes)) (record { line = at; before = before; skipped = skipped; bytes = bytes }) (nothing at)
@@ -64,7 +66,7 @@ on_behind around bytes = record {
 }
 
 -- a line of a block, of which this stands behind so many columns, which have so many bytes
-unfoldable pub within : ℕ → Around → Option Form → ℕ → ℕ → List ℕ → Left
+unfoldable pub within : ℕ → Around → Option BlockKind → ℕ → ℕ → List ℕ → Left
 within at around start before skipped held = record {
   part = part_of at around before skipped (before_end around.closing held);
   start = start;
@@ -72,10 +74,10 @@ within at around start before skipped held = record {
 }
 
 -- the form of a block with this end
-abbrev pub form_of : Closing → Form
-form_of (closings.Element t) = forms.Markup
-form_of (closings.Short k) = forms.Markup
-form_of c = forms.Fenced
+abbrev pub form_of : Closing → BlockKind
+form_of (closings.Element t) = kinds.Markup
+form_of (closings.Short k) = kinds.Markup
+form_of c = kinds.Fenced
 
 -- the line behind the marks in front
 abbrev pub behind_marks : List ℕ → List ℕ
@@ -95,7 +97,7 @@ abbrev pub columns_before : List ℕ → List ℕ → ℕ
 columns_before line bytes = count_by is_counted (take (length line - length bytes) line)
 
 -- the form of a block of a diagram
-abbrev pub start_of : Around → Option Form
+abbrev pub start_of : Around → Option BlockKind
 start_of around = cond around.marked (Some (form_of around.closing)) None
 
 -- a line that a block starts with
@@ -111,7 +113,7 @@ quoted_front line = prefix_len is_quoted line
 abbrev pub stray : ℕ → List ℕ → Left
 stray at line = record {
   part = record { line = at; before = quoted_front line; skipped = quoted_front line; bytes = drop (quoted_front line) line };
-  start = Some forms.Stray;
+  start = Some kinds.Stray;
   after = None;
 }
 
@@ -128,7 +130,8 @@ outside_by at line (Some closing) = begun at closing line
 abbrev pub outside : ℕ → Ends → List ℕ → Left
 outside at ends line = outside_by at line (closing_of ends (behind_marks line))
 
--- the line of a number that this block is around, if any: it ends before a line with fewer marks of block quotes
+-- the line of a number that this block is around, if any: it ends before a line with fewer marks of
+-- block quotes
 unfoldable pub left_by : ℕ → Ends → List ℕ → Option Around → Left
 left_by at ends line None = outside at ends line
 left_by at ends line (Some around) =

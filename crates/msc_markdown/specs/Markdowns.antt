@@ -17,8 +17,8 @@ use Rattle.msc_mermaid.specs.Seeking.{entity_in}
 use Rattle.msc_mermaid.specs.White.{trimmed}
 use Rattle.msc_place.specs.declared.position.Position.{Position}
 use Rattle.msc_markdown.specs.declared.around.Around.{Around}
-use Rattle.msc_markdown.specs.declared.around.Form.{Form}
-use Rattle.msc_markdown.specs.declared.around.Form.TheVariants as forms
+use Rattle.msc_markdown.specs.declared.around.BlockKind.{BlockKind}
+use Rattle.msc_markdown.specs.declared.around.BlockKind.TheVariants as kinds
 use Rattle.msc_markdown.specs.declared.closing.Ends.{Ends}
 use Rattle.msc_markdown.specs.declared.markdown.Start.{Start}
 use Rattle.msc_markdown.specs.declared.markup.Shortcode.TheVariants as shortcodes
@@ -33,17 +33,17 @@ ends_in lines = record {
   percent = count_by (holds (sought.ShortcodeEnd shortcodes.Percent)) lines;
 }
 
--- what of each of these lines belongs to a block, where the first one has this number, and this block is
--- around it, if any
+-- what of each of these lines belongs to a block, where the first one has this number, and this
+-- block is around it, if any
 unfoldable pub parts_from : ℕ → Option Around → List (List ℕ) → List Stretch
 parts_from n around [] = []
 parts_from n around (l ∷ ls) =
     (left_by n (ends_in ls) l around).part ∷ parts_from (n + 1) (left_by n (ends_in ls) l around).after ls
 
 -- the start of a block on the line of this number, before others
-abbrev pub start_at : ℕ → Option Form → List Start → List Start
+abbrev pub start_at : ℕ → Option BlockKind → List Start → List Start
 start_at n None starts = starts
-start_at n (Some form) starts = record { line = n; form = form } ∷ starts
+start_at n (Some kind) starts = record { line = n; kind = kind } ∷ starts
 
 -- the blocks of diagrams that start on these lines, of which the first one has this number
 unfoldable pub starts_from : ℕ → Option Around → List (List ℕ) → List Start
@@ -52,12 +52,12 @@ starts_from n around (l ∷ ls) =
     start_at n (left_by n (ends_in ls) l around).start (starts_from (n + 1) (left_by n (ends_in ls) l around).after ls)
 
 -- a single line outside of all blocks, and a block that is none
-abbrev pub is_stray : Form → Bool
-is_stray forms.Stray = true
+abbrev pub is_stray : BlockKind → Bool
+is_stray kinds.Stray = true
 is_stray f = false
 
 abbrev pub is_block : Start → Bool
-is_block start = not (is_stray start.form)
+is_block start = not (is_stray start.kind)
 
 -- the blocks of diagrams: single lines outside of others count where there are others
 abbrev pub blocks_of : List Start → List Start
@@ -97,10 +97,10 @@ abbrev pub is_sequence_text : List (List ℕ) → Bool
 is_sequence_text lines = is_sequence_by lines (look ahead.Start lines)
 
 -- a block of these lines is a sequence diagram
-abbrev pub is_sequence : Form → List (List ℕ) → Bool
-is_sequence forms.Stray lines = true
-is_sequence forms.Fenced lines = is_sequence_text lines
-is_sequence forms.Markup lines = is_sequence_text lines
+abbrev pub is_sequence : BlockKind → List (List ℕ) → Bool
+is_sequence kinds.Stray lines = true
+is_sequence kinds.Fenced lines = is_sequence_text lines
+is_sequence kinds.Markup lines = is_sequence_text lines
 
 -- the bytes of parts
 abbrev pub bytes_in : List Stretch → List (List ℕ)
@@ -114,7 +114,7 @@ number_if is n others = cond is (n ∷ others) others
 unfoldable pub numbers_from : ℕ → List Start → List Stretch → List ℕ
 numbers_from n [] parts = []
 numbers_from n (s ∷ ss) parts =
-    number_if (is_sequence s.form (bytes_in (own_parts s ss parts))) n (numbers_from (n + 1) ss parts)
+    number_if (is_sequence s.kind (bytes_in (own_parts s ss parts))) n (numbers_from (n + 1) ss parts)
 
 -- the first line that counts begins a sequence diagram: by what stands ahead, and of these lines
 abbrev pub is_begun : Ahead → Bool
@@ -124,8 +124,9 @@ is_begun a = false
 abbrev pub is_diagram : List (List ℕ) → Bool
 is_diagram lines = is_begun (look ahead.Start lines)
 
--- What a text holds: where its lines begin, and where it ends; whether it is a sequence diagram as a whole; what of
--- each line belongs to a block; the blocks of diagrams; and the numbers, from 1, of those that are sequence diagrams.
+-- What a text holds: where its lines begin, and where it ends; whether it is a sequence diagram as
+-- a whole; what of each line belongs to a block; the blocks of diagrams; and the numbers, from 1,
+-- of those that are sequence diagrams.
 pub record Found : Type 0 where
   pub text : List ℕ
   pub line_starts : List ℕ
@@ -164,15 +165,16 @@ abbrev pub has_head : List (List ℕ) → Bool
 has_head lines = list_any (λ l. is_head (trimmed l)) lines
 
 -- a browser reads the block first
-abbrev pub is_markup : Form → Bool
-is_markup forms.Markup = true
+abbrev pub is_markup : BlockKind → Bool
+is_markup kinds.Markup = true
 is_markup f = false
 
 -- the text of these parts may be of any language, and is of none
 abbrev pub is_none : Bool → List Stretch → Bool
 is_none any parts = any && not (has_head (bytes_in parts))
 
--- the diagram of a block of these parts, which a browser reads first or not; of any language, if it may be any
+-- the diagram of a block of these parts, which a browser reads first or not; of any language, if it
+-- may be any
 abbrev pub said_by : Bool → Bool → Option Cross → Found → List Stretch → Result Diagram ImportFault
 said_by markup any cross f parts =
     cond (is_none any parts) (Err (Expected (first_place parts f.end) expectations.AnyDiagram)) (said_of markup cross f.line_starts f.end parts)
@@ -180,7 +182,7 @@ said_by markup any cross f parts =
 -- the diagram of a block
 abbrev pub block_diagram : Bool → Option Cross → Found → Start → List Start → Result Diagram ImportFault
 block_diagram any cross f s others =
-    cond (is_block s) (said_by (is_markup s.form) any cross f (own_parts s others f.parts)) (Err (Stray (first_place (own_parts s others f.parts) f.end)))
+    cond (is_block s) (said_by (is_markup s.kind) any cross f (own_parts s others f.parts)) (Err (Stray (first_place (own_parts s others f.parts) f.end)))
 
 -- that of the first of these blocks, of which it has this number
 abbrev pub first_diagram : Bool → Option Cross → Found → ℕ → List Start → Result Diagram ImportFault

@@ -1,13 +1,15 @@
-//! One line more of a text of Markdown: what of it belongs to a block, and which block is around the
-//! next one.
+//! One more line of a text of Markdown: the part of it that belongs to a block, and the block
+//! around the next line.
 
 ghost use Rattle.std.specs.Prelude.{◌≡◌, ◌≤◌, length};
 ghost use Rattle.std.specs.List.{prefix_len};
 ghost use Rattle.msc_lexer.specs.Bytes.{begins};
 ghost use Rattle.msc_mermaid.specs.Parts.{stretch};
-ghost use Rattle.msc_markdown.specs.Arounds.{around_of, begun, behind_marks, columns_before, form_of};
+ghost use Rattle.msc_markdown.specs.Arounds.{around_of, begun, behind_marks, columns_before};
+ghost use Rattle.msc_markdown.specs.Arounds.{form_of};
 ghost use Rattle.msc_markdown.specs.Arounds.{is_colon, is_left_out, is_option, is_option_byte};
-ghost use Rattle.msc_markdown.specs.Arounds.{is_option_of, left_by, nothing, on_behind, outside, part_of};
+ghost use Rattle.msc_markdown.specs.Arounds.{is_option_of, left_by, nothing, on_behind, outside};
+ghost use Rattle.msc_markdown.specs.Arounds.{part_of};
 ghost use Rattle.msc_markdown.specs.Arounds.{passed, start_of, within};
 
 use crate::blanks::behind;
@@ -15,12 +17,12 @@ use crate::closing::{Closing, Ends, closing_of};
 use crate::marks::{marks, quoted, quoted_in_front, quotes, quotes_before};
 use msc_mermaid::{LinePart, counted, is_head, is_word_byte, trimmed};
 
-/// How a block of a diagram is written.
+/// The form of a block of a diagram.
 #[derive(Clone, Copy, Debug, PartialEq, Eq)]
-pub enum Form {
+pub enum BlockKind {
     /// Between fences, or in a directive.
     Fenced,
-    /// In an element of HTML or a shortcode of Hugo: a browser reads it first.
+    /// In an element of HTML or a shortcode of Hugo, which a browser reads first.
     Markup,
     /// In a line outside of all blocks.
     Stray,
@@ -29,27 +31,27 @@ pub enum Form {
 /// The block around a line.
 #[derive(Clone, Copy, Debug, PartialEq, Eq)]
 pub(crate) struct Around {
-    /// How many marks of block quotes its lines have at least.
+    /// The least number of marks of block quotes on its lines.
     pub quotes: usize,
     pub closing: Closing,
-    /// It is one of a diagram.
+    /// It is a block of a diagram.
     pub marked: bool,
     /// Options of MyST may follow.
     pub options: bool,
 }
 
-/// What a line leaves.
+/// The result of a line.
 #[derive(Clone, Copy)]
 pub(crate) struct Left<'t> {
-    /// What of it belongs to a block.
+    /// The part of it that belongs to a block.
     pub part: LinePart<'t>,
     /// The form of the block of a diagram that starts on it.
-    pub start: Option<Form>,
+    pub start: Option<BlockKind>,
     /// The block around the next line.
     pub after: Option<Around>,
 }
 
-/// Whether `:` stands here.
+/// Whether the bytes begin with `:`.
 fn begins_colon(bytes: &[u8]) -> bool
     ensures { result ≡ begins is_colon bytes.now }
 {
@@ -66,7 +68,7 @@ fn is_option_byte(byte: u8) -> bool
     is_word_byte(byte) || byte == b'-'
 }
 
-/// How many such bytes stand here.
+/// The number of such bytes at the front.
 fn option_bytes(bytes: &[u8]) -> usize
     ensures length { result ≡ prefix_len is_option_byte bytes.now }
     ensures within { result ≤ length bytes.now }
@@ -77,7 +79,7 @@ fn option_bytes(bytes: &[u8]) -> usize
         .count()
 }
 
-/// Whether a name of so many bytes stands here before a colon.
+/// Whether a name of `count` bytes and a colon are at the front.
 fn is_option_of(count: usize, bytes: &[u8]) -> bool
     ensures { result ≡ is_option_of count bytes.now }
 {
@@ -92,14 +94,14 @@ fn is_option(bytes: &[u8]) -> bool
     begins_colon(bytes) && is_option_of(option_bytes(name), name)
 }
 
-/// What stands on a line behind the marks in front.
+/// The bytes of a line after the marks at its front.
 fn behind_marks(line: &[u8]) -> &[u8]
     ensures { result.now ≡ behind_marks line.now }
 {
     &line[marks(line)..]
 }
 
-/// How many columns of a line stand before its last bytes, which are these.
+/// The number of columns of a line before its last bytes, which are these.
 fn columns_before(line: &[u8], bytes: &[u8]) -> usize
     ensures { result ≡ columns_before line.now bytes.now }
 {
@@ -109,7 +111,7 @@ fn columns_before(line: &[u8], bytes: &[u8]) -> usize
     counted(&line[..line.len() - bytes.len()])
 }
 
-/// Nothing of the line of this number.
+/// No part of the line of this number.
 fn nothing(at: usize) -> LinePart<'static>
     ensures { stretch result ≡ nothing at }
 {
@@ -123,18 +125,18 @@ fn nothing(at: usize) -> LinePart<'static>
 
 impl Closing {
     /// The form of a block with this end.
-    fn form(self) -> Form
+    fn kind(self) -> BlockKind
         ensures { result ≡ form_of self }
     {
         match self {
-            Closing::Element(_) | Closing::Short(_) => Form::Markup,
-            Closing::Backquotes(_) | Closing::Tildes(_) | Closing::Colons => Form::Fenced,
+            Closing::Element(_) | Closing::Short(_) => BlockKind::Markup,
+            Closing::Backquotes(_) | Closing::Tildes(_) | Closing::Colons => BlockKind::Fenced,
         }
     }
 }
 
 impl Around {
-    /// The block that starts with a line, and has this end.
+    /// The block that begins with a line, and has this end.
     fn of(closing: Closing, line: &[u8]) -> Around
         ensures { result ≡ around_of closing line.now }
     {
@@ -148,11 +150,11 @@ impl Around {
     }
 
     /// The form of a block of a diagram.
-    fn start(self) -> Option<Form>
+    fn start(self) -> Option<BlockKind>
         ensures { result ≡ start_of self }
     {
         if self.marked {
-            Some(self.closing.form())
+            Some(self.closing.kind())
         } else {
             None
         }
@@ -166,8 +168,8 @@ impl Around {
         self.options && (text.is_empty() || is_option(text))
     }
 
-    /// What belongs to the block of what stands behind so many columns of a line, which have so many
-    /// bytes.
+    /// The part that belongs to the block, of the bytes after `before` columns of a line, which
+    /// have `skipped` bytes.
     fn part(self, at: usize, before: usize, skipped: usize, bytes: &[u8]) -> LinePart<'_>
         ensures { stretch result ≡ part_of at self before skipped bytes.now }
     {
@@ -183,7 +185,7 @@ impl Around {
         }
     }
 
-    /// The block goes on.
+    /// The block after a line of it.
     fn on(self, bytes: &[u8]) -> Around
         ensures { result ≡ on_behind self bytes.now }
     {
@@ -195,13 +197,13 @@ impl Around {
         }
     }
 
-    /// What a line of the block leaves, of which this stands behind so many columns, which have so many
-    /// bytes.
+    /// The result of a line of the block with these bytes after this number of columns, which have
+    /// this number of bytes.
     #[tactic(auto, unfolding(crate::specs::Arounds::within))]
     fn within(
         self,
         at: usize,
-        start: Option<Form>,
+        start: Option<BlockKind>,
         before: usize,
         skipped: usize,
         held: &[u8],
@@ -224,7 +226,7 @@ impl Around {
     }
 }
 
-/// What a line leaves that a block with this end starts with.
+/// The result of a line with which a block with this end begins.
 fn begun(at: usize, closing: Closing, line: &[u8]) -> Left<'_>
     ensures part { stretch result.part ≡ (begun at closing line.now).part }
     ensures start { result.start ≡ (begun at closing line.now).start }
@@ -237,7 +239,7 @@ fn begun(at: usize, closing: Closing, line: &[u8]) -> Left<'_>
     around.within(at, around.start(), before, skipped, text)
 }
 
-/// What a line leaves that no block starts with.
+/// The result of a line with which no block begins.
 fn passed(at: usize, line: &[u8]) -> Left<'_>
     ensures part { stretch result.part ≡ (passed at line.now).part }
     ensures start { result.start ≡ (passed at line.now).start }
@@ -253,7 +255,7 @@ fn passed(at: usize, line: &[u8]) -> Left<'_>
                 skipped: before,
                 bytes,
             },
-            start: Some(Form::Stray),
+            start: Some(BlockKind::Stray),
             after: None,
         };
     }
@@ -264,7 +266,7 @@ fn passed(at: usize, line: &[u8]) -> Left<'_>
     }
 }
 
-/// What a line outside of all blocks leaves.
+/// The result of a line outside of all blocks.
 fn outside(at: usize, ends: Ends, line: &[u8]) -> Left<'_>
     ensures part { stretch result.part ≡ (outside at ends line.now).part }
     ensures start { result.start ≡ (outside at ends line.now).start }
@@ -276,7 +278,7 @@ fn outside(at: usize, ends: Ends, line: &[u8]) -> Left<'_>
     }
 }
 
-/// What a line leaves that this block is around, if any, where so many ends of shortcodes follow.
+/// The result of a line inside this block, if any, when this number of ends of shortcodes follow.
 #[tactic(auto, unfolding(crate::specs::Arounds::left_by))]
 pub(crate) fn left_by(at: usize, ends: Ends, line: &[u8], around: Option<Around>) -> Left<'_>
     ensures part { stretch result.part ≡ (left_by at ends line.now around).part }

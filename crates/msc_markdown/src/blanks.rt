@@ -12,7 +12,7 @@ pub(crate) fn is_blank(byte: u8) -> bool
     byte == b' ' || byte == b'\t'
 }
 
-/// Whether a blank stands at the front.
+/// Whether the bytes begin with a blank.
 pub(crate) fn begins_blank(bytes: &[u8]) -> bool
     ensures { result ≡ begins is_blank bytes.now }
 {
@@ -22,7 +22,7 @@ pub(crate) fn begins_blank(bytes: &[u8]) -> bool
     }
 }
 
-/// The bytes behind so many.
+/// The bytes after the first `count`.
 pub(crate) fn behind(bytes: &[u8], count: usize) -> &[u8]
     ensures { result.now ≡ drop count bytes.now }
 {
@@ -32,7 +32,7 @@ pub(crate) fn behind(bytes: &[u8], count: usize) -> &[u8]
     &bytes[count..]
 }
 
-/// How many blanks stand in front.
+/// The number of blanks at the front.
 fn blanks_in_front(bytes: &[u8]) -> usize
     ensures length { result ≡ prefix_len is_blank bytes.now }
     ensures within { result ≤ length bytes.now }
@@ -40,7 +40,7 @@ fn blanks_in_front(bytes: &[u8]) -> usize
     bytes.iter().take_while(|byte| is_blank(**byte)).count()
 }
 
-/// How many blanks stand at the end.
+/// The number of blanks at the end.
 fn blanks_at_end(bytes: &[u8]) -> usize
     ensures length { result ≡ suffix_len is_blank bytes.now }
     ensures within { result ≤ length bytes.now }
@@ -52,14 +52,14 @@ fn blanks_at_end(bytes: &[u8]) -> usize
         .count()
 }
 
-/// What stands behind the blanks in front.
+/// The bytes after the blanks at the front.
 pub(crate) fn behind_blanks(bytes: &[u8]) -> &[u8]
     ensures { result.now ≡ behind_blanks bytes.now }
 {
     &bytes[blanks_in_front(bytes)..]
 }
 
-/// What stands before the blanks at the end.
+/// The bytes before the blanks at the end.
 fn before_blanks(bytes: &[u8]) -> &[u8]
     ensures { result.now ≡ before_blanks bytes.now }
 {

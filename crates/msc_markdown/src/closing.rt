@@ -1,4 +1,4 @@
-//! What begins a block of Markdown behind the marks before it, and what ends it.
+//! The beginning of a block of Markdown, after the marks before it, and its end.
 
 ghost use Rattle.std.specs.Prelude.{◌≡◌, ◌≤◌, ◌&&◌, ◌==◌, length, nat_le};
 ghost use Rattle.std.specs.List.{list_any};
@@ -17,12 +17,12 @@ use crate::markup::{Shortcode, Tag, class_value, inside_of, is_class, is_named};
 use crate::seeking::Sought;
 use msc_mermaid::{are_spelled, begin_so, begins_word};
 
-/// What ends a block.
+/// The end of a block.
 #[derive(Clone, Copy, Debug, PartialEq, Eq)]
 pub(crate) enum Closing {
-    /// A line of so many backquotes, or more.
+    /// A line of at least this number of backquotes.
     Backquotes(usize),
-    /// A line of so many tildes, or more.
+    /// A line of at least this number of tildes.
     Tildes(usize),
     /// A line of three colons.
     Colons,
@@ -32,7 +32,7 @@ pub(crate) enum Closing {
     Short(Shortcode),
 }
 
-/// On how many lines behind one the block of a shortcode may end.
+/// The number of lines after a line on which the block of a shortcode may end.
 #[derive(Clone, Copy, Debug, PartialEq, Eq)]
 pub(crate) struct Ends {
     pub angle: usize,
@@ -40,7 +40,7 @@ pub(crate) struct Ends {
 }
 
 impl Ends {
-    /// For this shortcode.
+    /// The number for this shortcode.
     fn of(self, shortcode: Shortcode) -> usize
         ensures { result ≡ ends_of shortcode self }
     {
@@ -65,7 +65,7 @@ fn is_tilde(byte: u8) -> bool
     byte == b'~'
 }
 
-/// How many backquotes stand in front.
+/// The number of backquotes at the front.
 fn backquotes(bytes: &[u8]) -> usize
     ensures length { result ≡ backquotes bytes.now }
     ensures within { result ≤ length bytes.now }
@@ -73,7 +73,7 @@ fn backquotes(bytes: &[u8]) -> usize
     bytes.iter().take_while(|byte| is_backquote(**byte)).count()
 }
 
-/// How many tildes stand in front.
+/// The number of tildes at the front.
 fn tildes(bytes: &[u8]) -> usize
     ensures length { result ≡ tildes bytes.now }
     ensures within { result ≤ length bytes.now }
@@ -88,7 +88,7 @@ fn has_backquote(bytes: &[u8]) -> bool
     bytes.iter().any(|byte| is_backquote(*byte))
 }
 
-/// Whether a fence of backquotes stands here.
+/// Whether the bytes begin with a fence of backquotes.
 fn is_backquote_fence(bytes: &[u8]) -> bool
     ensures { result ≡ is_backquote_fence bytes.now }
 {
@@ -96,21 +96,21 @@ fn is_backquote_fence(bytes: &[u8]) -> bool
     count >= 3 && !has_backquote(behind(bytes, count))
 }
 
-/// Whether a directive stands here.
+/// Whether the bytes begin with a directive.
 fn is_directive(bytes: &[u8]) -> bool
     ensures { result ≡ is_directive bytes.now }
 {
     bytes.starts_with(b":::") && are_spelled(trimmed(behind(bytes, 3)), b"mermaid")
 }
 
-/// What stands behind the name of a shortcode.
+/// The bytes after the name of a shortcode.
 fn behind_name(bytes: &[u8]) -> &[u8]
     ensures { result.now ≡ behind_name bytes.now }
 {
     behind(behind_blanks(behind(bytes, 3)), 7)
 }
 
-/// Whether no slash stands at the end.
+/// Whether the bytes do not end with a slash.
 fn is_unclosed(bytes: &[u8]) -> bool
     ensures { result ≡ is_unclosed bytes.now }
 {
@@ -124,7 +124,7 @@ fn has_parameters(bytes: &[u8]) -> bool
     (bytes.len() == 0 || begins_blank(bytes)) && is_unclosed(bytes)
 }
 
-/// Whether a shortcode goes on so behind its name.
+/// Whether a shortcode with these bytes after its name begins a block.
 fn begins_shortcode_with(shortcode: Shortcode, ends: Ends, rest: &[u8]) -> bool
     ensures { result ≡ begins_shortcode_with shortcode ends rest.now }
 {
@@ -134,7 +134,7 @@ fn begins_shortcode_with(shortcode: Shortcode, ends: Ends, rest: &[u8]) -> bool
         && (ends.of(shortcode) > 0 || Sought::ShortcodeEnd(shortcode).holds(behind(rest, at + 3)))
 }
 
-/// Whether a shortcode of Hugo begins a block here.
+/// Whether the bytes begin with a shortcode of Hugo that begins a block.
 fn begins_shortcode(shortcode: Shortcode, ends: Ends, bytes: &[u8]) -> bool
     ensures { result ≡ begins_shortcode shortcode ends bytes.now }
 {
@@ -153,7 +153,7 @@ fn has_class(value: Option<&[u8]>) -> bool
     }
 }
 
-/// Whether the first `class` among these attributes has it.
+/// Whether the first `class` among these attributes has the class `mermaid`.
 fn are_attributes(bytes: &[u8]) -> bool
     ensures { result ≡ are_attributes bytes.now }
 {
@@ -161,7 +161,7 @@ fn are_attributes(bytes: &[u8]) -> bool
     begins_blank(bytes) && at < bytes.len() && has_class(class_value(&bytes[at..]))
 }
 
-/// Whether such attributes stand here before a `>`.
+/// Whether the bytes begin with such attributes and a `>`.
 fn has_attributes(bytes: &[u8]) -> bool
     ensures { result ≡ has_attributes bytes.now }
 {
@@ -169,14 +169,15 @@ fn has_attributes(bytes: &[u8]) -> bool
     count < bytes.len() && are_attributes(&bytes[..count])
 }
 
-/// Whether an element of HTML begins a block here.
+/// Whether the bytes begin with an element of HTML that begins a block.
 fn begins_tag(tag: Tag, bytes: &[u8]) -> bool
     ensures { result ≡ begins_tag tag bytes.now }
 {
     begin_so(bytes, tag.opening()) && has_attributes(behind(bytes, 4))
 }
 
-/// What ends the block that begins here, where so many ends of shortcodes follow on next lines.
+/// The end of the block that begins here, if this number of ends of shortcodes follow on later
+/// lines.
 #[tactic(auto, unfolding(crate::specs::Closings::closing_of))]
 pub(crate) fn closing_of(ends: Ends, bytes: &[u8]) -> Option<Closing>
     ensures { result ≡ closing_of ends bytes.now }
@@ -205,21 +206,21 @@ pub(crate) fn closing_of(ends: Ends, bytes: &[u8]) -> Option<Closing>
     None
 }
 
-/// Whether the word stands here, in any case, and no further byte of a word.
+/// Whether the bytes begin with the word, in any case, and no further byte of a word follows it.
 fn is_word(bytes: &[u8], word: &[u8]) -> bool
     ensures { result ≡ is_word bytes.now word.now }
 {
     begin_so(bytes, word) && !begins_word(behind(bytes, word.len()))
 }
 
-/// The same in this case.
+/// The same with this spelling.
 fn is_exactly(bytes: &[u8], word: &[u8]) -> bool
     ensures { result ≡ is_exactly bytes.now word.now }
 {
     bytes.starts_with(word) && !begins_word(behind(bytes, word.len()))
 }
 
-/// Whether the word of a language of diagrams stands here.
+/// Whether the bytes begin with the word of a language of diagrams.
 fn is_language(bytes: &[u8]) -> bool
     ensures { result ≡ is_language bytes.now }
 {
@@ -231,7 +232,7 @@ fn is_language(bytes: &[u8]) -> bool
         || is_exactly(bytes, b"mscgen")
 }
 
-/// Whether there are so many of the bytes that were counted, and no others.
+/// Whether there are at least `least` counted bytes, and no others.
 fn is_closed_by(count: usize, least: usize, length: usize) -> bool
     ensures { result ≡ (nat_le least length && count == length) }
 {
@@ -239,7 +240,7 @@ fn is_closed_by(count: usize, least: usize, length: usize) -> bool
 }
 
 impl Closing {
-    /// Whether the block that begins so is one of a diagram.
+    /// Whether the block with this beginning is one of a diagram.
     pub(crate) fn is_marked(self, bytes: &[u8]) -> bool
         ensures { result ≡ is_marked self bytes.now }
     {
@@ -263,7 +264,7 @@ impl Closing {
         }
     }
 
-    /// What stands on the line behind the beginning of the block, of which it is a part.
+    /// The bytes of the line after the beginning of the block, which are part of it.
     pub(crate) fn text_of(self, bytes: &[u8]) -> &[u8]
         ensures { result.now ≡ text_of self bytes.now }
     {
@@ -277,7 +278,7 @@ impl Closing {
         }
     }
 
-    /// Whether the line, of which this is what stands behind the marks before it, ends the block.
+    /// Whether the line with these bytes after the marks at its front ends the block.
     pub(crate) fn is_end(self, bytes: &[u8]) -> bool
         ensures { result ≡ is_end self bytes.now }
     {
@@ -296,7 +297,7 @@ impl Closing {
         }
     }
 
-    /// What of such a line belongs to the block.
+    /// The part of such a line that belongs to the block.
     pub(crate) fn before_end(self, bytes: &[u8]) -> &[u8]
         ensures { result.now ≡ before_end self bytes.now }
     {

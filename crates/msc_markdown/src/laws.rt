@@ -1,9 +1,10 @@
-//! Laws of Markdown, over the definitions alone. The functions do nothing when they run: a caller
-//! calls one to rest its own proof on the law.
+//! Laws of Markdown, over the definitions only. The functions do nothing when they run: a caller
+//! that needs a law calls its function.
 
 ghost use Rattle.msc_markdown.specs.Laws.{PartsAreOfTheirLines};
 
-/// What of a line belongs to a block stands together in the line, and has its number.
+/// The part of a line that belongs to a block is contiguous in the line, and has the number of the
+/// line.
 pub fn parts_are_of_their_lines()
     ensures { PartsAreOfTheirLines }
 {}

@@ -1,13 +1,15 @@
-//! The blocks of a text of Markdown, and which of them are sequence diagrams.
+//! The blocks of a text of Markdown, and those of them that are sequence diagrams.
 
-ghost use Rattle.std.specs.Prelude.{[], ◌≡◌, ◌++◌, ◌-◌, IfOk, None, OnOk, cond, count_by, drop, length, map, take};
+ghost use Rattle.std.specs.Prelude.{[], ◌≡◌, ◌++◌, ◌-◌, IfOk, None, OnOk, cond, count_by, drop};
+ghost use Rattle.std.specs.Prelude.{length, map, take};
 ghost use Rattle.std.specs.List.{list_any};
 ghost use Rattle.msc_mermaid.specs.Gives.{Gives};
 ghost use Rattle.msc_mermaid.specs.Mermaid.{is_head};
 ghost use Rattle.msc_mermaid.specs.Parts.{stretch};
 ghost use Rattle.msc_mermaid.specs.White.{trimmed};
 ghost use Rattle.msc_markdown.specs.Markdowns.{block_parts, first_parts};
-ghost use Rattle.msc_markdown.specs.Markdowns.{block_diagram, blocks_of, bytes_in, diagram_of_block};
+ghost use Rattle.msc_markdown.specs.Markdowns.{block_diagram, blocks_of, bytes_in};
+ghost use Rattle.msc_markdown.specs.Markdowns.{diagram_of_block};
 ghost use Rattle.msc_markdown.specs.Markdowns.{ends_in, entity_on, first_bytes, first_diagram};
 ghost use Rattle.msc_markdown.specs.Markdowns.{has_head, is_block, is_markup, is_none};
 ghost use Rattle.msc_markdown.specs.Markdowns.{is_sequence, is_sequence_by, look, markdown};
@@ -15,7 +17,7 @@ ghost use Rattle.msc_markdown.specs.Markdowns.{next_line, numbers_from, own_part
 ghost use Rattle.msc_markdown.specs.Markdowns.{said_by, start_at, starts_from};
 ghost use Rattle.msc_markdown.specs.Seeking.{holds};
 
-use crate::around::{Form, left_by};
+use crate::around::{BlockKind, left_by};
 use crate::closing::Ends;
 use crate::markup::Shortcode;
 use crate::seeking::Sought;
@@ -28,14 +30,14 @@ use msc_place::Position;
 use std::alloc::{AllocError, Global};
 use std::marker::Model;
 
-/// Where a block of a diagram starts: on which line, from 1, and in which form.
+/// The beginning of a block of a diagram: its line, from 1, and its form.
 #[derive(Clone, Copy, Debug, PartialEq, Eq)]
 pub struct Start {
     pub line: usize,
-    pub form: Form,
+    pub kind: BlockKind,
 }
 
-/// What of each line belongs to a block, and the blocks that start on the lines.
+/// The part of each line that belongs to a block, and the blocks that begin on the lines.
 #[derive(Drop)]
 struct Passed<'t> {
     parts: Vec<LinePart<'t>>,
@@ -49,14 +51,14 @@ fn has_end(shortcode: Shortcode, line: &[u8]) -> bool
     Sought::ShortcodeEnd(shortcode).holds(line)
 }
 
-/// On how many lines it may.
+/// The number of lines on which it may end.
 fn lines_with(shortcode: Shortcode, lines: &[&[u8]]) -> usize
     ensures { result ≡ count_by (λ l. holds (Sought.ShortcodeEnd shortcode) l.now) lines.now }
 {
     lines.iter().filter(|line| has_end(shortcode, line)).count()
 }
 
-/// So many, or one less.
+/// The count, or one less.
 fn less(count: usize, one: bool) -> usize
     ensures { result ≡ count - cond one 1 0 }
 {
@@ -64,7 +66,7 @@ fn less(count: usize, one: bool) -> usize
 }
 
 impl Ends {
-    /// On how many of these lines the block of a shortcode may end.
+    /// The numbers of these lines on which the block of a shortcode may end.
     fn on(lines: &[&[u8]]) -> Ends
         ensures { result ≡ ends_in (map (λ l. l.now) lines.now) }
     {
@@ -74,7 +76,7 @@ impl Ends {
         }
     }
 
-    /// Behind this line.
+    /// The numbers after this line.
     fn behind(self, line: &[u8]) -> Ends
         ensures angle { result.angle
             ≡ self.angle - cond (holds (Sought.ShortcodeEnd Shortcode.Angle) line.now) 1 0 }
@@ -88,12 +90,16 @@ impl Ends {
     }
 }
 
-/// Puts the start of a block on this line behind others.
-fn put_start(starts: &mut Vec<Start>, line: usize, form: Option<Form>) -> Result<(), AllocError>
-    ensures { OnOk result (starts.new.items ≡ starts.old.items ++ start_at line form []) }
+/// Appends the beginning of a block on this line to others.
+fn put_start(
+    starts: &mut Vec<Start>,
+    line: usize,
+    kind: Option<BlockKind>,
+) -> Result<(), AllocError>
+    ensures { OnOk result (starts.new.items ≡ starts.old.items ++ start_at line kind []) }
 {
-    if let Some(form) = form {
-        starts.push(Start { line, form })?;
+    if let Some(kind) = kind {
+        starts.push(Start { line, kind })?;
     }
     Ok(())
 }
@@ -120,21 +126,21 @@ fn pass<'t>(alloc: Global, lines: &[&'t [u8]]) -> Result<Passed<'t>, AllocError>
     Ok(Passed { parts, starts })
 }
 
-/// Whether the block is no single line outside of all blocks.
+/// Whether the block is not a single line outside of all blocks.
 fn is_block(start: Start) -> bool
     ensures { result ≡ is_block start }
 {
-    start.form != Form::Stray
+    start.kind != BlockKind::Stray
 }
 
-/// Whether one of these is.
+/// Whether one of these is such a block.
 fn has_block(starts: &[Start]) -> bool
     ensures { result ≡ list_any is_block starts.now }
 {
     starts.iter().any(|start| is_block(*start))
 }
 
-/// The blocks of diagrams among those that start on lines.
+/// The blocks of diagrams among those that begin on lines.
 fn blocks_of(alloc: Global, starts: Vec<Start>) -> Vec<Start>
     ensures { result.items ≡ blocks_of starts.items }
 {
@@ -145,7 +151,7 @@ fn blocks_of(alloc: Global, starts: Vec<Start>) -> Vec<Start>
     Vec::new(alloc)
 }
 
-/// The line on which the first of these blocks starts, and else this one.
+/// The line on which the first of these blocks begins, or this line if there is none.
 fn next_line(blocks: &[Start], last: usize) -> usize
     ensures { result ≡ next_line blocks.now last }
 {
@@ -155,7 +161,7 @@ fn next_line(blocks: &[Start], last: usize) -> usize
     }
 }
 
-/// The first parts, so many, or all of them.
+/// The first `count` parts, or all of them.
 fn first_parts<'p, 't>(parts: &'p [LinePart<'t>], count: usize) -> &'p [LinePart<'t>]
     ensures { result.now ≡ take count parts.now }
 {
@@ -166,7 +172,7 @@ fn first_parts<'p, 't>(parts: &'p [LinePart<'t>], count: usize) -> &'p [LinePart
     }
 }
 
-/// The parts behind so many.
+/// The parts after the first `count`.
 fn parts_behind<'p, 't>(parts: &'p [LinePart<'t>], count: usize) -> &'p [LinePart<'t>]
     ensures { result.now ≡ drop count parts.now }
 {
@@ -176,7 +182,7 @@ fn parts_behind<'p, 't>(parts: &'p [LinePart<'t>], count: usize) -> &'p [LinePar
     &parts[count..]
 }
 
-/// What belongs to a block before these others.
+/// The part that belongs to a block before these others.
 fn own_parts<'p, 't>(
     start: Start,
     others: &[Start],
@@ -189,7 +195,7 @@ fn own_parts<'p, 't>(
     first_parts(rest, past.saturating_sub(start.line))
 }
 
-/// What stands ahead behind these lines.
+/// The state after these lines.
 fn look(lines: &[&[u8]]) -> Ahead
     ensures { result ≡ look Ahead.Start (map (λ l. l.now) lines.now) }
 {
@@ -200,7 +206,7 @@ fn look(lines: &[&[u8]]) -> Ahead
     ahead
 }
 
-/// The same of parts of lines, by their bytes.
+/// The same for parts of lines, by their bytes.
 fn look_on(parts: &[LinePart<'_>]) -> Ahead
     ensures { result ≡ look Ahead.Start (map (λ p. p.bytes.now) parts.now) }
 {
@@ -211,28 +217,28 @@ fn look_on(parts: &[LinePart<'_>]) -> Ahead
     ahead
 }
 
-/// What stands ahead behind parts of lines.
+/// The state after parts of lines.
 fn look_at(parts: &[LinePart<'_>]) -> Ahead
     ensures { result ≡ look Ahead.Start (bytes_in (map stretch parts.now)) }
 {
     look_on(parts)
 }
 
-/// Whether the bytes of one of these parts have the word that a sequence diagram begins with.
+/// Whether the bytes of one of these parts have the word with which a sequence diagram begins.
 fn any_word(parts: &[LinePart<'_>]) -> bool
     ensures { result ≡ list_any (λ p. holds Sought.Diagram p.bytes.now) parts.now }
 {
     parts.iter().any(|part| Sought::Diagram.holds(part.bytes))
 }
 
-/// Whether the word stands in these parts that a sequence diagram begins with.
+/// Whether these parts have the word with which a sequence diagram begins.
 fn has_word(parts: &[LinePart<'_>]) -> bool
     ensures { result ≡ list_any (holds Sought.Diagram) (bytes_in (map stretch parts.now)) }
 {
     any_word(parts)
 }
 
-/// Whether these parts are a sequence diagram, by what stands ahead of them.
+/// Whether these parts are a sequence diagram, given the state after them.
 fn is_sequence_by(parts: &[LinePart<'_>], ahead: Ahead) -> bool
     ensures { result ≡ is_sequence_by (bytes_in (map stretch parts.now)) ahead }
 {
@@ -244,16 +250,16 @@ fn is_sequence_by(parts: &[LinePart<'_>], ahead: Ahead) -> bool
 }
 
 /// Whether a block of these parts is a sequence diagram.
-fn is_sequence(form: Form, parts: &[LinePart<'_>]) -> bool
-    ensures { result ≡ is_sequence form (bytes_in (map stretch parts.now)) }
+fn is_sequence(kind: BlockKind, parts: &[LinePart<'_>]) -> bool
+    ensures { result ≡ is_sequence kind (bytes_in (map stretch parts.now)) }
 {
-    match form {
-        Form::Stray => true,
-        Form::Fenced | Form::Markup => is_sequence_by(parts, look_at(parts)),
+    match kind {
+        BlockKind::Stray => true,
+        BlockKind::Fenced | BlockKind::Markup => is_sequence_by(parts, look_at(parts)),
     }
 }
 
-/// The blocks behind so many.
+/// The blocks after the first `count`.
 fn blocks_behind(blocks: &[Start], count: usize) -> &[Start]
     ensures { result.now ≡ drop count blocks.now }
 {
@@ -274,14 +280,14 @@ fn numbers_of(
     let mut numbers = Vec::new(alloc);
     for i in 0..blocks.len() {
         let own = own_parts(blocks[i], blocks_behind(blocks, i + 1), parts);
-        if is_sequence(blocks[i].form, own) {
+        if is_sequence(blocks[i].kind, own) {
             numbers.push(i + 1)?;
         }
     }
     Ok(numbers)
 }
 
-/// What a text holds: whether it is a sequence diagram as a whole, and its blocks of Markdown.
+/// The contents of a text: whether it is a sequence diagram as a whole, and its blocks of Markdown.
 /// Contracts see all of it.
 #[derive(Drop)]
 pub struct Markdown<'t> {
@@ -327,12 +333,12 @@ fn has_head(parts: &[LinePart<'_>]) -> bool
 }
 
 /// Whether a browser reads the block first.
-fn is_markup(form: Form) -> bool
-    ensures { result ≡ is_markup form }
+fn is_markup(kind: BlockKind) -> bool
+    ensures { result ≡ is_markup kind }
 {
-    match form {
-        Form::Markup => true,
-        Form::Fenced | Form::Stray => false,
+    match kind {
+        BlockKind::Markup => true,
+        BlockKind::Fenced | BlockKind::Stray => false,
     }
 }
 
@@ -346,7 +352,7 @@ fn first_bytes<'t>(parts: &[LinePart<'t>]) -> &'t [u8]
     }
 }
 
-/// The bytes of the first part behind so many.
+/// The bytes of the first part after the first `count`.
 fn bytes_behind<'t>(parts: &[LinePart<'t>], count: usize) -> &'t [u8]
     ensures { result.now ≡ first_bytes (drop count (map stretch parts.now)) }
 {
@@ -361,7 +367,7 @@ fn is_none(is_any: bool, parts: &[LinePart<'_>]) -> bool
 }
 
 impl<'t> Markdown<'t> {
-    /// What a text holds. An error is that it is too long, or want of memory.
+    /// The contents of a text. An error is that it is too long, or that memory ran out.
     #[tactic(auto, unfolding(crate::specs::Markdowns::markdown))]
     pub fn of(alloc: Global, text: &'t [u8]) -> Result<Markdown<'t>, ImportFault>
         ensures { Gives (λ m. m) result (markdown text.entry.now) }
@@ -400,21 +406,21 @@ impl<'t> Markdown<'t> {
         self.whole
     }
 
-    /// The blocks of diagrams, of which the first one has number 1.
+    /// The blocks of diagrams; the first has number 1.
     pub fn blocks(&self) -> &[Start]
         ensures { result.now ≡ self.now.blocks }
     {
         self.blocks.as_slice()
     }
 
-    /// The numbers of those that are sequence diagrams, in ascending order.
+    /// The numbers of the sequence diagrams among them, in ascending order.
     pub fn numbers(&self) -> &[usize]
         ensures { result.now ≡ self.now.numbers }
     {
         self.numbers.as_slice()
     }
 
-    /// What belongs to the first of these blocks, and nothing if there is none.
+    /// The parts that belong to the first of these blocks, or none if there is no block.
     fn first_parts(&self, blocks: &[Start]) -> &[LinePart<'t>]
         ensures { map stretch result.now ≡ first_parts blocks.now self.now.parts }
     {
@@ -424,8 +430,8 @@ impl<'t> Markdown<'t> {
         }
     }
 
-    /// What belongs to the block of a number, from 1, line by line; nothing, if there is no such
-    /// block. It takes no memory.
+    /// The parts that belong to the block of a number, from 1, line by line; none, if there is no
+    /// such block. It takes no memory.
     #[tactic(auto, unfolding(crate::specs::Markdowns::block_parts))]
     pub fn block_parts(&self, number: usize) -> &[LinePart<'t>]
         ensures { map stretch result.now ≡ block_parts number self.now }
@@ -471,10 +477,10 @@ impl<'t> Markdown<'t> {
         if !is_block(block) {
             return Err(ImportFault::Stray(first_place(alloc, parts, self.end)?));
         }
-        self.said(alloc, is_markup(block.form), is_any, cross, parts)
+        self.said(alloc, is_markup(block.kind), is_any, cross, parts)
     }
 
-    /// The diagram of the first of these blocks, of which it has this number.
+    /// The diagram of the first of these blocks, which has this number.
     fn first(
         &self,
         alloc: Global,
@@ -492,8 +498,8 @@ impl<'t> Markdown<'t> {
     }
 
     /// The diagram of the block of a number, from 1, or its first fault; that there is no such
-    /// block; or that it is a single line outside of all others. Where it may be of any language, a
-    /// block of which no line begins a diagram is one of none.
+    /// block; or that it is a single line outside of all others. If a block may be of any language
+    /// and no line of it begins a diagram, it is a diagram of none.
     #[tactic(auto, unfolding(crate::specs::Markdowns::diagram_of_block))]
     pub fn diagram(
         &self,
@@ -511,8 +517,8 @@ impl<'t> Markdown<'t> {
         self.first(alloc, is_any, cross, number, blocks)
     }
 
-    /// The first entity of HTML in what belongs to a block of the line of this number, from 1, or
-    /// nothing: the one that a fault speaks of. It takes no memory.
+    /// The first entity of HTML in the parts of the line of this number, from 1, that belong to a
+    /// block, or nothing: the entity of a fault. It takes no memory.
     pub fn entity(&self, line: usize) -> &'t [u8]
         ensures { result.now ≡ entity_on line self.entry.now }
     {

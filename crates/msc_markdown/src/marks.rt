@@ -1,4 +1,4 @@
-//! What may stand before a block on its line: blanks, marks of block quotes and of list items.
+//! The marks that may precede a block on its line: blanks, marks of block quotes and of list items.
 
 ghost use Rattle.std.specs.Prelude.{◌≡◌, ◌≤◌, ◌-◌, cond, length};
 ghost use Rattle.std.specs.Char.{is_ascii_digit};
@@ -23,7 +23,7 @@ fn is_quoted(byte: u8) -> bool
     is_blank(byte) || is_quote(byte)
 }
 
-/// Whether a blank or a mark of a block quote stands here.
+/// Whether the bytes begin with a blank or a mark of a block quote.
 fn begins_quoted(bytes: &[u8]) -> bool
     ensures { result ≡ begins is_quoted bytes.now }
 {
@@ -33,7 +33,7 @@ fn begins_quoted(bytes: &[u8]) -> bool
     }
 }
 
-/// Whether a mark of a list item without a number stands here.
+/// Whether the bytes begin with a mark of a list item without a number.
 fn begins_bullet(bytes: &[u8]) -> bool
     ensures { result ≡ begins is_bullet bytes.now }
 {
@@ -43,7 +43,7 @@ fn begins_bullet(bytes: &[u8]) -> bool
     }
 }
 
-/// Whether `.` or `)` stands here.
+/// Whether the bytes begin with `.` or `)`.
 fn begins_point(bytes: &[u8]) -> bool
     ensures { result ≡ begins is_point bytes.now }
 {
@@ -53,7 +53,7 @@ fn begins_point(bytes: &[u8]) -> bool
     }
 }
 
-/// How many digits stand here.
+/// The number of digits at the front.
 fn digits(bytes: &[u8]) -> usize
     ensures length { result ≡ digits bytes.now }
     ensures within { result ≤ length bytes.now }
@@ -64,7 +64,7 @@ fn digits(bytes: &[u8]) -> usize
         .count()
 }
 
-/// Whether a number of so many digits of a list item stands here.
+/// Whether a list item's number of `count` digits is at the front.
 fn is_number(count: usize, bytes: &[u8]) -> bool
     ensures { result ≡ is_number count bytes.now }
 {
@@ -74,7 +74,7 @@ fn is_number(count: usize, bytes: &[u8]) -> bool
         && begins_blank(behind(bytes, count + 1))
 }
 
-/// How many bytes the mark has that stands here; 0 if there is none.
+/// The number of bytes of the mark at the front; 0 if there is none.
 fn mark(bytes: &[u8]) -> usize
     ensures { result ≡ mark bytes.now }
 {
@@ -89,14 +89,14 @@ fn mark(bytes: &[u8]) -> usize
     }
 }
 
-/// How many bytes are left here of a mark, if so many are left of one that began before.
+/// The number of bytes left of a mark here, if `left` bytes are left of one that began before.
 fn ahead(left: usize, bytes: &[u8]) -> usize
     ensures { result ≡ ahead left bytes.now }
 {
     if left == 0 { mark(bytes) } else { left }
 }
 
-/// How many bytes of marks stand in front.
+/// The number of bytes of marks at the front.
 pub(crate) fn marks(bytes: &[u8]) -> usize
     ensures length { result ≡ marks 0 bytes.now }
     ensures within { result ≤ length bytes.now }
@@ -112,14 +112,14 @@ pub(crate) fn marks(bytes: &[u8]) -> usize
     bytes.len()
 }
 
-/// How many bytes are left behind this one, if so many are left at it.
+/// The number of bytes left after this one, if `here` are left at it.
 fn after(here: usize) -> usize
     ensures { result ≡ here - 1 }
 {
     if here == 0 { 0 } else { here - 1 }
 }
 
-/// How many marks of block quotes there are among these bytes.
+/// The number of marks of block quotes among these bytes.
 pub(crate) fn quotes(bytes: &[u8]) -> usize
     ensures value { result ≡ quotes bytes.now }
     ensures within { result ≤ length bytes.now }
@@ -127,7 +127,7 @@ pub(crate) fn quotes(bytes: &[u8]) -> usize
     bytes.iter().filter(|byte| is_quote(**byte)).count()
 }
 
-/// How many bytes of block quotes stand in front.
+/// The number of bytes of block quotes at the front.
 pub(crate) fn quoted_in_front(bytes: &[u8]) -> usize
     ensures length { result ≡ prefix_len is_quoted bytes.now }
     ensures within { result ≤ length bytes.now }
@@ -135,21 +135,21 @@ pub(crate) fn quoted_in_front(bytes: &[u8]) -> usize
     bytes.iter().take_while(|byte| is_quoted(**byte)).count()
 }
 
-/// How many marks of block quotes a line has before anything else.
+/// The number of marks of block quotes before anything else on a line.
 pub(crate) fn quotes_before(line: &[u8]) -> usize
     ensures { result ≡ quotes_before line.now }
 {
     quotes(&line[..quoted_in_front(line)])
 }
 
-/// How many marks are left behind this byte.
+/// The number of marks that are left after this byte.
 fn less(left: usize, byte: u8) -> usize
     ensures { result ≡ left - cond (is_quote byte) 1 0 }
 {
     if is_quote(byte) { after(left) } else { left }
 }
 
-/// How many bytes stand up to so many marks of block quotes, where these are in front.
+/// The number of bytes up to the `count`-th mark of a block quote, if these are at the front.
 pub(crate) fn quoted(count: usize, bytes: &[u8]) -> usize
     ensures length { result ≡ quoted count bytes.now }
     ensures within { result ≤ length bytes.now }

@@ -28,7 +28,7 @@ pub(crate) enum Tag {
     Div,
 }
 
-/// Whether the name of a shortcode stands here.
+/// Whether the bytes begin with the name of a shortcode.
 pub(crate) fn is_named(bytes: &[u8]) -> bool
     ensures { result ≡ is_named bytes.now }
 {
@@ -36,7 +36,7 @@ pub(crate) fn is_named(bytes: &[u8]) -> bool
 }
 
 impl Shortcode {
-    /// What it begins with.
+    /// Its beginning.
     pub(crate) fn opening(self) -> &'static [u8]
         ensures { result.now ≡ opening self }
     {
@@ -46,7 +46,7 @@ impl Shortcode {
         }
     }
 
-    /// What it ends with.
+    /// Its end.
     pub(crate) fn ending(self) -> &'static [u8]
         ensures { result.now ≡ ending self }
     {
@@ -56,21 +56,21 @@ impl Shortcode {
         }
     }
 
-    /// Whether the end of its block stands here, from the name on.
+    /// Whether the bytes begin with the end of its block, from the name on.
     fn ends_name(self, bytes: &[u8]) -> bool
         ensures { result ≡ ends_name self bytes.now }
     {
         is_named(bytes) && behind_blanks(behind(bytes, 7)).starts_with(self.ending())
     }
 
-    /// Whether the end of its block stands here, from the slash on.
+    /// Whether the bytes begin with the end of its block, from the slash on.
     fn ends_slash(self, bytes: &[u8]) -> bool
         ensures { result ≡ ends_slash self bytes.now }
     {
         bytes.starts_with(b"/") && self.ends_name(behind_blanks(behind(bytes, 1)))
     }
 
-    /// Whether the end of its block stands here.
+    /// Whether the bytes begin with the end of its block.
     pub(crate) fn ends(self, bytes: &[u8]) -> bool
         ensures { result ≡ ends_shortcode self bytes.now }
     {
@@ -79,7 +79,7 @@ impl Shortcode {
 }
 
 impl Tag {
-    /// What it begins with.
+    /// Its beginning.
     pub(crate) fn opening(self) -> &'static [u8]
         ensures { result.now ≡ tag_opening self }
     {
@@ -89,7 +89,7 @@ impl Tag {
         }
     }
 
-    /// What it ends with.
+    /// Its end.
     pub(crate) fn ending(self) -> &'static [u8]
         ensures { result.now ≡ tag_ending self }
     {
@@ -100,7 +100,7 @@ impl Tag {
     }
 }
 
-/// How many bytes stand before the first `>`, and else all of them.
+/// The number of bytes before the first `>`, or of all bytes if there is none.
 pub(crate) fn inside_of(bytes: &[u8]) -> usize
     ensures length { result ≡ prefix_len is_inside bytes.now }
     ensures within { result ≤ length bytes.now }
@@ -108,7 +108,7 @@ pub(crate) fn inside_of(bytes: &[u8]) -> usize
     bytes.iter().take_while(|byte| **byte != b'>').count()
 }
 
-/// How many bytes stand before the first one that is this mark, and else all of them.
+/// The number of bytes before the first one that is this mark, or of all bytes if there is none.
 fn before_mark(mark: u8, bytes: &[u8]) -> usize
     ensures length { result ≡ prefix_len (is_not mark) bytes.now }
     ensures within { result ≤ length bytes.now }
@@ -135,7 +135,7 @@ fn is_plain(byte: u8) -> bool
     !(is_blank(byte) || byte == b'"' || byte == b'\'')
 }
 
-/// How many such bytes stand here.
+/// The number of such bytes at the front.
 fn plain(bytes: &[u8]) -> usize
     ensures length { result ≡ prefix_len is_plain bytes.now }
     ensures within { result ≤ length bytes.now }
@@ -155,7 +155,7 @@ fn plain_value(bytes: &[u8]) -> Option<&[u8]>
     }
 }
 
-/// The value that stands here.
+/// The value at the front.
 fn value_of(bytes: &[u8]) -> Option<&[u8]>
     ensures { option_copied result ≡ value_of bytes.now }
 {
@@ -168,7 +168,7 @@ fn value_of(bytes: &[u8]) -> Option<&[u8]>
     plain_value(bytes)
 }
 
-/// The value that stands here behind `=`.
+/// The value after `=` at the front.
 fn given_value(bytes: &[u8]) -> Option<&[u8]>
     ensures { option_copied result ≡ given_value bytes.now }
 {
@@ -178,7 +178,7 @@ fn given_value(bytes: &[u8]) -> Option<&[u8]>
     None
 }
 
-/// The value of an attribute `class` that stands here, behind a blank.
+/// The value of the attribute `class` that follows a blank at the front.
 pub(crate) fn class_value(bytes: &[u8]) -> Option<&[u8]>
     ensures { option_copied result ≡ class_value bytes.now }
 {
@@ -188,7 +188,7 @@ pub(crate) fn class_value(bytes: &[u8]) -> Option<&[u8]>
     None
 }
 
-/// Whether the class `mermaid` stands here.
+/// Whether the bytes begin with the class `mermaid`.
 pub(crate) fn is_class(bytes: &[u8]) -> bool
     ensures { result ≡ is_class bytes.now }
 {
@@ -196,7 +196,7 @@ pub(crate) fn is_class(bytes: &[u8]) -> bool
         && ((bytes.len() > 7 && begins_blank(behind(bytes, 7))) || bytes.len() == 7)
 }
 
-/// Whether it stands here behind a blank.
+/// Whether the bytes begin with a blank and this class.
 pub(crate) fn is_further_class(bytes: &[u8]) -> bool
     ensures { result ≡ is_further_class bytes.now }
 {

@@ -1,4 +1,4 @@
-//! The first place of a line at which something stands.
+//! The first place of a line at which something is found.
 
 ghost use Rattle.std.specs.Prelude.{◌≡◌, ◌≤◌, length};
 ghost use Rattle.msc_markdown.specs.Seeking.{before, holds, is_here};
@@ -6,25 +6,25 @@ ghost use Rattle.msc_markdown.specs.Seeking.{before, holds, is_here};
 use crate::markup::{Shortcode, Tag, class_value, is_further_class};
 use msc_mermaid::begin_so;
 
-/// What is sought.
+/// The part that is searched.
 #[derive(Clone, Copy)]
 pub(crate) enum Sought {
-    /// What a shortcode ends with.
+    /// The end of a shortcode.
     Ending(Shortcode),
     /// The end of the block of a shortcode.
     ShortcodeEnd(Shortcode),
     /// The end of an element.
     TagEnd(Tag),
-    /// An attribute `class` behind a blank.
+    /// An attribute `class` after a blank.
     Class,
-    /// The class `mermaid` behind a blank.
+    /// The class `mermaid` after a blank.
     FurtherClass,
-    /// The word that a sequence diagram begins with.
+    /// The word with which a sequence diagram begins.
     Diagram,
 }
 
 impl Sought {
-    /// Whether it stands here.
+    /// Whether the bytes begin with it.
     fn is_here(self, bytes: &[u8]) -> bool
         ensures { result ≡ is_here self bytes.now }
     {
@@ -38,7 +38,8 @@ impl Sought {
         }
     }
 
-    /// How many bytes stand before the first place at which it stands, and else all of them.
+    /// The number of bytes before the first place at which it is found, or of all bytes if there is
+    /// none.
     pub(crate) fn before(self, bytes: &[u8]) -> usize
         ensures value { result ≡ before self bytes.now }
         ensures within { result ≤ length bytes.now }
@@ -51,7 +52,7 @@ impl Sought {
         bytes.len()
     }
 
-    /// Whether it stands in the bytes.
+    /// Whether the bytes have it.
     pub(crate) fn holds(self, bytes: &[u8]) -> bool
         ensures { result ≡ holds self bytes.now }
     {

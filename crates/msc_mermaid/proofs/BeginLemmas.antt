@@ -8,7 +8,7 @@ use Rattle.msc_mermaid.specs.declared.fault.Expectation.TheVariants as expectati
 use Rattle.msc_mermaid.specs.declared.progress.Inside.{Inside}
 use Rattle.msc_mermaid.specs.declared.progress.Inside.TheVariants as inside
 use Rattle.msc_mermaid.specs.declared.progress.Progress.{Progress}
-use Rattle.msc_mermaid.specs.declared.reading.Spot.{Spot}
+use Rattle.msc_mermaid.specs.declared.reading.StatementStart.{StatementStart}
 use Rattle.msc_mermaid.specs.declared.statement.Cross.{Cross}
 use Rattle.msc_mermaid.specs.declared.statement.Diagram.{Diagram}
 use Rattle.msc_mermaid.specs.declared.statement.Placed.{Placed}
@@ -21,7 +21,8 @@ use Rattle.msc_mermaid.specs.Outlines.{finished, span_of}
 use Rattle.msc_mermaid.specs.Reading.{Read, noted, read_one, told}
 use Rattle.msc_mermaid.specs.Saying.{said_at}
 use Rattle.msc_mermaid.proofs.SpotLemmas.{Lined, steps_fine}
-use Rattle.msc_mermaid.proofs.StepLemmas.{bound, noted_by}
+use Rattle.msc_mermaid.proofs.StepLemmas.{noted_by}
+use Rattle.msc_mermaid.proofs.SpellLemmas.{bound}
 
 -- one more of which it holds
 all_more : (P : Placed → Type 0) (ps : List Placed) (p : Placed) → AllByRecursion P ps → P p → AllByRecursion P (ps ++ p ∷ [])
@@ -60,7 +61,7 @@ told_said r d e =
     ap (λ (x : Diagram). x.statements) same
 
 -- a place of a text at which a statement may begin
-record IsSpot (text : List ℕ) (spot : Spot) : Type 0 where
+record IsStatementStart (text : List ℕ) (spot : StatementStart) : Type 0 where
   at : ℕ
   column : spot.here.column ≡ column_behind (take at (line_on (lines_of text) spot.here.line))
   first : spot.first ≡ further (start_on (starts_of text) spot.here.line) at
@@ -69,7 +70,7 @@ module _ (text : List ℕ) where
   abbrev AllBegin : Read → Type 0
   AllBegin r = AllByRecursion (BeginsAtItsPlace text) r.said
 
-  one_begins : (cross : Option Cross) (spot : Spot) (bytes : List ℕ) (r q : Read) → IsSpot text spot → AllBegin r → read_one cross spot bytes r ≡ Ok q → AllBegin q
+  one_begins : (cross : Option Cross) (spot : StatementStart) (bytes : List ℕ) (r q : Read) → IsStatementStart text spot → AllBegin r → read_one cross spot bytes r ≡ Ok q → AllBegin q
   unfolding read_one
   one_begins cross spot bytes r q given read e =
       let whole : Span = span_of spot.first (length bytes) in
@@ -77,7 +78,7 @@ module _ (text : List ℕ) where
       noted_by AllBegin r spot.here whole q read (λ names. read)
       (λ s name tail o laid'. all_more (BeginsAtItsPlace text) r.said _ read (record { at = given.at; column = given.column; first = given.first })) b.0 b.2
 
-  lined : (front ls : List (List ℕ)) → front ++ ls ≡ lines_of text → Lined AllBegin (IsSpot text) one_begins (starts_of text) ls (length front + 1)
+  lined : (front ls : List (List ℕ)) → front ++ ls ≡ lines_of text → Lined AllBegin (IsStatementStart text) one_begins (starts_of text) ls (length front + 1)
   lined front [] is = tt
   lined front (l ∷ ls) is =
       let place : length front + 1 - 1 ≡ length front = omega arith in
@@ -85,7 +86,7 @@ module _ (text : List ℕ) where
       let longer : (front ++ l ∷ []) ++ ls ≡ lines_of text = append_assoc front (l ∷ []) ls ∙ is in
       let many : length (front ++ l ∷ []) ≡ length front + 1 = length-append front (l ∷ []) in (
         λ k. record { at = k; column = ap (λ (x : List ℕ). column_behind (take k x)) (sym here); first = refl },
-        subst (λ (n : ℕ). Lined AllBegin (IsSpot text) one_begins (starts_of text) ls (n + 1)) many (lined (front ++ l ∷ []) ls longer),
+        subst (λ (n : ℕ). Lined AllBegin (IsStatementStart text) one_begins (starts_of text) ls (n + 1)) many (lined (front ++ l ∷ []) ls longer),
       )
 
   pub statements_begin : (cross : Option Cross) (d : Diagram) → mermaid cross text ≡ Ok d → AllByRecursion (BeginsAtItsPlace text) d.statements
@@ -95,7 +96,7 @@ module _ (text : List ℕ) where
       read : said_in cross (starts_of text) (lines_of text) ≡ Ok d → AllByRecursion (BeginsAtItsPlace text) d.statements
       read f =
           let b = bound (steps cross (starts_of text) 1 (lines_of text) unread) (λ p. ended_in (end_of (lines_of text)) p p.inside) d f in
-          let all = steps_fine AllBegin (IsSpot text) one_begins cross (starts_of text) (lines_of text) 1 unread b.0 (lined [] (lines_of text) refl) tt tt b.1 in
+          let all = steps_fine AllBegin (IsStatementStart text) one_begins cross (starts_of text) (lines_of text) 1 unread b.0 (lined [] (lines_of text) refl) tt tt b.1 in
           let said = told_said b.0.reader d (ended_told (end_of (lines_of text)) b.0 b.0.inside d b.2) in
           subst (AllByRecursion (BeginsAtItsPlace text)) said all
 

@@ -6,7 +6,7 @@ use Rattle.msc_mermaid.specs.declared.progress.Progress.{Progress}
 use Rattle.msc_mermaid.specs.declared.statement.Cross.{Cross}
 use Rattle.msc_mermaid.specs.Cutting.{room}
 use Rattle.msc_mermaid.specs.Gives.{◌>>=◌, Fails}
-use Rattle.msc_mermaid.specs.declared.reading.Spot.{Spot}
+use Rattle.msc_mermaid.specs.declared.reading.StatementStart.{StatementStart}
 use Rattle.msc_mermaid.specs.Lines.{column_behind, further}
 use Rattle.msc_mermaid.specs.Mermaid.{read_piece, read_pieces, spot_behind}
 use Rattle.msc_mermaid.specs.White.{front}
@@ -16,7 +16,7 @@ pub bind_fails : {A B : Type 0} (e : ImportFault) (r : Result A ImportFault) (f 
 bind_fails e r f h = ⊎_elim (λ m. inl m) (λ q. inr (ap (λ x. x >>= f) q)) h
 
 -- where a piece begins
-pub spot_is : (start line : ℕ) (bytes : List ℕ) (at column first : ℕ) → column ≡ column_behind (take at bytes) → first ≡ further start at → ◌≡◌ {A = Spot} (record { here = record { line = line; column = column }; first = first }) (spot_behind start line bytes at)
+pub spot_is : (start line : ℕ) (bytes : List ℕ) (at column first : ℕ) → column ≡ column_behind (take at bytes) → first ≡ further start at → ◌≡◌ {A = StatementStart} (record { here = record { line = line; column = column }; first = first }) (spot_behind start line bytes at)
 spot_is start line bytes at column first c f = rw (c, f) refl
 
 pieces_cons : (cross : Option Cross) (line : ℕ) (bytes : List ℕ) (at : ℕ) (x : List ℕ) (xs : List (List ℕ)) (p : Progress) → read_pieces cross line bytes at (x ∷ xs) p ≡ (read_piece cross bytes (spot_behind p.start line bytes (at + front 0 x)) (drop at bytes) x p >>= (λ q. read_pieces cross line bytes (at + (length x + 1)) xs q))
@@ -41,7 +41,7 @@ module _ {X : Type 0} (f : X → List ℕ) (qs : List X) (i : ℕ) (d : X) (insi
   pub next_room : room (map f (drop i qs)) ≡ length (f (get_or qs i d)) + 1 + room (map f (drop (i + 1) qs))
   next_room = ap room next_piece ∙ room_cons (f (get_or qs i d)) (map f (drop (i + 1) qs))
 
-  module _ (cross : Option Cross) (line : ℕ) (bytes : List ℕ) (at : ℕ) (p : Progress) (spot : Spot) (rest : List ℕ) (spot_is : spot ≡ spot_behind p.start line bytes (at + front 0 (f (get_or qs i d)))) (rest_is : rest ≡ drop at bytes) where
+  module _ (cross : Option Cross) (line : ℕ) (bytes : List ℕ) (at : ℕ) (p : Progress) (spot : StatementStart) (rest : List ℕ) (spot_is : spot ≡ spot_behind p.start line bytes (at + front 0 (f (get_or qs i d)))) (rest_is : rest ≡ drop at bytes) where
     -- the other pieces
     abbrev others : Progress → Result Progress ImportFault
     others q = read_pieces cross line bytes (at + (length (f (get_or qs i d)) + 1)) (map f (drop (i + 1) qs)) q

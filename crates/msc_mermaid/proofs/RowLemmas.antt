@@ -9,15 +9,15 @@ use Rattle.msc_mermaid.specs.Patterns.{behind, fits, parts_of, or_next, first_fi
 use Rattle.msc_mermaid.specs.Seeking.{is_here, before}
 
 -- what is sought stands at the front, or further on
-before_none : (s : Sought) (b : ℕ) (bs : List ℕ) → is_here s (b ∷ bs) ≡ true → before s (b ∷ bs) ≡ 0
+pub before_none : (s : Sought) (b : ℕ) (bs : List ℕ) → is_here s (b ∷ bs) ≡ true → before s (b ∷ bs) ≡ 0
 unfolding before
 before_none s b bs here = ap (λ t. cond t 0 (1 + before s bs)) here
 
-before_one : (s : Sought) (b : ℕ) (bs : List ℕ) → is_here s (b ∷ bs) ≡ false → before s (b ∷ bs) ≡ 1 + before s bs
+pub before_one : (s : Sought) (b : ℕ) (bs : List ℕ) → is_here s (b ∷ bs) ≡ false → before s (b ∷ bs) ≡ 1 + before s bs
 unfolding before
 before_one s b bs other = ap (λ t. cond t 0 (1 + before s bs)) other
 
-before_nothing : (s : Sought) → before s [] ≡ 0
+pub before_nothing : (s : Sought) → before s [] ≡ 0
 unfolding before
 before_nothing s = refl
 

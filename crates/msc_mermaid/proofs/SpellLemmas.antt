@@ -34,7 +34,7 @@ record IsFront (bytes xs : List ℕ) : Type 0 where
   count : ℕ
   is : xs ≡ take count bytes
 
-drop_none : (k : ℕ) → drop {A = ℕ} k [] ≡ []
+pub drop_none : (k : ℕ) → drop {A = ℕ} k [] ≡ []
 drop_none zero = refl
 drop_none (suc k) = refl
 
@@ -44,7 +44,7 @@ drop_short zero (x ∷ xs) = omega arith
 drop_short (suc k) [] = omega arith
 drop_short (suc k) (x ∷ xs) = let r = drop_short k xs in omega (arith, r)
 
-drop_twice : (m k : ℕ) (xs : List ℕ) → drop k (drop m xs) ≡ drop (m + k) xs
+pub drop_twice : (m k : ℕ) (xs : List ℕ) → drop k (drop m xs) ≡ drop (m + k) xs
 drop_twice zero k xs = let same : k ≡ 0 + k = omega arith in ap (λ n. drop n xs) same
 drop_twice (suc m) k [] = drop_none k ∙ sym (drop_none (suc m + k))
 drop_twice (suc m) k (x ∷ xs) =
@@ -137,7 +137,7 @@ shown_stands bytes xs e =
     ∙ ap without_entities (take_back (body 0 rest) rest)
 
 -- what follows a value is answered where both are
-bound : {A B : Type 0} (r : Result A ImportFault) (f : A → Result B ImportFault) (y : B) → (r >>= f) ≡ Ok y → (x : A) × (r ≡ Ok x) × (f x ≡ Ok y)
+pub bound : {A B : Type 0} (r : Result A ImportFault) (f : A → Result B ImportFault) (y : B) → (r >>= f) ≡ Ok y → (x : A) × (r ≡ Ok x) × (f x ≡ Ok y)
 bound (Ok x) f y e = (x, refl, e)
 bound (Err g) f y e = cc
 

@@ -1,4 +1,5 @@
--- Where statements begin: what holds of each place at which one may begin holds of those that are read.
+-- Where statements begin: what holds of each place at which one may begin holds of those that are
+-- read.
 use Rattle.std.proofs.Common.{◌≡◌, ℕ, ◌+◌, Bool, true, false, cond, ◌&&◌, length, take, drop, sym, List, [], ◌∷◌, Option, None, Some, Result, Ok, refl, subst}
 use Rattle.msc_mermaid.specs.declared.fault.ImportFault.{ImportFault}
 use Rattle.msc_mermaid.specs.declared.key.Mark.{Mark}
@@ -7,10 +8,10 @@ use Rattle.msc_mermaid.specs.declared.pattern.Pattern.TheVariants as patterns
 use Rattle.msc_mermaid.specs.declared.progress.Inside.{Inside}
 use Rattle.msc_mermaid.specs.declared.progress.Inside.TheVariants as inside
 use Rattle.msc_mermaid.specs.declared.progress.Progress.{Progress}
-use Rattle.msc_mermaid.specs.declared.reading.Spot.{Spot}
+use Rattle.msc_mermaid.specs.declared.reading.StatementStart.{StatementStart}
 use Rattle.msc_mermaid.specs.declared.seeking.Sought.TheVariants as sought
-use Rattle.msc_mermaid.specs.declared.shape.Shape.{Shape}
-use Rattle.msc_mermaid.specs.declared.shape.Shape.TheVariants as shapes
+use Rattle.msc_mermaid.specs.declared.line_kind.LineKind.{LineKind}
+use Rattle.msc_mermaid.specs.declared.line_kind.LineKind.TheVariants as line_kinds
 use Rattle.msc_mermaid.specs.declared.statement.Cross.{Cross}
 use Rattle.msc_place.specs.declared.position.Position.{Position}
 use Rattle.msc_mermaid.specs.Cutting.{cut}
@@ -21,13 +22,13 @@ use Rattle.msc_mermaid.specs.Patterns.{first_fit, is_empty}
 use Rattle.msc_mermaid.specs.Saying.{is_unended}
 use Rattle.msc_mermaid.specs.Seeking.{before, holds}
 use Rattle.msc_mermaid.specs.White.{behind_white, front, trimmed}
-use Rattle.msc_mermaid.specs.Mermaid.{behind_head, body, body_as, closed, commented, config_end, configured_as, described_as, ended_on, first_line, goes_on, gone_on, head_as, is_commented, is_front, is_last, left_out, now_at, now_in, outside, piece_as, piece_by, piece_said, put_off, put_off_said, read_piece, read_pieces, said_on, shape_of, spot_behind, stated, statement, step, step_in, steps, text_within, titled, undirected}
+use Rattle.msc_mermaid.specs.Mermaid.{behind_head, body, body_as, closed, commented, config_end, configured_as, described_as, ended_on, first_line, goes_on, gone_on, head_as, is_commented, is_front, is_last, left_out, now_at, now_in, outside, piece_as, piece_by, piece_said, put_off, put_off_said, read_piece, read_pieces, said_on, line_kind_of, spot_behind, stated, statement, step, step_in, steps, text_within, titled, undirected}
 use Rattle.msc_mermaid.specs.Reading.{Read, read_one}
-use Rattle.msc_mermaid.proofs.StepLemmas.{bound}
+use Rattle.msc_mermaid.proofs.SpellLemmas.{bound}
 
-module _ (R : Read → Type 0) (S : Spot → Type 0) (one : (cross : Option Cross) (spot : Spot) (bytes : List ℕ) (r q : Read) → S spot → R r → read_one cross spot bytes r ≡ Ok q → R q) where
+module _ (R : Read → Type 0) (S : StatementStart → Type 0) (one : (cross : Option Cross) (spot : StatementStart) (bytes : List ℕ) (r q : Read) → S spot → R r → read_one cross spot bytes r ≡ Ok q → R q) where
   -- a statement that waits for further lines has begun at such a place
-  abbrev pub Waits : Inside → Spot → Type 0
+  abbrev pub Waits : Inside → StatementStart → Type 0
   Waits inside.Start spot = Unit {0}
   Waits inside.Nothing spot = Unit {0}
   Waits inside.Front spot = Unit {0}
@@ -36,7 +37,7 @@ module _ (R : Read → Type 0) (S : Spot → Type 0) (one : (cross : Option Cros
   Waits inside.Configuration spot = S spot
   Waits inside.Rest spot = Unit {0}
 
-  either : (b : Bool) (x y : Inside) (spot : Spot) → Waits x spot → Waits y spot → Waits (cond b x y) spot
+  either : (b : Bool) (x y : Inside) (spot : StatementStart) → Waits x spot → Waits y spot → Waits (cond b x y) spot
   either true x y spot h k = h
   either false x y spot h k = k
 
@@ -65,13 +66,13 @@ module _ (R : Read → Type 0) (S : Spot → Type 0) (one : (cross : Option Cros
     commented_fine : (line : ℕ) (whole bytes : List ℕ) (p q : Progress) → commented line whole bytes p ≡ Ok q → Fine start p → Fine start q
     commented_fine line whole bytes p q e f = unless_fine start _ _ p q e f
 
-    stated_fine : (cross : Option Cross) (spot : Spot) (bytes : List ℕ) (part : Inside) (p q : Progress) → S spot → Waits part p.waiting.spot → stated cross spot bytes part p ≡ Ok q → Fine start p → Fine start q
+    stated_fine : (cross : Option Cross) (spot : StatementStart) (bytes : List ℕ) (part : Inside) (p q : Progress) → S spot → Waits part p.waiting.spot → stated cross spot bytes part p ≡ Ok q → Fine start p → Fine start q
     unfolding stated
     stated_fine cross spot bytes part p q given w e f =
         let b = bound (read_one cross spot bytes p.reader) _ q e in
         same start (record { start = p.start; inside = part; begun = p.begun; reader = b.0; waiting = p.waiting }) q b.2 (one cross spot bytes p.reader b.0 given f.0 b.1, w, f.2)
 
-    statement_fine : (cross : Option Cross) (spot : Spot) (bytes : List ℕ) (p q : Progress) → S spot → statement cross spot bytes p ≡ Ok q → Fine start p → Fine start q
+    statement_fine : (cross : Option Cross) (spot : StatementStart) (bytes : List ℕ) (p q : Progress) → S spot → statement cross spot bytes p ≡ Ok q → Fine start p → Fine start q
     unfolding statement
     statement_fine cross spot bytes p q given e f = by (is_commented bytes) e
       where
@@ -79,7 +80,7 @@ module _ (R : Read → Type 0) (S : Spot → Type 0) (one : (cross : Option Cros
         by true e = stated_fine cross spot (trimmed (take (before (sought.Text marks.Comment) bytes) bytes)) inside.Rest p q given tt e f
         by false e = stated_fine cross spot bytes p.inside p q given f.1 e f
 
-    piece_said_fine : (cross : Option Cross) (spot : Spot) (rest piece : List ℕ) (p q : Progress) → S spot → piece_said cross spot rest piece p ≡ Ok q → Fine start p → Fine start q
+    piece_said_fine : (cross : Option Cross) (spot : StatementStart) (rest piece : List ℕ) (p q : Progress) → S spot → piece_said cross spot rest piece p ≡ Ok q → Fine start p → Fine start q
     unfolding piece_said
     piece_said_fine cross spot rest piece p q given e f = by (is_last rest piece && is_unended (trimmed piece)) e
       where
@@ -87,7 +88,7 @@ module _ (R : Read → Type 0) (S : Spot → Type 0) (one : (cross : Option Cros
         by true e = same start (put_off spot (trimmed piece) p) q e (f.0, given, f.2)
         by false e = statement_fine cross spot (trimmed piece) p q given e f
 
-    as_fine : (cross : Option Cross) (whole : List ℕ) (spot : Spot) (rest piece : List ℕ) (p q : Progress) (o : Option (List ℕ)) → S spot → piece_as cross whole spot rest piece p o ≡ Ok q → Fine start p → Fine start q
+    as_fine : (cross : Option Cross) (whole : List ℕ) (spot : StatementStart) (rest piece : List ℕ) (p q : Progress) (o : Option (List ℕ)) → S spot → piece_as cross whole spot rest piece p o ≡ Ok q → Fine start p → Fine start q
     as_fine cross whole spot rest piece p q (Some text) given e f =
         left_fine spot.here.line whole inside.Description marks.DescriptionEnd text p q tt e f
     as_fine cross whole spot rest piece p q None given e f = by (begin_so rest (mark_text marks.Comment)) e
@@ -96,12 +97,12 @@ module _ (R : Read → Type 0) (S : Spot → Type 0) (one : (cross : Option Cros
         by true e = same start (now_in inside.Rest p) q e (f.0, tt, f.2)
         by false e = piece_said_fine cross spot rest piece p q given e f
 
-    by_fine : (cross : Option Cross) (whole : List ℕ) (spot : Spot) (rest piece : List ℕ) (p q : Progress) (o : Option (List ℕ)) → S spot → piece_by cross whole spot rest piece p o ≡ Ok q → Fine start p → Fine start q
+    by_fine : (cross : Option Cross) (whole : List ℕ) (spot : StatementStart) (rest piece : List ℕ) (p q : Progress) (o : Option (List ℕ)) → S spot → piece_by cross whole spot rest piece p o ≡ Ok q → Fine start p → Fine start q
     by_fine cross whole spot rest piece p q (Some text) given e f = titled_fine spot.here text p q e f
     by_fine cross whole spot rest piece p q None given e f =
         as_fine cross whole spot rest piece p q (first_fit (patterns.AccBlock ∷ []) rest) given e f
 
-    piece_fine : (cross : Option Cross) (whole : List ℕ) (spot : Spot) (rest piece : List ℕ) (p q : Progress) → S spot → read_piece cross whole spot rest piece p ≡ Ok q → Fine start p → Fine start q
+    piece_fine : (cross : Option Cross) (whole : List ℕ) (spot : StatementStart) (rest piece : List ℕ) (p q : Progress) → S spot → read_piece cross whole spot rest piece p ≡ Ok q → Fine start p → Fine start q
     unfolding read_piece
     piece_fine cross whole spot rest piece p q given e f = by (goes_on p.inside) e
       where
@@ -118,7 +119,7 @@ module _ (R : Read → Type 0) (S : Spot → Type 0) (one : (cross : Option Cros
       unfolding read_pieces
       pieces_fine at [] p q e f = same start p q e f
       pieces_fine at (x ∷ xs) p q e f =
-          let spot : Spot = spot_behind p.start line l (at + front 0 x) in
+          let spot : StatementStart = spot_behind p.start line l (at + front 0 x) in
           let given : S spot = subst (λ (n : ℕ). S (spot_behind n line l (at + front 0 x))) (sym f.2) (here (at + front 0 x)) in
           let b = bound (read_piece cross l spot (drop at l) x p) (λ (v : Progress). read_pieces cross line l (at + (length x + 1)) xs v) q e in
           pieces_fine (at + (length x + 1)) xs b.0 q b.2 (piece_fine cross l spot (drop at l) x p b.0 given b.1 f)
@@ -129,32 +130,32 @@ module _ (R : Read → Type 0) (S : Spot → Type 0) (one : (cross : Option Cros
           let b = bound (undirected line l (drop at l)) _ q e in
           pieces_fine at (cut (drop at l)) p q b.2 f
 
-      body_as_fine : (at : ℕ) (p q : Progress) (s : Shape) → body_as cross line l at p s ≡ Ok q → Fine start p → Fine start q
+      body_as_fine : (at : ℕ) (p q : Progress) (s : LineKind) → body_as cross line l at p s ≡ Ok q → Fine start p → Fine start q
       unfolding body_as
-      body_as_fine at p q shapes.Nothing e f = same start p q e f
-      body_as_fine at p q shapes.Directive e f = left_fine line l inside.Directive marks.DirectiveEnd (drop at l) p q tt e f
-      body_as_fine at p q shapes.Comment e f = commented_fine line l (drop at l) p q e f
-      body_as_fine at p q shapes.Head e f = said_fine at p q e f
-      body_as_fine at p q shapes.Other e f = said_fine at p q e f
+      body_as_fine at p q line_kinds.Nothing e f = same start p q e f
+      body_as_fine at p q line_kinds.Directive e f = left_fine line l inside.Directive marks.DirectiveEnd (drop at l) p q tt e f
+      body_as_fine at p q line_kinds.Comment e f = commented_fine line l (drop at l) p q e f
+      body_as_fine at p q line_kinds.Head e f = said_fine at p q e f
+      body_as_fine at p q line_kinds.Other e f = said_fine at p q e f
 
       body_fine : (at : ℕ) (p q : Progress) → body cross line l at p ≡ Ok q → Fine start p → Fine start q
       unfolding body
       body_fine at p q e f = body_as_fine at p q _ e f
 
-      head_as_fine : (p q : Progress) (s : Shape) → head_as cross line l p s ≡ Ok q → Fine start p → Fine start q
+      head_as_fine : (p q : Progress) (s : LineKind) → head_as cross line l p s ≡ Ok q → Fine start p → Fine start q
       unfolding head_as
-      head_as_fine p q shapes.Nothing e f = same start p q e f
-      head_as_fine p q shapes.Directive e f = left_fine line l inside.Directive marks.DirectiveEnd l p q tt e f
-      head_as_fine p q shapes.Comment e f = commented_fine line l l p q e f
-      head_as_fine p q shapes.Head e f =
+      head_as_fine p q line_kinds.Nothing e f = same start p q e f
+      head_as_fine p q line_kinds.Directive e f = left_fine line l inside.Directive marks.DirectiveEnd l p q tt e f
+      head_as_fine p q line_kinds.Comment e f = commented_fine line l l p q e f
+      head_as_fine p q line_kinds.Head e f =
           body_fine (behind_head l) (record { start = p.start; inside = p.inside; begun = true; reader = p.reader; waiting = p.waiting }) q e f
-      head_as_fine p q shapes.Other e f = cc
+      head_as_fine p q line_kinds.Other e f = cc
 
       outside_fine : (p q : Progress) → outside cross line l p ≡ Ok q → Fine start p → Fine start q
       unfolding outside
       outside_fine p q e f = by p.begun e
         where
-          by : (b : Bool) → cond b (body cross line l 0 p) (head_as cross line l p (shape_of (trimmed l))) ≡ Ok q → Fine start q
+          by : (b : Bool) → cond b (body cross line l 0 p) (head_as cross line l p (line_kind_of (trimmed l))) ≡ Ok q → Fine start q
           by true e = body_fine 0 p q e f
           by false e = head_as_fine p q _ e f
 
@@ -167,15 +168,15 @@ module _ (R : Read → Type 0) (S : Spot → Type 0) (one : (cross : Option Cros
           by false true e = same start (now_in inside.Front p) q e (f.0, tt, f.2)
           by false false e = outside_fine (now_in inside.Nothing p) q e (f.0, tt, f.2)
 
-      described_fine : (p q : Progress) (s : Shape) → described_as line l p s ≡ Ok q → Fine start p → Fine start q
+      described_fine : (p q : Progress) (s : LineKind) → described_as line l p s ≡ Ok q → Fine start p → Fine start q
       unfolding described_as
-      described_fine p q shapes.Nothing e f = same start p q e f
-      described_fine p q shapes.Directive e f =
+      described_fine p q line_kinds.Nothing e f = same start p q e f
+      described_fine p q line_kinds.Directive e f =
           let b = bound (closed line l marks.DirectiveEnd l) _ q e in unless_fine start b.0 _ p q b.2 f
-      described_fine p q shapes.Comment e f = commented_fine line l l p q e f
-      described_fine p q shapes.Head e f =
+      described_fine p q line_kinds.Comment e f = commented_fine line l l p q e f
+      described_fine p q line_kinds.Head e f =
           let b = bound (undirected line l l) _ q e in left_fine line l inside.Description marks.DescriptionEnd b.0 p q tt b.2 f
-      described_fine p q shapes.Other e f =
+      described_fine p q line_kinds.Other e f =
           let b = bound (undirected line l l) _ q e in left_fine line l inside.Description marks.DescriptionEnd b.0 p q tt b.2 f
 
       ended_fine : (at : ℕ) (xs : List (List ℕ)) (p q : Progress) → S p.waiting.spot → ended_on cross line l at xs p ≡ Ok q → Fine start p → Fine start q
@@ -197,13 +198,13 @@ module _ (R : Read → Type 0) (S : Spot → Type 0) (one : (cross : Option Cros
           by true e = ended_fine (config_end l) (cut (drop (config_end l) l)) p q w e f
           by false e = same start (gone_on l p) q e f
 
-      configured_fine : (p q : Progress) (s : Shape) → S p.waiting.spot → configured_as cross line l p s ≡ Ok q → Fine start p → Fine start q
+      configured_fine : (p q : Progress) (s : LineKind) → S p.waiting.spot → configured_as cross line l p s ≡ Ok q → Fine start p → Fine start q
       unfolding configured_as
-      configured_fine p q shapes.Nothing w e f = described_fine p q shapes.Nothing e f
-      configured_fine p q shapes.Directive w e f = described_fine p q shapes.Directive e f
-      configured_fine p q shapes.Comment w e f = described_fine p q shapes.Comment e f
-      configured_fine p q shapes.Head w e f = text_fine p q w e f
-      configured_fine p q shapes.Other w e f = text_fine p q w e f
+      configured_fine p q line_kinds.Nothing w e f = described_fine p q line_kinds.Nothing e f
+      configured_fine p q line_kinds.Directive w e f = described_fine p q line_kinds.Directive e f
+      configured_fine p q line_kinds.Comment w e f = described_fine p q line_kinds.Comment e f
+      configured_fine p q line_kinds.Head w e f = text_fine p q w e f
+      configured_fine p q line_kinds.Other w e f = text_fine p q w e f
 
       step_in_fine : (p q : Progress) (i : Inside) → Waits i p.waiting.spot → step_in cross line l p i ≡ Ok q → Fine start p → Fine start q
       unfolding step_in
@@ -213,8 +214,8 @@ module _ (R : Read → Type 0) (S : Spot → Type 0) (one : (cross : Option Cros
       step_in_fine p q inside.Front w e f =
           same start (now_in (cond (is_front (trimmed l)) inside.Nothing inside.Front) p) q e (f.0, either (is_front (trimmed l)) inside.Nothing inside.Front p.waiting.spot tt tt, f.2)
       step_in_fine p q inside.Directive w e f = left_fine line l inside.Directive marks.DirectiveEnd l p q tt e f
-      step_in_fine p q inside.Description w e f = described_fine p q (shape_of (trimmed l)) e f
-      step_in_fine p q inside.Configuration w e f = configured_fine p q (shape_of (trimmed l)) w e f
+      step_in_fine p q inside.Description w e f = described_fine p q (line_kind_of (trimmed l)) e f
+      step_in_fine p q inside.Configuration w e f = configured_fine p q (line_kind_of (trimmed l)) w e f
 
   -- the lines of a text, of which the first has this number
   abbrev pub Lined : List ℕ → List (List ℕ) → ℕ → Type 0

@@ -11,47 +11,44 @@ use Rattle.msc_mermaid.specs.declared.pattern.Pattern.TheVariants as patterns
 use Rattle.msc_mermaid.specs.declared.progress.Inside.{Inside}
 use Rattle.msc_mermaid.specs.declared.progress.Inside.TheVariants as inside
 use Rattle.msc_mermaid.specs.declared.progress.Progress.{Progress}
-use Rattle.msc_mermaid.specs.declared.reading.Spot.{Spot}
+use Rattle.msc_mermaid.specs.declared.reading.StatementStart.{StatementStart}
 use Rattle.msc_mermaid.specs.declared.saying.Said.{Said}
 use Rattle.msc_mermaid.specs.declared.saying.Said.TheVariants as said
 use Rattle.msc_mermaid.specs.declared.seeking.Sought.TheVariants as sought
-use Rattle.msc_mermaid.specs.declared.shape.Shape.{Shape}
-use Rattle.msc_mermaid.specs.declared.shape.Shape.TheVariants as shapes
+use Rattle.msc_mermaid.specs.declared.line_kind.LineKind.{LineKind}
+use Rattle.msc_mermaid.specs.declared.line_kind.LineKind.TheVariants as line_kinds
 use Rattle.msc_mermaid.specs.declared.statement.Cross.{Cross}
 use Rattle.msc_mermaid.specs.declared.statement.Diagram.{Diagram}
 use Rattle.msc_mermaid.specs.declared.statement.Span.{Span}
 use Rattle.msc_mermaid.specs.declared.statement.Statement.{Statement}
 use Rattle.msc_place.specs.declared.position.Position.{Position}
 use Rattle.msc_mermaid.specs.Cutting.{cut, cut_by, cut_from, room, turn_at}
-use Rattle.msc_mermaid.specs.Gives.{◌>>=◌, unless}
+use Rattle.msc_mermaid.specs.Gives.{unless}
 use Rattle.msc_mermaid.specs.Keys.{begin_so, mark_text}
 use Rattle.msc_mermaid.specs.Lines.{led_by, start_on}
 use Rattle.msc_mermaid.specs.Patterns.{first_fit, is_empty}
 use Rattle.msc_mermaid.specs.Saying.{is_unended}
 use Rattle.msc_mermaid.specs.Seeking.{before, holds}
 use Rattle.msc_mermaid.specs.White.{behind_white, front, trimmed}
-use Rattle.msc_mermaid.specs.Mermaid.{behind_head, body, body_as, closed, commented, config_end, configured_as, described_as, end_of, ended_in, ended_on, first_line, goes_on, gone_on, head_as, is_commented, is_front, is_last, left_out, now_at, now_in, outside, piece_as, piece_by, piece_said, put_off, put_off_said, read_piece, read_pieces, said_in, said_on, shape_of, spot_behind, stated, statement, step, step_in, steps, text_within, titled, told_of, undirected, unread}
+use Rattle.msc_mermaid.specs.Mermaid.{behind_head, body, body_as, closed, commented, config_end, configured_as, described_as, end_of, ended_in, ended_on, first_line, goes_on, gone_on, head_as, is_commented, is_front, is_last, left_out, now_at, now_in, outside, piece_as, piece_by, piece_said, put_off, put_off_said, read_piece, read_pieces, said_in, said_on, line_kind_of, spot_behind, stated, statement, step, step_in, steps, text_within, titled, told_of, undirected, unread}
 use Rattle.msc_mermaid.specs.Parts.{Stretch, blanked, entity_place, has_entity, part_start, part_step, said_of, steps_of}
 use Rattle.msc_mermaid.specs.Outlines.{Outline, laid}
 use Rattle.msc_mermaid.specs.Reading.{Read, listed, noted, read_one, told, untold}
-
--- what follows a value is answered where both are
-pub bound : {A B : Type 0} (r : Result A ImportFault) (f : A → Result B ImportFault) (y : B) → (r >>= f) ≡ Ok y → (x : A) × (r ≡ Ok x) × (f x ≡ Ok y)
-bound (Ok x) f y e = (x, refl, e)
-bound (Err g) f y e = cc
+use Rattle.msc_mermaid.proofs.SpellLemmas.{bound}
 
 -- by a test
 pub by_test : {X : Type 0} (b : Bool) → (b ≡ true → X) → (b ≡ false → X) → X
 by_test true f g = f refl
 by_test false f g = g refl
 
-drop_short : {X : Type 0} (k : ℕ) (xs : List X) → length (drop k xs) ≤ length xs
+pub drop_short : {X : Type 0} (k : ℕ) (xs : List X) → length (drop k xs) ≤ length xs
 drop_short zero [] = omega arith
 drop_short zero (x ∷ xs) = omega arith
 drop_short (suc k) [] = omega arith
 drop_short (suc k) (x ∷ xs) = let r = drop_short k xs in omega (arith, r)
 
--- what holds of what was read holds behind one statement more: it says nothing, or which line ends, or it is listed
+-- what holds of what was read holds behind one statement more: it says nothing, or which line ends,
+-- or it is listed
 pub noted_by : (P : Read → Type 0) (r : Read) (here : Position) (whole : Span) (q : Read) → P r → ((names : List (List ℕ)) → P (record { dying = names; arrows = r.arrows; outline = r.outline; said = r.said })) → ((s : Statement) (name tail : ℕ) (o : Outline) → laid here whole.first name s r.outline ≡ Ok o → P (listed r here whole tail s o)) → (s : Said) → noted r here whole s ≡ Ok q → P q
 unfolding noted
 noted_by P r here whole q nothing dies stated said.Nothing e = let same : r ≡ q = cc in subst P same nothing
@@ -65,7 +62,7 @@ noted_by P r here whole q nothing dies stated (said.Statement s t) e =
     subst P same (stated s (whole.past - t.name) t.shown b.0 b.1)
 
 -- R n r: what was read so far is r, and n statements were read for it at most
-module _ (R : ℕ → Read → Type 0) (wider : (n k : ℕ) (r : Read) → n ≤ k → R n r → R k r) (one : (n : ℕ) (cross : Option Cross) (spot : Spot) (bytes : List ℕ) (r q : Read) → R n r → read_one cross spot bytes r ≡ Ok q → R (n + 1) q) where
+module _ (R : ℕ → Read → Type 0) (wider : (n k : ℕ) (r : Read) → n ≤ k → R n r → R k r) (one : (n : ℕ) (cross : Option Cross) (spot : StatementStart) (bytes : List ℕ) (r q : Read) → R n r → read_one cross spot bytes r ≡ Ok q → R (n + 1) q) where
   -- what a line leaves of so many arrows: as many, and one for each of its pieces at most
   kept_on : (n k : ℕ) (r q : Read) → n ≤ k → R n r → r ≡ q → R k q
   kept_on n k r q le read same = subst (R k) same (wider n k r le read)
@@ -92,14 +89,14 @@ module _ (R : ℕ → Read → Type 0) (wider : (n k : ℕ) (r : Read) → n ≤
   commented_same line whole bytes p q e = unless_reader _ _ p q e
 
   -- a statement
-  stated_read : (n : ℕ) (cross : Option Cross) (spot : Spot) (bytes : List ℕ) (part : Inside) (p q : Progress) → stated cross spot bytes part p ≡ Ok q → R n p.reader → R (n + 1) q.reader
+  stated_read : (n : ℕ) (cross : Option Cross) (spot : StatementStart) (bytes : List ℕ) (part : Inside) (p q : Progress) → stated cross spot bytes part p ≡ Ok q → R n p.reader → R (n + 1) q.reader
   unfolding stated
   stated_read n cross spot bytes part p q e read =
       let b = bound (read_one cross spot bytes p.reader) _ q e in
       let same : b.0 ≡ q.reader = ok_reader (record { start = p.start; inside = part; begun = p.begun; reader = b.0; waiting = p.waiting }) q b.2 in
       subst (R (n + 1)) same (one n cross spot bytes p.reader b.0 read b.1)
 
-  statement_read : (n : ℕ) (cross : Option Cross) (spot : Spot) (bytes : List ℕ) (p q : Progress) → statement cross spot bytes p ≡ Ok q → R n p.reader → R (n + 1) q.reader
+  statement_read : (n : ℕ) (cross : Option Cross) (spot : StatementStart) (bytes : List ℕ) (p q : Progress) → statement cross spot bytes p ≡ Ok q → R n p.reader → R (n + 1) q.reader
   unfolding statement
   statement_read n cross spot bytes p q e read =
       let short = trimmed (take (before (sought.Text marks.Comment) bytes) bytes) in
@@ -109,7 +106,7 @@ module _ (R : ℕ → Read → Type 0) (wider : (n k : ℕ) (r : Read) → n ≤
       (λ plain. stated_read n cross spot bytes p.inside p q (sym (ap either plain) ∙ e) read)
 
   -- a statement, or the first line of one
-  piece_said_read : (n : ℕ) (cross : Option Cross) (spot : Spot) (rest piece : List ℕ) (p q : Progress) → piece_said cross spot rest piece p ≡ Ok q → R n p.reader → R (n + 1) q.reader
+  piece_said_read : (n : ℕ) (cross : Option Cross) (spot : StatementStart) (rest piece : List ℕ) (p q : Progress) → piece_said cross spot rest piece p ≡ Ok q → R n p.reader → R (n + 1) q.reader
   unfolding piece_said
   piece_said_read n cross spot rest piece p q e read =
       let own = trimmed piece in
@@ -119,7 +116,7 @@ module _ (R : ℕ → Read → Type 0) (wider : (n k : ℕ) (r : Read) → n ≤
       (λ whole. statement_read n cross spot own p q (sym (ap either whole) ∙ e) read)
 
   -- a piece of a line
-  module _ (n : ℕ) (cross : Option Cross) (whole : List ℕ) (spot : Spot) (rest piece : List ℕ) (p q : Progress) (read : R n p.reader) where
+  module _ (n : ℕ) (cross : Option Cross) (whole : List ℕ) (spot : StatementStart) (rest piece : List ℕ) (p q : Progress) (read : R n p.reader) where
     as_read : (o : Option (List ℕ)) → piece_as cross whole spot rest piece p o ≡ Ok q → R (n + 1) q.reader
     as_read (Some text) e = kept_on n (n + 1) p.reader q.reader (omega arith) read (left_same spot.here.line whole inside.Description marks.DescriptionEnd text p q e)
     as_read None e =
@@ -132,7 +129,7 @@ module _ (R : ℕ → Read → Type 0) (wider : (n k : ℕ) (r : Read) → n ≤
     by_read (Some text) e = kept_on n (n + 1) p.reader q.reader (omega arith) read (titled_same spot.here text p q e)
     by_read None e = as_read (first_fit (patterns.AccBlock ∷ []) rest) e
 
-  piece_read : (n : ℕ) (cross : Option Cross) (whole : List ℕ) (spot : Spot) (rest piece : List ℕ) (p q : Progress) → read_piece cross whole spot rest piece p ≡ Ok q → R n p.reader → R (n + 1) q.reader
+  piece_read : (n : ℕ) (cross : Option Cross) (whole : List ℕ) (spot : StatementStart) (rest piece : List ℕ) (p q : Progress) → read_piece cross whole spot rest piece p ≡ Ok q → R n p.reader → R (n + 1) q.reader
   unfolding read_piece
   piece_read n cross whole spot rest piece p q e read =
       let found = first_fit (patterns.AccTitle ∷ patterns.AccDescr ∷ []) (behind_white rest) in
@@ -146,7 +143,7 @@ module _ (R : ℕ → Read → Type 0) (wider : (n k : ℕ) (r : Read) → n ≤
   unfolding read_pieces
   pieces_read n cross line bytes at [] p q e read = kept_on n (n + 0) p.reader q.reader (omega arith) read (ok_reader p q e)
   pieces_read n cross line bytes at (x ∷ xs) p q e read =
-      let spot : Spot = spot_behind p.start line bytes (at + front 0 x) in
+      let spot : StatementStart = spot_behind p.start line bytes (at + front 0 x) in
       let b = bound (read_piece cross bytes spot (drop at bytes) x p) (λ q. read_pieces cross line bytes (at + (length x + 1)) xs q) q e in
       let first = piece_read n cross bytes spot (drop at bytes) x p b.0 b.1 read in
       let rest = pieces_read (n + 1) cross line bytes (at + (length x + 1)) xs b.0 q b.2 first in
@@ -193,34 +190,34 @@ module _ (R : ℕ → Read → Type 0) (wider : (n k : ℕ) (r : Read) → n ≤
       let short = drop_short at l in
       wider (n + length (cut (drop at l))) (n + (length l + 1)) q.reader (omega (arith, few, short)) found
 
-  body_as_next : (n : ℕ) (cross : Option Cross) (line : ℕ) (l : List ℕ) (at : ℕ) (p q : Progress) (s : Shape) → body_as cross line l at p s ≡ Ok q → R n p.reader → Next n l q.reader
+  body_as_next : (n : ℕ) (cross : Option Cross) (line : ℕ) (l : List ℕ) (at : ℕ) (p q : Progress) (s : LineKind) → body_as cross line l at p s ≡ Ok q → R n p.reader → Next n l q.reader
   unfolding body_as
-  body_as_next n cross line l at p q shapes.Nothing e read = ok_next n l p q e read
-  body_as_next n cross line l at p q shapes.Directive e read = left_next n l line l inside.Directive marks.DirectiveEnd (drop at l) p q e read
-  body_as_next n cross line l at p q shapes.Comment e read = commented_next n l line l (drop at l) p q e read
-  body_as_next n cross line l at p q shapes.Head e read = said_next n cross line l at p q e read
-  body_as_next n cross line l at p q shapes.Other e read = said_next n cross line l at p q e read
+  body_as_next n cross line l at p q line_kinds.Nothing e read = ok_next n l p q e read
+  body_as_next n cross line l at p q line_kinds.Directive e read = left_next n l line l inside.Directive marks.DirectiveEnd (drop at l) p q e read
+  body_as_next n cross line l at p q line_kinds.Comment e read = commented_next n l line l (drop at l) p q e read
+  body_as_next n cross line l at p q line_kinds.Head e read = said_next n cross line l at p q e read
+  body_as_next n cross line l at p q line_kinds.Other e read = said_next n cross line l at p q e read
 
   body_next : (n : ℕ) (cross : Option Cross) (line : ℕ) (l : List ℕ) (at : ℕ) (p q : Progress) → body cross line l at p ≡ Ok q → R n p.reader → Next n l q.reader
   unfolding body
   body_next n cross line l at p q e read = body_as_next n cross line l at p q _ e read
 
-  head_as_next : (n : ℕ) (cross : Option Cross) (line : ℕ) (l : List ℕ) (p q : Progress) (s : Shape) → head_as cross line l p s ≡ Ok q → R n p.reader → Next n l q.reader
+  head_as_next : (n : ℕ) (cross : Option Cross) (line : ℕ) (l : List ℕ) (p q : Progress) (s : LineKind) → head_as cross line l p s ≡ Ok q → R n p.reader → Next n l q.reader
   unfolding head_as
-  head_as_next n cross line l p q shapes.Nothing e read = ok_next n l p q e read
-  head_as_next n cross line l p q shapes.Directive e read = left_next n l line l inside.Directive marks.DirectiveEnd l p q e read
-  head_as_next n cross line l p q shapes.Comment e read = commented_next n l line l l p q e read
-  head_as_next n cross line l p q shapes.Head e read =
+  head_as_next n cross line l p q line_kinds.Nothing e read = ok_next n l p q e read
+  head_as_next n cross line l p q line_kinds.Directive e read = left_next n l line l inside.Directive marks.DirectiveEnd l p q e read
+  head_as_next n cross line l p q line_kinds.Comment e read = commented_next n l line l l p q e read
+  head_as_next n cross line l p q line_kinds.Head e read =
       body_next n cross line l (behind_head l) (record { start = p.start; inside = p.inside; begun = true; reader = p.reader; waiting = p.waiting }) q e read
-  head_as_next n cross line l p q shapes.Other e read = cc
+  head_as_next n cross line l p q line_kinds.Other e read = cc
 
   outside_next : (n : ℕ) (cross : Option Cross) (line : ℕ) (l : List ℕ) (p q : Progress) → outside cross line l p ≡ Ok q → R n p.reader → Next n l q.reader
   unfolding outside
   outside_next n cross line l p q e read =
-      let either = λ (t : Bool). cond t (body cross line l 0 p) (head_as cross line l p (shape_of (trimmed l))) in
+      let either = λ (t : Bool). cond t (body cross line l 0 p) (head_as cross line l p (line_kind_of (trimmed l))) in
       by_test p.begun
       (λ begun. body_next n cross line l 0 p q (sym (ap either begun) ∙ e) read)
-      (λ first. head_as_next n cross line l p q (shape_of (trimmed l)) (sym (ap either first) ∙ e) read)
+      (λ first. head_as_next n cross line l p q (line_kind_of (trimmed l)) (sym (ap either first) ∙ e) read)
 
   first_next : (n : ℕ) (cross : Option Cross) (line : ℕ) (l : List ℕ) (p q : Progress) → first_line cross line l p ≡ Ok q → R n p.reader → Next n l q.reader
   unfolding first_line
@@ -234,16 +231,16 @@ module _ (R : ℕ → Read → Type 0) (wider : (n k : ℕ) (r : Read) → n ≤
       (λ front. ok_next n l (now_in inside.Front p) q (sym (ap other front) ∙ f) read)
       (λ plain. outside_next n cross line l (now_in inside.Nothing p) q (sym (ap other plain) ∙ f) read))
 
-  described_next : (n : ℕ) (line : ℕ) (l : List ℕ) (p q : Progress) (s : Shape) → described_as line l p s ≡ Ok q → R n p.reader → Next n l q.reader
+  described_next : (n : ℕ) (line : ℕ) (l : List ℕ) (p q : Progress) (s : LineKind) → described_as line l p s ≡ Ok q → R n p.reader → Next n l q.reader
   unfolding described_as
-  described_next n line l p q shapes.Nothing e read = ok_next n l p q e read
-  described_next n line l p q shapes.Directive e read =
+  described_next n line l p q line_kinds.Nothing e read = ok_next n l p q e read
+  described_next n line l p q line_kinds.Directive e read =
       let b = bound (closed line l marks.DirectiveEnd l) _ q e in
       kept_next n l p.reader q.reader read (unless_reader b.0 _ p q b.2)
-  described_next n line l p q shapes.Comment e read = commented_next n l line l l p q e read
-  described_next n line l p q shapes.Head e read =
+  described_next n line l p q line_kinds.Comment e read = commented_next n l line l l p q e read
+  described_next n line l p q line_kinds.Head e read =
       let b = bound (undirected line l l) _ q e in left_next n l line l inside.Description marks.DescriptionEnd b.0 p q b.2 read
-  described_next n line l p q shapes.Other e read =
+  described_next n line l p q line_kinds.Other e read =
       let b = bound (undirected line l l) _ q e in left_next n l line l inside.Description marks.DescriptionEnd b.0 p q b.2 read
 
   -- the pieces of a line in which a configuration ends
@@ -271,13 +268,13 @@ module _ (R : ℕ → Read → Type 0) (wider : (n k : ℕ) (r : Read) → n ≤
       wider (n + length (cut (drop at l))) (n + (length l + 1)) q.reader (omega (arith, few, short)) found)
       (λ on. kept_on n (n + (length l + 1)) p.reader q.reader (omega arith) read (ok_reader (gone_on l p) q (sym (ap either on) ∙ u.2)))
 
-  configured_next : (n : ℕ) (cross : Option Cross) (line : ℕ) (l : List ℕ) (p q : Progress) (s : Shape) → configured_as cross line l p s ≡ Ok q → R n p.reader → Next n l q.reader
+  configured_next : (n : ℕ) (cross : Option Cross) (line : ℕ) (l : List ℕ) (p q : Progress) (s : LineKind) → configured_as cross line l p s ≡ Ok q → R n p.reader → Next n l q.reader
   unfolding configured_as
-  configured_next n cross line l p q shapes.Nothing e read = described_next n line l p q shapes.Nothing e read
-  configured_next n cross line l p q shapes.Directive e read = described_next n line l p q shapes.Directive e read
-  configured_next n cross line l p q shapes.Comment e read = described_next n line l p q shapes.Comment e read
-  configured_next n cross line l p q shapes.Head e read = text_next n cross line l p q e read
-  configured_next n cross line l p q shapes.Other e read = text_next n cross line l p q e read
+  configured_next n cross line l p q line_kinds.Nothing e read = described_next n line l p q line_kinds.Nothing e read
+  configured_next n cross line l p q line_kinds.Directive e read = described_next n line l p q line_kinds.Directive e read
+  configured_next n cross line l p q line_kinds.Comment e read = described_next n line l p q line_kinds.Comment e read
+  configured_next n cross line l p q line_kinds.Head e read = text_next n cross line l p q e read
+  configured_next n cross line l p q line_kinds.Other e read = text_next n cross line l p q e read
 
   step_in_next : (n : ℕ) (cross : Option Cross) (line : ℕ) (l : List ℕ) (p q : Progress) (i : Inside) → step_in cross line l p i ≡ Ok q → R n p.reader → Next n l q.reader
   unfolding step_in
@@ -286,8 +283,8 @@ module _ (R : ℕ → Read → Type 0) (wider : (n k : ℕ) (r : Read) → n ≤
   step_in_next n cross line l p q inside.Rest e read = outside_next n cross line l (now_in inside.Nothing p) q e read
   step_in_next n cross line l p q inside.Front e read = ok_next n l (now_in (cond (is_front (trimmed l)) inside.Nothing inside.Front) p) q e read
   step_in_next n cross line l p q inside.Directive e read = left_next n l line l inside.Directive marks.DirectiveEnd l p q e read
-  step_in_next n cross line l p q inside.Description e read = described_next n line l p q (shape_of (trimmed l)) e read
-  step_in_next n cross line l p q inside.Configuration e read = configured_next n cross line l p q (shape_of (trimmed l)) e read
+  step_in_next n cross line l p q inside.Description e read = described_next n line l p q (line_kind_of (trimmed l)) e read
+  step_in_next n cross line l p q inside.Configuration e read = configured_next n cross line l p q (line_kind_of (trimmed l)) e read
 
   pub steps_read : (cross : Option Cross) (starts : List ℕ) (ls : List (List ℕ)) (n line : ℕ) (p q : Progress) → steps cross starts line ls p ≡ Ok q → R n p.reader → R (n + room ls) q.reader
   unfolding steps step room Next

@@ -4,11 +4,11 @@ use Rattle.msc_mermaid.specs.declared.ahead.Ahead.{Ahead}
 use Rattle.msc_mermaid.specs.declared.ahead.Ahead.TheVariants as ahead
 use Rattle.msc_mermaid.specs.declared.key.Mark.TheVariants as marks
 use Rattle.msc_mermaid.specs.declared.seeking.Sought.TheVariants as sought
-use Rattle.msc_mermaid.specs.declared.shape.Shape.{Shape}
-use Rattle.msc_mermaid.specs.declared.shape.Shape.TheVariants as shapes
+use Rattle.msc_mermaid.specs.declared.line_kind.LineKind.{LineKind}
+use Rattle.msc_mermaid.specs.declared.line_kind.LineKind.TheVariants as line_kinds
 use Rattle.msc_mermaid.specs.Cutting.{leaves_open}
 use Rattle.msc_mermaid.specs.Keys.{begin_so, mark_text}
-use Rattle.msc_mermaid.specs.Mermaid.{is_front, shape_of}
+use Rattle.msc_mermaid.specs.Mermaid.{is_front, line_kind_of}
 use Rattle.msc_mermaid.specs.Patterns.{is_empty}
 use Rattle.msc_mermaid.specs.Seeking.{before, holds}
 use Rattle.msc_mermaid.specs.White.{trimmed}
@@ -28,15 +28,15 @@ abbrev pub near : List ℕ → Ahead
 near line = cond (begin_so (trimmed line) (codes "sequence")) ahead.Near ahead.Other
 
 -- behind a line of this shape, where it is not left out as front matter
-abbrev pub counted_as : List ℕ → Shape → Ahead
-counted_as line shapes.Nothing = ahead.Behind
-counted_as line shapes.Directive = directed line
-counted_as line shapes.Comment = cond (leaves_open false line) ahead.Wrong ahead.Behind
-counted_as line shapes.Head = ahead.Diagram
-counted_as line shapes.Other = near line
+abbrev pub counted_as : List ℕ → LineKind → Ahead
+counted_as line line_kinds.Nothing = ahead.Behind
+counted_as line line_kinds.Directive = directed line
+counted_as line line_kinds.Comment = cond (leaves_open false line) ahead.Wrong ahead.Behind
+counted_as line line_kinds.Head = ahead.Diagram
+counted_as line line_kinds.Other = near line
 
 abbrev pub counted_in : List ℕ → Ahead
-counted_in line = counted_as line (shape_of (trimmed line))
+counted_in line = counted_as line (line_kind_of (trimmed line))
 
 -- behind a line before which all lines are empty
 abbrev pub started : List ℕ → Ahead

@@ -20,11 +20,6 @@ use Rattle.msc_mermaid.specs.White.{front}
 abbrev pub HasDiagram : Option Cross → List ℕ → Diagram → Type 0
 HasDiagram cross text d = mermaid cross text ≡ Ok d
 
--- a text has one diagram
-abbrev pub OneDiagram : Type 0
-OneDiagram =
-    (cross : Option Cross) (text : List ℕ) (d e : Diagram) → HasDiagram cross text d → HasDiagram cross text e → d ≡ e
-
 -- so many bytes of a statement, the first of which stands where as many are left of it
 abbrev pub left_of : ℕ → ℕ → List ℕ → List ℕ
 left_of tail count bytes = take count (drop (length bytes - tail) bytes)

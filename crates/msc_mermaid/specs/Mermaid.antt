@@ -14,10 +14,10 @@ use Rattle.msc_mermaid.specs.declared.key.Mark.TheVariants as marks
 use Rattle.msc_mermaid.specs.declared.pattern.Pattern.TheVariants as patterns
 use Rattle.msc_mermaid.specs.declared.progress.Inside.{Inside}
 use Rattle.msc_mermaid.specs.declared.progress.Inside.TheVariants as inside
-use Rattle.msc_mermaid.specs.declared.shape.Shape.{Shape}
-use Rattle.msc_mermaid.specs.declared.shape.Shape.TheVariants as shapes
+use Rattle.msc_mermaid.specs.declared.line_kind.LineKind.{LineKind}
+use Rattle.msc_mermaid.specs.declared.line_kind.LineKind.TheVariants as line_kinds
 use Rattle.msc_mermaid.specs.declared.progress.Progress.{Progress}
-use Rattle.msc_mermaid.specs.declared.reading.Spot.{Spot}
+use Rattle.msc_mermaid.specs.declared.reading.StatementStart.{StatementStart}
 use Rattle.msc_mermaid.specs.declared.seeking.Sought.TheVariants as sought
 use Rattle.msc_mermaid.specs.declared.statement.Cross.{Cross}
 use Rattle.msc_mermaid.specs.declared.statement.Diagram.{Diagram}
@@ -33,7 +33,8 @@ use Rattle.msc_mermaid.specs.Saying.{is_unended}
 use Rattle.msc_mermaid.specs.Seeking.{before, holds}
 use Rattle.msc_mermaid.specs.White.{front, behind_white, trimmed}
 
--- the line that stands before and behind what stands in front of a diagram, without white space at its ends
+-- the line that stands before and behind what stands in front of a diagram, without white space at
+-- its ends
 abbrev pub is_front : List ℕ → Bool
 is_front bytes = bytes_eq bytes (codes "---")
 
@@ -43,9 +44,9 @@ is_head bytes =
     starts_with nat_eq bytes (codes "sequenceDiagram") && not (begins is_run_byte (drop 15 bytes))
 
 -- what a line without white space at its ends is
-unfoldable pub shape_of : List ℕ → Shape
-shape_of bytes =
-    cond (is_empty bytes) shapes.Nothing (cond (begin_so bytes (mark_text marks.Directive)) shapes.Directive (cond (begin_so bytes (mark_text marks.Comment)) shapes.Comment (cond (is_head bytes) shapes.Head shapes.Other)))
+unfoldable pub line_kind_of : List ℕ → LineKind
+line_kind_of bytes =
+    cond (is_empty bytes) line_kinds.Nothing (cond (begin_so bytes (mark_text marks.Directive)) line_kinds.Directive (cond (begin_so bytes (mark_text marks.Comment)) line_kinds.Comment (cond (is_head bytes) line_kinds.Head line_kinds.Other)))
 
 -- what was read so far, with this for what the next line stands in
 abbrev pub now_in : Inside → Progress → Progress
@@ -55,12 +56,14 @@ now_in part p = record { start = p.start; inside = part; begun = p.begun; reader
 abbrev pub behind_end : Mark → List ℕ → List ℕ
 behind_end m bytes = drop (length (mark_text m)) (drop (before (sought.Text m) bytes) bytes)
 
--- whether what is left out ends here, at the end of this line, behind the mark; nothing else may follow on the line
+-- whether what is left out ends here, at the end of this line, behind the mark; nothing else may
+-- follow on the line
 unfoldable pub closed : ℕ → List ℕ → Mark → List ℕ → Result Bool ImportFault
 closed line whole m bytes =
     cond (holds bytes (sought.Text m)) (unless (is_empty (trimmed (behind_end m bytes))) (Expected (position_of line whole (behind_white (behind_end m bytes))) wanted.LineEnd) true) (Ok false)
 
--- what is passed on from a part that is left out, up to this mark: the rest of a line, if it ends here
+-- what is passed on from a part that is left out, up to this mark: the rest of a line, if it ends
+-- here
 unfoldable pub left_out : ℕ → List ℕ → Inside → Mark → List ℕ → Progress → Result Progress ImportFault
 left_out line whole part m bytes p = do
   ends ← closed line whole m bytes
@@ -75,7 +78,8 @@ abbrev pub undirected : ℕ → List ℕ → List ℕ → Result (List ℕ) Impo
 undirected line whole bytes =
     unless (not (holds bytes (sought.Text marks.Directive))) (Expected (position_of line whole (drop (before (sought.Text marks.Directive) bytes) bytes)) wanted.Statement) bytes
 
--- a title or a description in one line, which begins here: it may not be empty, and takes the rest of the line
+-- a title or a description in one line, which begins here: it may not be empty, and takes the rest
+-- of the line
 unfoldable pub titled : Position → List ℕ → Progress → Result Progress ImportFault
 titled here text p =
     unless (not (is_empty (trimmed text))) (Expected here wanted.Statement) (now_in inside.Rest p)
@@ -92,22 +96,23 @@ is_commented bytes =
     allows_comment (key_of (first_word bytes)) && holds bytes (sought.Text marks.Comment)
 
 -- a statement, which begins here, and behind which the next one stands in this part
-unfoldable pub stated : Option Cross → Spot → List ℕ → Inside → Progress → Result Progress ImportFault
+unfoldable pub stated : Option Cross → StatementStart → List ℕ → Inside → Progress → Result Progress ImportFault
 stated cross spot bytes part p = do
   r ← read_one cross spot bytes p.reader
   Ok (record { start = p.start; inside = part; begun = p.begun; reader = r; waiting = p.waiting })
 
 -- a statement, with a comment or without
-unfoldable pub statement : Option Cross → Spot → List ℕ → Progress → Result Progress ImportFault
+unfoldable pub statement : Option Cross → StatementStart → List ℕ → Progress → Result Progress ImportFault
 statement cross spot bytes p =
     cond (is_commented bytes) (stated cross spot (trimmed (take (before (sought.Text marks.Comment) bytes) bytes)) inside.Rest p) (stated cross spot bytes p.inside p)
 
--- nothing stands behind a piece on its line, where the line from it on is rest, without white space in front
+-- nothing stands behind a piece on its line, where the line from it on is rest, without white space
+-- in front
 abbrev pub is_last : List ℕ → List ℕ → Bool
 is_last rest piece = nat_eq (length rest) (length (behind_white piece))
 
 -- a statement begins here that goes on behind its line
-abbrev pub put_off : Spot → List ℕ → Progress → Progress
+abbrev pub put_off : StatementStart → List ℕ → Progress → Progress
 put_off spot bytes p = record {
   start = p.start;
   inside = inside.Configuration;
@@ -117,19 +122,19 @@ put_off spot bytes p = record {
 }
 
 -- a piece of a line that is a statement, or the first line of one whose configuration goes on
-unfoldable pub piece_said : Option Cross → Spot → List ℕ → List ℕ → Progress → Result Progress ImportFault
+unfoldable pub piece_said : Option Cross → StatementStart → List ℕ → List ℕ → Progress → Result Progress ImportFault
 piece_said cross spot rest piece p =
     cond (is_last rest piece && is_unended (trimmed piece)) (Ok (put_off spot (trimmed piece) p)) (statement cross spot (trimmed piece) p)
 
 -- a piece of a line of these bytes that is no title: a description, a comment, or a statement
-abbrev pub piece_as : Option Cross → List ℕ → Spot → List ℕ → List ℕ → Progress → Option (List ℕ) → Result Progress ImportFault
+abbrev pub piece_as : Option Cross → List ℕ → StatementStart → List ℕ → List ℕ → Progress → Option (List ℕ) → Result Progress ImportFault
 piece_as cross whole spot rest piece p None =
     cond (begin_so rest (mark_text marks.Comment)) (Ok (now_in inside.Rest p)) (piece_said cross spot rest piece p)
 piece_as cross whole spot rest piece p (Some text) =
     left_out spot.here.line whole inside.Description marks.DescriptionEnd text p
 
 -- a piece of a line, where the line from it on is rest, without white space in front
-abbrev pub piece_by : Option Cross → List ℕ → Spot → List ℕ → List ℕ → Progress → Option (List ℕ) → Result Progress ImportFault
+abbrev pub piece_by : Option Cross → List ℕ → StatementStart → List ℕ → List ℕ → Progress → Option (List ℕ) → Result Progress ImportFault
 piece_by cross whole spot rest piece p None =
     piece_as cross whole spot rest piece p (first_fit (patterns.AccBlock ∷ []) rest)
 piece_by cross whole spot rest piece p (Some text) = titled spot.here text p
@@ -140,12 +145,12 @@ goes_on inside.Nothing = true
 goes_on part = false
 
 -- the next piece of a line of these bytes, which begins here
-unfoldable pub read_piece : Option Cross → List ℕ → Spot → List ℕ → List ℕ → Progress → Result Progress ImportFault
+unfoldable pub read_piece : Option Cross → List ℕ → StatementStart → List ℕ → List ℕ → Progress → Result Progress ImportFault
 read_piece cross whole spot rest piece p =
     cond (goes_on p.inside) (piece_by cross whole spot (behind_white rest) piece p (first_fit (patterns.AccTitle ∷ patterns.AccDescr ∷ []) (behind_white rest))) (Ok p)
 
 -- behind so many bytes of a line, which begins at such a place of the text
-abbrev pub spot_behind : ℕ → ℕ → List ℕ → ℕ → Spot
+abbrev pub spot_behind : ℕ → ℕ → List ℕ → ℕ → StatementStart
 spot_behind start line bytes at = record {
   here = record { line = line; column = column_behind (take at bytes) };
   first = further start at;
@@ -164,36 +169,36 @@ said_on cross line bytes at p = do
   read_pieces cross line bytes at (cut (drop at bytes)) p
 
 -- a line of this shape of a diagram that has begun, behind so many of its bytes
-unfoldable pub body_as : Option Cross → ℕ → List ℕ → ℕ → Progress → Shape → Result Progress ImportFault
-body_as cross line bytes at p shapes.Nothing = Ok p
-body_as cross line bytes at p shapes.Directive =
+unfoldable pub body_as : Option Cross → ℕ → List ℕ → ℕ → Progress → LineKind → Result Progress ImportFault
+body_as cross line bytes at p line_kinds.Nothing = Ok p
+body_as cross line bytes at p line_kinds.Directive =
     left_out line bytes inside.Directive marks.DirectiveEnd (drop at bytes) p
-body_as cross line bytes at p shapes.Comment = commented line bytes (drop at bytes) p
-body_as cross line bytes at p shapes.Head = said_on cross line bytes at p
-body_as cross line bytes at p shapes.Other = said_on cross line bytes at p
+body_as cross line bytes at p line_kinds.Comment = commented line bytes (drop at bytes) p
+body_as cross line bytes at p line_kinds.Head = said_on cross line bytes at p
+body_as cross line bytes at p line_kinds.Other = said_on cross line bytes at p
 
 -- such a line
 unfoldable pub body : Option Cross → ℕ → List ℕ → ℕ → Progress → Result Progress ImportFault
-body cross line bytes at p = body_as cross line bytes at p (shape_of (trimmed (drop at bytes)))
+body cross line bytes at p = body_as cross line bytes at p (line_kind_of (trimmed (drop at bytes)))
 
 -- how many bytes the word takes that the diagram begins with, with the white space before it
 abbrev pub behind_head : List ℕ → ℕ
 behind_head bytes = front 0 bytes + 15
 
 -- a line of this shape before the diagram has begun
-unfoldable pub head_as : Option Cross → ℕ → List ℕ → Progress → Shape → Result Progress ImportFault
-head_as cross line bytes p shapes.Nothing = Ok p
-head_as cross line bytes p shapes.Directive =
+unfoldable pub head_as : Option Cross → ℕ → List ℕ → Progress → LineKind → Result Progress ImportFault
+head_as cross line bytes p line_kinds.Nothing = Ok p
+head_as cross line bytes p line_kinds.Directive =
     left_out line bytes inside.Directive marks.DirectiveEnd bytes p
-head_as cross line bytes p shapes.Comment = commented line bytes bytes p
-head_as cross line bytes p shapes.Head =
+head_as cross line bytes p line_kinds.Comment = commented line bytes bytes p
+head_as cross line bytes p line_kinds.Head =
     body cross line bytes (behind_head bytes) (record { start = p.start; inside = p.inside; begun = true; reader = p.reader; waiting = p.waiting })
-head_as cross line bytes p shapes.Other = Err (Expected (position_of line bytes (behind_white bytes)) wanted.Diagram)
+head_as cross line bytes p line_kinds.Other = Err (Expected (position_of line bytes (behind_white bytes)) wanted.Diagram)
 
 -- a line that is not left out
 unfoldable pub outside : Option Cross → ℕ → List ℕ → Progress → Result Progress ImportFault
 outside cross line bytes p =
-    cond p.begun (body cross line bytes 0 p) (head_as cross line bytes p (shape_of (trimmed bytes)))
+    cond p.begun (body cross line bytes 0 p) (head_as cross line bytes p (line_kind_of (trimmed bytes)))
 
 -- a line before which all lines are empty
 unfoldable pub first_line : Option Cross → ℕ → List ℕ → Progress → Result Progress ImportFault
@@ -201,16 +206,16 @@ first_line cross line bytes p =
     cond (is_empty (trimmed bytes)) (Ok p) (cond (is_front (trimmed bytes)) (Ok (now_in inside.Front p)) (outside cross line bytes (now_in inside.Nothing p)))
 
 -- a line of this shape within a description: a comment ends nothing
-unfoldable pub described_as : ℕ → List ℕ → Progress → Shape → Result Progress ImportFault
-described_as line bytes p shapes.Nothing = Ok p
-described_as line bytes p shapes.Directive = do
+unfoldable pub described_as : ℕ → List ℕ → Progress → LineKind → Result Progress ImportFault
+described_as line bytes p line_kinds.Nothing = Ok p
+described_as line bytes p line_kinds.Directive = do
   ends ← closed line bytes marks.DirectiveEnd bytes
   unless ends (Expected (position_of line bytes []) wanted.Directive) p
-described_as line bytes p shapes.Comment = commented line bytes bytes p
-described_as line bytes p shapes.Head = do
+described_as line bytes p line_kinds.Comment = commented line bytes bytes p
+described_as line bytes p line_kinds.Head = do
   text ← undirected line bytes bytes
   left_out line bytes inside.Description marks.DescriptionEnd text p
-described_as line bytes p shapes.Other = do
+described_as line bytes p line_kinds.Other = do
   text ← undirected line bytes bytes
   left_out line bytes inside.Description marks.DescriptionEnd text p
 
@@ -229,8 +234,8 @@ abbrev pub put_off_said : Option Cross → Progress → Result Progress ImportFa
 put_off_said cross p =
     stated cross p.waiting.spot (trimmed p.waiting.bytes) inside.Nothing p
 
--- a line in which a configuration ends, behind so many of its bytes, where its pieces from there on are these: the
--- first is the end of the statement
+-- a line in which a configuration ends, behind so many of its bytes, where its pieces from there on
+-- are these: the first is the end of the statement
 unfoldable pub ended_on : Option Cross → ℕ → List ℕ → ℕ → List (List ℕ) → Progress → Result Progress ImportFault
 ended_on cross line bytes at [] p = Ok p
 ended_on cross line bytes at (x ∷ xs) p = do
@@ -247,13 +252,14 @@ text_within cross line bytes p = do
   text ← undirected line bytes bytes
   cond (holds bytes (sought.Text marks.DescriptionEnd)) (ended_on cross line bytes (config_end bytes) (cut (drop (config_end bytes) bytes)) p) (Ok (gone_on bytes p))
 
--- a line of this shape within a configuration: empty lines, directives and comments are what they are in a description
-unfoldable pub configured_as : Option Cross → ℕ → List ℕ → Progress → Shape → Result Progress ImportFault
-configured_as cross line bytes p shapes.Nothing = described_as line bytes p shapes.Nothing
-configured_as cross line bytes p shapes.Directive = described_as line bytes p shapes.Directive
-configured_as cross line bytes p shapes.Comment = described_as line bytes p shapes.Comment
-configured_as cross line bytes p shapes.Head = text_within cross line bytes p
-configured_as cross line bytes p shapes.Other = text_within cross line bytes p
+-- a line of this shape within a configuration: empty lines, directives and comments are what they
+-- are in a description
+unfoldable pub configured_as : Option Cross → ℕ → List ℕ → Progress → LineKind → Result Progress ImportFault
+configured_as cross line bytes p line_kinds.Nothing = described_as line bytes p line_kinds.Nothing
+configured_as cross line bytes p line_kinds.Directive = described_as line bytes p line_kinds.Directive
+configured_as cross line bytes p line_kinds.Comment = described_as line bytes p line_kinds.Comment
+configured_as cross line bytes p line_kinds.Head = text_within cross line bytes p
+configured_as cross line bytes p line_kinds.Other = text_within cross line bytes p
 
 -- a line within this part
 unfoldable pub step_in : Option Cross → ℕ → List ℕ → Progress → Inside → Result Progress ImportFault
@@ -265,9 +271,9 @@ step_in cross line bytes p inside.Front =
 step_in cross line bytes p inside.Directive =
     left_out line bytes inside.Directive marks.DirectiveEnd bytes p
 step_in cross line bytes p inside.Description =
-    described_as line bytes p (shape_of (trimmed bytes))
+    described_as line bytes p (line_kind_of (trimmed bytes))
 step_in cross line bytes p inside.Configuration =
-    configured_as cross line bytes p (shape_of (trimmed bytes))
+    configured_as cross line bytes p (line_kind_of (trimmed bytes))
 
 -- what was read so far, before a line that begins at this place of the text
 abbrev pub now_at : ℕ → Progress → Progress
@@ -291,8 +297,8 @@ told_of here p = cond p.begun (told p.reader) (Err (Expected here wanted.Diagram
 abbrev pub end_of : List (List ℕ) → Position
 end_of lines = position_of (length lines) (get_or lines (length lines - 1) []) []
 
--- where the first byte stands that is no white space, in these lines, of which the first has this number; and else
--- the end
+-- where the first byte stands that is no white space, in these lines, of which the first has this
+-- number; and else the end
 unfoldable pub first_line_place : ℕ → List (List ℕ) → Position → Position
 first_line_place n [] end = end
 first_line_place n (l ∷ ls) end =

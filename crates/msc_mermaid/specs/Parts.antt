@@ -8,20 +8,20 @@ use Rattle.msc_mermaid.specs.declared.progress.Inside.{Inside}
 use Rattle.msc_mermaid.specs.declared.progress.Inside.TheVariants as inside
 use Rattle.msc_mermaid.specs.declared.progress.Progress.{Progress}
 use Rattle.msc_mermaid.specs.declared.seeking.Sought.TheVariants as sought
-use Rattle.msc_mermaid.specs.declared.shape.Shape.{Shape}
-use Rattle.msc_mermaid.specs.declared.shape.Shape.TheVariants as shapes
+use Rattle.msc_mermaid.specs.declared.line_kind.LineKind.{LineKind}
+use Rattle.msc_mermaid.specs.declared.line_kind.LineKind.TheVariants as line_kinds
 use Rattle.msc_mermaid.specs.declared.statement.Cross.{Cross}
 use Rattle.msc_mermaid.specs.declared.statement.Diagram.{Diagram}
 use Rattle.msc_mermaid.specs.Gives.{◌>>=◌}
 use Rattle.msc_mermaid.specs.Lines.{further, position_of, start_on}
-use Rattle.msc_mermaid.specs.Mermaid.{ended_in, shape_of, step, unread}
+use Rattle.msc_mermaid.specs.Mermaid.{ended_in, line_kind_of, step, unread}
 use Rattle.msc_mermaid.specs.Patterns.{is_empty}
 use Rattle.msc_mermaid.specs.Seeking.{from_entity, holds}
 use Rattle.msc_mermaid.specs.White.{behind_white, trimmed}
 use Rattle.msc_place.specs.declared.position.Position.{Position}
 
--- what of the line of a number, from 1, belongs to a diagram, and how many columns and how many bytes of the line
--- stand before it
+-- what of the line of a number, from 1, belongs to a diagram, and how many columns and how many
+-- bytes of the line stand before it
 pub record Stretch : Type 0 where
   pub line : ℕ
   pub before : ℕ
@@ -58,15 +58,15 @@ may_say inside.Configuration = true
 may_say part = false
 
 -- a line of this shape is one of statements, of a diagram that has begun or not
-abbrev pub is_said : Bool → Shape → Bool
-is_said begun shapes.Head = true
-is_said begun shapes.Other = begun
-is_said begun shape = false
+abbrev pub is_said : Bool → LineKind → Bool
+is_said begun line_kinds.Head = true
+is_said begun line_kinds.Other = begun
+is_said begun line_kind = false
 
 -- a line of statements, in which no directive stands, has an entity of HTML
 abbrev pub has_entity : List ℕ → Progress → Bool
 has_entity bytes p =
-    may_say p.inside && is_said p.begun (shape_of (trimmed bytes)) && not (holds bytes (sought.Text marks.Directive)) && holds bytes sought.Entity
+    may_say p.inside && is_said p.begun (line_kind_of (trimmed bytes)) && not (holds bytes (sought.Text marks.Directive)) && holds bytes sought.Entity
 
 -- where the first entity of HTML stands in a part
 abbrev pub entity_place : Stretch → Position

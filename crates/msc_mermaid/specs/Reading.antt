@@ -2,7 +2,7 @@
 use Rattle.std.specs.Prelude.{◌≡◌, ℕ, ◌+◌, ◌-◌, ◌==◌, Bool, true, false, cond, List, [], ◌∷◌, ◌++◌, length, replicate, Option, None, Some, Result, Ok, Err}
 use Rattle.msc_mermaid.specs.declared.fault.ImportFault.{ImportFault}
 use Rattle.msc_place.specs.declared.position.Position.{Position}
-use Rattle.msc_mermaid.specs.declared.reading.Spot.{Spot}
+use Rattle.msc_mermaid.specs.declared.reading.StatementStart.{StatementStart}
 use Rattle.msc_mermaid.specs.declared.saying.Said.{Said}
 use Rattle.msc_mermaid.specs.declared.saying.Said.TheVariants as said
 use Rattle.msc_mermaid.specs.declared.statement.Cross.{Cross}
@@ -23,8 +23,8 @@ is_arrow (Says arrow) = true
 is_arrow (Begins kind) = false
 is_arrow (Closes closer) = false
 
--- what was read so far: the lines that end with the next arrow, how many arrows, the lines and the open
--- blocks, and the statements
+-- what was read so far: the lines that end with the next arrow, how many arrows, the lines and the
+-- open blocks, and the statements
 pub record Read : Type 0 where
   pub dying : List (List ℕ)
   pub arrows : ℕ
@@ -47,7 +47,8 @@ shown_length (Closes closer) = 0
 abbrev pub shown_span : Span → ℕ → Statement → Span
 shown_span whole tail s = span_of (whole.past - tail) (shown_length s)
 
--- one statement more, which begins here and has these bytes, behind which the lines and the open blocks are these
+-- one statement more, which begins here and has these bytes, behind which the lines and the open
+-- blocks are these
 abbrev pub listed : Read → Position → Span → ℕ → Statement → Outline → Read
 listed r here whole tail s outline = record {
   dying = cond (is_arrow s) [] r.dying;
@@ -66,7 +67,7 @@ noted r here whole (said.Statement s tails) = do
   Ok (listed r here whole tails.shown s outline)
 
 -- one statement, which begins here
-unfoldable pub read_one : Option Cross → Spot → List ℕ → Read → Result Read ImportFault
+unfoldable pub read_one : Option Cross → StatementStart → List ℕ → Read → Result Read ImportFault
 read_one cross spot bytes r = do
   s ← said_at cross r.dying spot.here bytes
   noted r spot.here (span_of spot.first (length bytes)) s
@@ -79,7 +80,7 @@ told r = do
 
 -- a statement with a configuration that has no end yet: where it begins, and its bytes so far
 pub record Waiting : Type 0 where
-  pub spot : Spot
+  pub spot : StatementStart
   pub bytes : List ℕ
 
 -- none was met
@@ -91,8 +92,9 @@ abbrev pub gap : ℕ → Waiting → ℕ
 gap start o =
     cond (start - further o.spot.first (length o.bytes) == 0) 1 (start - further o.spot.first (length o.bytes))
 
--- The same with these bytes of a further line, behind a comma for each byte of the text between: what a line says of a
--- configuration ends with it, and what follows stands as far from the beginning as in the text.
+-- The same with these bytes of a further line, behind a comma for each byte of the text between:
+-- what a line says of a configuration ends with it, and what follows stands as far from the
+-- beginning as in the text.
 abbrev pub lengthened : ℕ → List ℕ → Waiting → Waiting
 lengthened start more o = record { spot = o.spot; bytes = o.bytes ++ replicate (gap start o) 44 ++ more }
 

@@ -1,36 +1,37 @@
-//! What a text is by its first line that counts: behind what is left out in front of a diagram.
+//! The kind of a text, by its first line that counts: the line after all that is left out before a
+//! diagram.
 
 ghost use Rattle.std.specs.Prelude.{◌≡◌};
 ghost use Rattle.msc_mermaid.specs.Aheads.{ahead_behind, counted_in, directed, near, started};
 
 use crate::cutting::leaves_open;
 use crate::key::{Mark, begin_so};
+use crate::line_kind::{LineKind, is_front, line_kind_of};
 use crate::seeking::Sought;
-use crate::shape::{Shape, is_front, shape_of};
 use crate::white::trimmed;
 
-/// What stands behind the lines of a text that were looked at.
+/// The state after the lines that were read so far.
 #[derive(Clone, Copy, Debug, PartialEq, Eq)]
 pub enum Ahead {
     /// All lines are empty.
     Start,
-    /// Front matter goes on.
+    /// Front matter continues.
     Front,
-    /// A directive goes on.
+    /// A directive continues.
     Directive,
-    /// No line counts, so far.
+    /// No line counts so far.
     Behind,
     /// The first line that counts begins a sequence diagram.
     Diagram,
-    /// It begins no diagram, and `sequence` stands there.
+    /// It begins no diagram, but begins with `sequence`.
     Near,
-    /// It is another one.
+    /// It is another line.
     Other,
-    /// A directive does not end as it has to.
+    /// A directive does not end correctly.
     Wrong,
 }
 
-/// Behind a line within a directive.
+/// The state after a line within a directive.
 fn directed(line: &[u8]) -> Ahead
     ensures { result ≡ directed line.now }
 {
@@ -45,7 +46,7 @@ fn directed(line: &[u8]) -> Ahead
     }
 }
 
-/// Behind a first line that counts which begins no diagram.
+/// The state after a first line that counts and begins no diagram.
 fn near(line: &[u8]) -> Ahead
     ensures { result ≡ near line.now }
 {
@@ -56,26 +57,26 @@ fn near(line: &[u8]) -> Ahead
     }
 }
 
-/// Behind a line that is not left out as front matter.
+/// The state after a line that is not left out as front matter.
 fn counted_in(line: &[u8]) -> Ahead
     ensures { result ≡ counted_in line.now }
 {
-    match shape_of(trimmed(line)) {
-        Shape::Nothing => Ahead::Behind,
-        Shape::Directive => directed(line),
-        Shape::Comment => {
+    match line_kind_of(trimmed(line)) {
+        LineKind::Nothing => Ahead::Behind,
+        LineKind::Directive => directed(line),
+        LineKind::Comment => {
             if leaves_open(line) {
                 Ahead::Wrong
             } else {
                 Ahead::Behind
             }
         }
-        Shape::Head => Ahead::Diagram,
-        Shape::Other => near(line),
+        LineKind::Head => Ahead::Diagram,
+        LineKind::Other => near(line),
     }
 }
 
-/// Behind a line before which all lines are empty.
+/// The state after the first line that is not empty.
 fn started(line: &[u8]) -> Ahead
     ensures { result ≡ started line.now }
 {
@@ -90,7 +91,7 @@ fn started(line: &[u8]) -> Ahead
 }
 
 impl Ahead {
-    /// What it is behind one line more.
+    /// The state after one more line.
     #[tactic(auto, unfolding(crate::specs::Aheads::ahead_behind))]
     pub fn behind(self, line: &[u8]) -> Ahead
         ensures { result ≡ ahead_behind line.now self }

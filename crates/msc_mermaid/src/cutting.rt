@@ -1,5 +1,6 @@
-//! Lines of statements are cut into pieces, each of which is a statement: before each `;` that belongs
-//! to no entity, and up to a `#` that begins none. An entity is `#`, a word and `;`.
+//! Lines of statements are cut into pieces, each of which is a statement. A piece ends before each
+//! `;` that belongs to no entity, and the last piece ends before a `#` that begins none. An entity
+//! is `#`, a word and `;`.
 
 ghost use Rattle.std.specs.Prelude.{◌≡◌, false, map, IfOk};
 ghost use Rattle.msc_lexer.specs.Bytes.{begins};
@@ -12,18 +13,18 @@ use crate::row::behind_first_word;
 use listed::Listed;
 use std::alloc::{AllocError, Global};
 
-/// What a byte of a line does.
+/// The effect of a byte of a line.
 #[derive(Clone, Copy)]
 pub(crate) enum Turn {
     /// The line ends before it.
     End,
     /// A piece ends before it.
     Cut,
-    /// The piece goes on behind it, within an entity or not.
+    /// The piece goes on after it, within an entity or not.
     On(bool),
 }
 
-/// Whether a semicolon stands here.
+/// Whether the bytes begin with a semicolon.
 fn begins_semicolon(bytes: &[u8]) -> bool
     ensures { result ≡ begins is_semicolon bytes.now }
 {
@@ -33,14 +34,14 @@ fn begins_semicolon(bytes: &[u8]) -> bool
     }
 }
 
-/// Whether what stands here makes an entity of the `#` before it.
+/// Whether these bytes make an entity of the `#` before them.
 fn is_entity(bytes: &[u8]) -> bool
     ensures { result ≡ is_entity bytes.now }
 {
     word_length(bytes) > 0 && begins_semicolon(behind_first_word(bytes))
 }
 
-/// What a byte does, within an entity or not, before these.
+/// The effect of a byte, within an entity or not, that is followed by these.
 fn turn_at(within: bool, byte: u8, rest: &[u8]) -> Turn
     ensures { result ≡ turn_at within byte rest.now }
 {
@@ -60,7 +61,7 @@ fn turn_at(within: bool, byte: u8, rest: &[u8]) -> Turn
     }
 }
 
-/// The pieces of a line. The only error is want of memory.
+/// The pieces of a line. The only error is that memory ran out.
 pub(crate) fn cut(alloc: Global, bytes: &[u8]) -> Result<Vec<&[u8]>, AllocError>
     ensures { IfOk result (λ v. map (λ x. x.now) v.items ≡ cut bytes.now) }
 {
@@ -85,8 +86,8 @@ pub(crate) fn cut(alloc: Global, bytes: &[u8]) -> Result<Vec<&[u8]>, AllocError>
     Ok(pieces)
 }
 
-/// What stands for a byte in what people read, within an entity or not, and whether the next one is
-/// within an entity.
+/// The byte that replaces a byte in a text for readers, within an entity or not, and whether the
+/// next byte is within an entity.
 fn bare_step(within: bool, byte: u8, rest: &[u8]) -> (u8, bool)
     ensures { result ≡ bare_step within byte rest.now }
 {
@@ -99,7 +100,7 @@ fn bare_step(within: bool, byte: u8, rest: &[u8]) -> (u8, bool)
     (byte, false)
 }
 
-/// The bytes with blanks for entities, in memory of their own.
+/// The bytes with blanks for entities, in new memory.
 pub(crate) fn without_entities(alloc: Global, bytes: &[u8]) -> Result<Listed<u8>, AllocError>
     ensures { IfOk result (λ l. l ≡ without_entities bytes.now) }
 {
@@ -113,7 +114,7 @@ pub(crate) fn without_entities(alloc: Global, bytes: &[u8]) -> Result<Listed<u8>
     Ok(Listed::from_vec(bare))
 }
 
-/// Whether a directive is open behind a byte, if it was or not.
+/// Whether a directive is open after a byte, given whether it was open before.
 fn open_step(was: bool, bytes: &[u8]) -> bool
     ensures { result ≡ open_step was bytes.now }
 {
@@ -124,7 +125,7 @@ fn open_step(was: bool, bytes: &[u8]) -> bool
     }
 }
 
-/// Whether a directive is open behind the bytes: the last `%%{` has no `}%%` behind it.
+/// Whether a directive is open after the bytes: no `}%%` follows the last `%%{`.
 pub(crate) fn leaves_open(bytes: &[u8]) -> bool
     ensures { result ≡ leaves_open false bytes.now }
 {

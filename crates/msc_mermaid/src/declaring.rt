@@ -1,4 +1,4 @@
-//! Lines that are declared, and the texts that people read.
+//! Declarations of lines, and the texts that readers see.
 
 ghost use Rattle.std.specs.Prelude.{◌≡◌, ◌≤◌, ◌==◌, drop, get_or, length, not, IfOk};
 ghost use Rattle.std.specs.List.{prefix_len};
@@ -20,29 +20,29 @@ use listed::Listed;
 use msc_place::Position;
 use std::alloc::{AllocError, Global};
 
-/// How many bytes of a statement are left from what it names or declares on, and from the label of its
-/// arrow or the shown name of its line on.
+/// The number of bytes of a statement from the name that it mentions or declares to its end, and
+/// the number from the label of its arrow or the shown name of its line.
 #[derive(Clone, Copy)]
 pub(crate) struct Tails {
     pub name: usize,
     pub shown: usize,
 }
 
-/// A label or a shown name, and how many bytes of its statement are left from it on.
+/// A label or a shown name, and the number of bytes of its statement from its start to the end.
 #[derive(Drop)]
 pub(crate) struct Shown {
     pub text: Listed<u8>,
     pub tail: usize,
 }
 
-/// How many bytes are left from a name on, which these bytes begin with, behind white space.
+/// The number of bytes from a name to the end, if the bytes begin with white space and this name.
 pub(crate) fn name_tail(bytes: &[u8], name: &[u8]) -> usize
     ensures { result ≡ name_tail bytes.now name.now }
 {
     bytes.len().saturating_sub(white_in_front(name))
 }
 
-/// The bytes behind a colon, if one stands here.
+/// The bytes after a colon, if they begin with one.
 fn behind_colon(bytes: &[u8]) -> &[u8]
     ensures { result.now ≡ behind_colon bytes.now }
 {
@@ -52,8 +52,7 @@ fn behind_colon(bytes: &[u8]) -> &[u8]
     bytes
 }
 
-/// A label or shown name without the word on its wrapping, which is what stands here, or else these
-/// bytes.
+/// A label or shown name without the word on its wrapping: the bytes after that word, or all bytes.
 fn unwrapped<'t>(here: &'t [u8], bytes: &'t [u8]) -> &'t [u8]
     ensures { result.now ≡ unwrapped here.now bytes.now }
 {
@@ -66,14 +65,14 @@ fn unwrapped<'t>(here: &'t [u8], bytes: &'t [u8]) -> &'t [u8]
     bytes
 }
 
-/// What stands from a label or a shown name on, without the word on its wrapping.
+/// The bytes from a label or a shown name on, without the word on its wrapping.
 fn from_shown(bytes: &[u8]) -> &[u8]
     ensures { result.now ≡ from_shown bytes.now }
 {
     behind_white(unwrapped(behind_colon(behind_white(bytes)), bytes))
 }
 
-/// A label or a shown name at the end of a statement: without the word on its wrapping, and with
+/// A label or a shown name at the end of a statement, without the word on its wrapping and with
 /// blanks for its entities.
 pub(crate) fn shown_text(alloc: Global, bytes: &[u8]) -> Result<Shown, AllocError>
     ensures { IfOk result (λ s. s ≡ shown_text bytes.now) }
@@ -85,7 +84,7 @@ pub(crate) fn shown_text(alloc: Global, bytes: &[u8]) -> Result<Shown, AllocErro
     })
 }
 
-/// The byte that stands here, and 0 behind the end.
+/// The first byte, or 0 if there is none.
 fn first(bytes: &[u8]) -> u8
     ensures { result ≡ get_or bytes.now 0 0 }
 {
@@ -102,7 +101,7 @@ fn is_quote(byte: u8) -> bool
     byte == b'"' || byte == b'\''
 }
 
-/// The bytes behind the first one, if there is one.
+/// The bytes after the first one, if there is one.
 fn behind_first(bytes: &[u8]) -> &[u8]
     ensures { result.now ≡ drop 1 bytes.now }
 {
@@ -112,7 +111,7 @@ fn behind_first(bytes: &[u8]) -> &[u8]
     }
 }
 
-/// What stands behind a quotation mark, if one stands here.
+/// The bytes after a quotation mark, if they begin with one.
 fn behind_quote(bytes: &[u8]) -> &[u8]
     ensures { result.now ≡ behind_quote bytes.now }
 {
@@ -123,7 +122,7 @@ fn behind_quote(bytes: &[u8]) -> &[u8]
     }
 }
 
-/// How many bytes stand before the first one of these.
+/// The number of bytes before the first byte of this value.
 fn length_up_to(stop: u8, bytes: &[u8]) -> usize
     ensures length { result ≡ prefix_len (λ b. not (b == stop)) bytes.now }
     ensures within { result ≤ length bytes.now }
@@ -131,14 +130,14 @@ fn length_up_to(stop: u8, bytes: &[u8]) -> usize
     bytes.iter().take_while(|byte| !(**byte == stop)).count()
 }
 
-/// The bytes before the first one of these.
+/// The bytes before the first byte of this value.
 fn up_to(stop: u8, bytes: &[u8]) -> &[u8]
     ensures { result.now ≡ up_to stop bytes.now }
 {
     &bytes[..length_up_to(stop, bytes)]
 }
 
-/// A value of a configuration: what stands between quotation marks, or before a comma.
+/// A value of a configuration: the bytes between quotation marks, or before a comma.
 fn value_of(bytes: &[u8]) -> &[u8]
     ensures { result.now ≡ value_of bytes.now }
 {
@@ -150,7 +149,7 @@ fn value_of(bytes: &[u8]) -> &[u8]
     }
 }
 
-/// How many of these bytes are left from a value on.
+/// The number of these bytes from a value to the end.
 fn value_tail(bytes: &[u8]) -> usize
     ensures { result ≡ value_tail bytes.now }
 {
@@ -161,7 +160,7 @@ fn value_tail(bytes: &[u8]) -> usize
     }
 }
 
-/// The shown name of this value, which so many bytes of the statement stand behind.
+/// The shown name of this value, which `behind` bytes of the statement follow.
 fn value_shown(alloc: Global, behind: usize, bytes: &[u8]) -> Result<Shown, AllocError>
     ensures { IfOk result (λ s. s ≡ value_shown behind bytes.now) }
 {
@@ -171,8 +170,8 @@ fn value_shown(alloc: Global, behind: usize, bytes: &[u8]) -> Result<Shown, Allo
     })
 }
 
-/// The shown name that stands behind `alias` in a configuration, which so many bytes of the statement
-/// stand behind: a colon and a value.
+/// The shown name after `alias` in a configuration, which `behind` bytes of the statement follow: a
+/// colon and a value.
 fn value_behind(alloc: Global, behind: usize, bytes: &[u8]) -> Result<Option<Shown>, AllocError>
     ensures { IfOk result (λ o. o ≡ value_behind behind bytes.now) }
 {
@@ -183,7 +182,7 @@ fn value_behind(alloc: Global, behind: usize, bytes: &[u8]) -> Result<Option<Sho
     Ok(Some(value))
 }
 
-/// The shown name in a configuration, which so many bytes of the statement stand behind, if there is
+/// The shown name in a configuration, which `behind` bytes of the statement follow, if there is
 /// one.
 fn shown_in(alloc: Global, behind: usize, config: &[u8]) -> Result<Option<Shown>, AllocError>
     ensures { IfOk result (λ o. o ≡ shown_in behind config.now) }
@@ -196,7 +195,8 @@ fn shown_in(alloc: Global, behind: usize, config: &[u8]) -> Result<Option<Shown>
     value_behind(alloc, behind, behind_white(behind_quote(rest)))
 }
 
-/// A line of this name and shown name, with the bytes of its statement that are left from them on.
+/// A line of this name and shown name, with the number of bytes of its statement from each of them
+/// on.
 fn declares(name: Listed<u8>, tail: usize, shown: Option<Shown>) -> (Statement, Tails)
     ensures { result ≡ declares name tail shown }
 {
@@ -218,7 +218,7 @@ fn declares(name: Listed<u8>, tail: usize, shown: Option<Shown>) -> (Statement, 
     }
 }
 
-/// A line of this name, from which so many bytes are left, and shown name.
+/// A line of this name and shown name, with `tail` bytes from the name on.
 #[tactic(auto, unfolding(crate::specs::Names::line_of))]
 fn line_of(
     alloc: Global,
@@ -233,8 +233,9 @@ fn line_of(
     Ok(declares(owned(alloc, name)?, tail, shown))
 }
 
-/// The shown name of a line with this configuration, with whose end so many bytes of the statement
-/// begin, and which this stands behind: behind `as`, or else in it.
+/// The shown name of a line with this configuration: the name after `as`, or otherwise the one in
+/// the configuration. `bytes` follow the configuration, and `behind` bytes of the statement are
+/// left at its end.
 #[tactic(auto, unfolding(crate::specs::Names::shown_behind))]
 fn shown_behind(
     alloc: Global,
@@ -255,7 +256,8 @@ fn shown_behind(
     Ok(Some(shown))
 }
 
-/// A line of this name, from which so many bytes are left, with the configuration that begins here.
+/// A line of this name, from which this number of bytes is left, with the configuration that begins
+/// here.
 #[tactic(auto, unfolding(crate::specs::Names::configured))]
 fn configured(
     alloc: Global,

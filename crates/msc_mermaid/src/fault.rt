@@ -1,4 +1,4 @@
-//! Why a text is no diagram that can be taken, and why no chart is drawn of it.
+//! Why a text is no supported diagram, and why a scenario has no chart.
 
 ghost use Rattle.std.specs.Prelude.{◌≡◌, Some};
 ghost use Rattle.msc_mermaid.specs.declared.fault.ImportFault.TheVariants.{Memory};
@@ -11,22 +11,22 @@ use std::alloc::{AllocError, AllocFailed};
 use std::fmt;
 use thiserror::Error;
 
-/// What the language wanted at the place of a fault.
+/// The part that the language requires at the position of a fault.
 #[derive(Clone, Copy, Debug, PartialEq, Eq)]
 pub enum Expectation {
-    /// The end of what stands in front of a Mermaid diagram.
+    /// The end of the front matter of a Mermaid diagram.
     Front,
     /// The end of a directive.
     Directive,
     /// The end of a description.
     Description,
-    /// Nothing behind such an end.
+    /// Nothing after such an end.
     LineEnd,
-    /// Nothing behind the shown name of a line.
+    /// Nothing after the shown name of a line.
     StatementEnd,
-    /// A line that a diagram of any language begins with.
+    /// A line with which a diagram of any language begins.
     AnyDiagram,
-    /// The word that a Mermaid diagram begins with.
+    /// The word with which a Mermaid diagram begins.
     Diagram,
     /// A statement.
     Statement,
@@ -37,7 +37,7 @@ pub enum Expectation {
 }
 
 impl Expectation {
-    /// What was expected, in words.
+    /// The expected part, in words.
     fn words(self) -> &'static str
         ensures { result.now ≡ expectation self }
     {
@@ -56,7 +56,7 @@ impl Expectation {
     }
 }
 
-/// Shows what was expected in the words of a printed fault.
+/// Prints the expected part in the words of a printed fault.
 impl fmt::Display for Expectation {
     ghost output = { λ e. Some (expectation e) };
 
@@ -65,25 +65,25 @@ impl fmt::Display for Expectation {
     }
 }
 
-/// The first fault of a text, or why a scenario has no chart. A position is one of the text: that of
-/// the statement, where nothing else is said. The messages are the words of the printed lines,
-/// without number and line.
+/// The first fault of a text, or why a scenario has no chart. A position is one of the text: that
+/// of the statement, unless the variant says otherwise. The messages are the words of the printed
+/// lines, without number and line.
 #[derive(Clone, Copy, Debug, PartialEq, Eq, Error)]
 pub enum ImportFault {
-    /// The text is too long. Comes before all others.
+    /// The text is too long. This fault precedes all others.
     #[error("text longer than 1048576 bytes")]
     TooLong,
-    /// Something else was expected than what stands in the statement, or here outside of all
-    /// statements.
+    /// This part was expected: in the statement or, outside of all statements, at this position.
     #[error("expected {1}")]
     Expected(Position, Expectation),
-    /// An arrow that isn't taken.
+    /// An arrow that is not supported.
     #[error("{1} is not supported")]
     Unsupported(Position, Head),
-    /// An entity of HTML in a line of statements, where a browser reads the text first.
+    /// An entity of HTML in a line of statements, if a browser reads the text first.
     #[error("entities of HTML are not supported")]
     Entity(Position),
-    /// The innermost block without its end; it begins here. Comes after all others of a text.
+    /// The innermost block without its end; the position is its beginning. This fault comes after
+    /// all others of a text.
     #[error("block without end")]
     Unended(Position),
     /// The end of a block, or the word that begins its next branch, outside of such a block.
@@ -92,36 +92,36 @@ pub enum ImportFault {
     /// A line of Markdown outside of all blocks that begins a diagram.
     #[error("sequenceDiagram outside of its block")]
     Stray(Position),
-    /// A block within as many as there may be.
+    /// A block inside as many blocks as a diagram may nest.
     #[error("more than 10 blocks inside each other")]
     TooDeep(Position),
-    /// A line beside as many as there may be.
+    /// One line more than a diagram may have.
     #[error("more than 32 instances")]
     TooManyLines(Position),
-    /// The diagram has more scenarios than so many, which is the limit that was given.
+    /// The diagram has more scenarios than the given limit, which is this number.
     #[error("more than {0} scenarios")]
     TooManyScenarios(usize),
-    /// The diagram has so many scenarios, and it isn't said which of them is meant; as many as one
-    /// more than are counted, where it has more.
+    /// The diagram has this number of scenarios, or more if it is one more than the greatest count,
+    /// and no option selects one.
     #[error("{0} scenarios, say --choose")]
     Several(usize),
-    /// A choice of the block that begins here, from 1, is more than its greatest one.
+    /// A choice of the block at this position, from 1, is greater than the greatest one.
     #[error("choice {1} is more than {2}")]
     Choice(Position, usize, usize),
     /// More choices are given than blocks were met.
     #[error("{0} choices for {1} blocks")]
     TooManyChoices(usize, usize),
-    /// An arrow of a scenario beside as many as there may be.
+    /// One arrow more than a scenario may have.
     #[error("more than 1024 arrows")]
     TooManyArrows(Position),
-    /// The branches of the block that begins here are no coregion on a line of the diagram, which is
-    /// told by its number, from 0.
+    /// The branches of the block at this position are no coregion on a line of the diagram; the
+    /// number of the line is from 0.
     #[error("parallel branches share line {1}")]
     Shared(Position, usize),
     /// The Markdown has no diagram of this number, from 1.
     #[error("no diagram {0}")]
     NoDiagram(usize),
-    /// The Markdown has so many diagrams, and it isn't said which of them is meant.
+    /// The Markdown has this number of diagrams, and no option selects one.
     #[error("{0} diagrams, say --fence")]
     SeveralDiagrams(usize),
     /// A growth of memory was refused.

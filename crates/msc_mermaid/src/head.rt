@@ -64,7 +64,7 @@ pub enum Head {
     LeftLowerStick,
 }
 
-/// Shows the arrow as it is written.
+/// Prints the arrow as it is written.
 impl fmt::Display for Head {
     ghost output = { λ h. Some (head_text h) };
 
@@ -74,7 +74,7 @@ impl fmt::Display for Head {
 }
 
 impl Head {
-    /// Each of them once, a longer one before those that it begins with.
+    /// Each of them once, a longer arrow before its beginnings.
     const ALL: [Head; 26] = [
         Head::DottedBoth,
         Head::Both,
@@ -169,7 +169,7 @@ impl Head {
         matches!(self, Head::DottedCross | Head::Cross)
     }
 
-    /// The first of these arrows that the bytes begin with.
+    /// The first of these arrows with which the bytes begin.
     fn among(bytes: &[u8], heads: &[Head]) -> Option<Head>
         ensures value { result ≡ find (λ h. begin_so bytes.now (head_text h)) heads.now }
         ensures room { IfSome result (λ h. length (head_text h) ≤ length bytes.now) }
@@ -182,14 +182,14 @@ impl Head {
         None
     }
 
-    /// How many bytes it has.
+    /// The number of bytes of the arrow.
     pub(crate) fn length(self) -> usize
         ensures { result ≡ length (head_text self) }
     {
         self.text().len()
     }
 
-    /// The arrow that the bytes begin with.
+    /// The arrow with which the bytes begin.
     pub(crate) fn of(bytes: &[u8]) -> Option<Head>
         ensures value { result ≡ head_of bytes.now }
         ensures room { IfSome result (λ h. length (head_text h) ≤ length bytes.now) }

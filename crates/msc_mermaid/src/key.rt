@@ -5,7 +5,7 @@ ghost use Rattle.std.specs.Prelude.{◌≡◌, ◌≤◌, IsTrue, length, drop, 
 ghost use Rattle.msc_mermaid.specs.Keys.{all_keys, are_spelled, begin_so, key_of, mark_text};
 ghost use Rattle.msc_mermaid.specs.Keys.{spelling};
 
-/// A word that a statement may begin with.
+/// A word with which a statement may begin.
 #[derive(Clone, Copy)]
 pub(crate) enum Key {
     Create,
@@ -38,7 +38,7 @@ pub(crate) enum Key {
     Off,
 }
 
-/// A text that stands within statements, or at the ends of what is left out.
+/// A text within statements, or at the ends of what is left out.
 #[derive(Clone, Copy)]
 pub(crate) enum Mark {
     Comment,
@@ -112,7 +112,7 @@ impl Key {
         Key::Off,
     ];
 
-    /// How it is spelled.
+    /// The spelling of the word.
     fn spelling(self) -> &'static [u8]
         ensures { result.now ≡ spelling self }
     {
@@ -148,7 +148,7 @@ impl Key {
         }
     }
 
-    /// The first of these words that the bytes are.
+    /// The first of these words that equals the bytes.
     fn among(bytes: &[u8], keys: &[Key]) -> Option<Key>
         ensures { result ≡ find (λ k. are_spelled bytes.now (spelling k)) keys.now }
     {
@@ -160,7 +160,7 @@ impl Key {
         None
     }
 
-    /// The key word that the bytes are.
+    /// The key word that equals the bytes.
     pub(crate) fn of(bytes: &[u8]) -> Option<Key>
         ensures { result ≡ key_of bytes.now }
     {
@@ -175,7 +175,7 @@ impl Key {
         begin_so(bytes, self.spelling())
     }
 
-    /// How many bytes it has.
+    /// The number of bytes of its text.
     pub(crate) fn length(self) -> usize
         ensures { result ≡ length (spelling self) }
     {
@@ -221,14 +221,14 @@ impl Mark {
         begin_so(bytes, self.text())
     }
 
-    /// How many bytes it has.
+    /// The number of bytes of its text.
     pub(crate) fn length(self) -> usize
         ensures { result ≡ length (mark_text self) }
     {
         self.text().len()
     }
 
-    /// What stands behind as many bytes as it has.
+    /// The bytes without as many at the front as this text has.
     pub(crate) fn behind(self, bytes: &[u8]) -> &[u8]
         ensures { result.now ≡ drop (length (mark_text self)) bytes.now }
     {

@@ -1,31 +1,25 @@
-//! Laws of diagrams, over the definitions alone. The functions do nothing when they run: a caller
-//! calls one to rest its own proof on the law.
+//! Laws of diagrams, over the definitions only. The functions do nothing when they run: a caller
+//! that needs a law calls its function.
 
 ghost use Rattle.msc_mermaid.specs.Laws.{ArrowsSpellTheirTexts, LinesSpellTheirNames};
-ghost use Rattle.msc_mermaid.specs.Laws.{LinesStandWhereTheyBegin, OneDiagram};
-ghost use Rattle.msc_mermaid.specs.Laws.{StatementsBeginAtTheirPlaces};
+ghost use Rattle.msc_mermaid.specs.Laws.{LinesStandWhereTheyBegin, StatementsBeginAtTheirPlaces};
 
-/// A text has one diagram.
-pub fn one_diagram()
-    ensures { OneDiagram }
-{}
-
-/// A statement spells its texts. That of an arrow begins with its sender; where its receiver and its
-/// label are said to stand in it, the receiver stands, and the bytes of which the label is made. A line
-/// that is declared stands where it is said to.
+/// A statement spells its texts. An arrow begins with its sender, and it has its receiver and the
+/// bytes of its label at the places that are given for them. A declaration of a line has the line
+/// at the place that is given for it.
 pub fn statements_spell_their_texts()
     ensures arrows { ArrowsSpellTheirTexts }
     ensures lines { LinesSpellTheirNames }
 {}
 
-/// Each line of a text stands in it where it is said to begin, behind a byte order mark and ends of
-/// lines of one byte or two.
+/// Each line of a text begins at the place that is given for it, after a byte order mark and line
+/// ends of one byte or two.
 pub fn lines_stand_where_they_begin()
     ensures { LinesStandWhereTheyBegin }
 {}
 
-/// The bytes of a statement of a text begin at its place: its line stands in the text where it begins,
-/// and as many bytes of it stand before the statement as its column says.
+/// The bytes of a statement of a text begin at its place: its line begins at the place that is
+/// given for it, and the column of the statement counts the bytes of the line before it.
 pub fn statements_begin_at_their_places()
     ensures { StatementsBeginAtTheirPlaces }
 {}

@@ -7,7 +7,7 @@ ghost use Rattle.msc_mermaid.specs.Lines.{position_of, start_on, starts_behind, 
 use msc_place::Position;
 use std::alloc::{AllocError, Global};
 
-/// The text behind its byte order mark, if it has one.
+/// The text after its byte order mark, if it has one.
 fn behind_mark(text: &[u8]) -> &[u8]
     ensures { result.now ≡ behind_mark text.now }
 {
@@ -17,7 +17,7 @@ fn behind_mark(text: &[u8]) -> &[u8]
     text
 }
 
-/// The lines of a text behind its mark.
+/// The lines of a text after its byte order mark.
 fn lines_behind(alloc: Global, text: &[u8]) -> Result<Vec<&[u8]>, AllocError>
     ensures { IfOk result (λ v. map (λ x. x.now) v.items ≡ lines_behind false text.now) }
 {
@@ -38,14 +38,14 @@ fn lines_behind(alloc: Global, text: &[u8]) -> Result<Vec<&[u8]>, AllocError>
     Ok(lines)
 }
 
-/// The lines of a text, without their ends. The only error is want of memory.
+/// The lines of a text, without their ends. The only error is that memory ran out.
 pub fn lines_of(alloc: Global, text: &[u8]) -> Result<Vec<&[u8]>, AllocError>
     ensures { IfOk result (λ v. map (λ x. x.now) v.items ≡ lines_of text.now) }
 {
     lines_behind(alloc, behind_mark(text))
 }
 
-/// Where the lines of a text begin that stands behind so many bytes of another one.
+/// The places at which the lines of a text begin that follows `before` bytes of another text.
 fn starts_behind(alloc: Global, before: usize, text: &[u8]) -> Result<Vec<usize>, AllocError>
     requires { before ≤ 3 }
     ensures { IfOk result (λ v. v.items ≡ starts_behind before false text.now) }
@@ -68,8 +68,8 @@ fn starts_behind(alloc: Global, before: usize, text: &[u8]) -> Result<Vec<usize>
     Ok(starts)
 }
 
-/// Where the lines of a text begin: how many bytes of it stand before each. The only error is want of
-/// memory.
+/// The places at which the lines of a text begin: the number of bytes before each line. The only
+/// error is that memory ran out.
 pub fn starts_of(alloc: Global, text: &[u8]) -> Result<Vec<usize>, AllocError>
     ensures { IfOk result (λ v. v.items ≡ starts_of text.now) }
 {
@@ -77,7 +77,7 @@ pub fn starts_of(alloc: Global, text: &[u8]) -> Result<Vec<usize>, AllocError>
     starts_behind(alloc, text.len().saturating_sub(rest.len()), rest)
 }
 
-/// Where the line of a number begins, from 1.
+/// The place at which the line of a number, from 1, begins.
 pub(crate) fn start_on(starts: &[usize], line: usize) -> usize
     ensures { result ≡ start_on starts.now line }
 {
@@ -85,7 +85,7 @@ pub(crate) fn start_on(starts: &[usize], line: usize) -> usize
     if at < starts.len() { starts[at] } else { 0 }
 }
 
-/// A place in a text, so many bytes further on.
+/// The position `count` bytes after a position in a text.
 #[tactic(auto, unfolding(crate::specs::Lines::further))]
 pub(crate) fn further(place: usize, count: usize) -> usize
     ensures { result ≡ further place count }
@@ -93,7 +93,7 @@ pub(crate) fn further(place: usize, count: usize) -> usize
     place.saturating_add(count)
 }
 
-/// How many of the bytes are counted in columns: those that aren't continuation bytes of UTF-8.
+/// The number of these bytes that columns count: all but continuation bytes of UTF-8.
 pub fn counted(bytes: &[u8]) -> usize
     ensures value { result ≡ count_by is_counted bytes.now }
     ensures within { result ≤ length bytes.now }
@@ -112,7 +112,7 @@ pub(crate) struct Row<'t> {
 }
 
 impl Row<'_> {
-    /// The position of these bytes of what ends it.
+    /// The position of these bytes, with which the line ends.
     pub(crate) fn position_of(self, rest: &[u8]) -> Position
         ensures { result ≡ position_of self.entry.line self.entry.bytes.now rest.now }
     {

@@ -6,7 +6,7 @@ ghost use Rattle.msc_lexer.specs.Bytes.{begins};
 ghost use Rattle.msc_mermaid.specs.Markup.{entity_rest, is_ampersand, is_end, is_hash};
 ghost use Rattle.msc_mermaid.specs.Markup.{markup_entity, named};
 
-/// Whether `&` stands here.
+/// Whether the bytes begin with `&`.
 fn begins_ampersand(bytes: &[u8]) -> bool
     ensures { result ≡ begins is_ampersand bytes.now }
 {
@@ -16,7 +16,7 @@ fn begins_ampersand(bytes: &[u8]) -> bool
     }
 }
 
-/// Whether `#` stands here.
+/// Whether the bytes begin with `#`.
 fn begins_hash(bytes: &[u8]) -> bool
     ensures { result ≡ begins is_hash bytes.now }
 {
@@ -26,7 +26,7 @@ fn begins_hash(bytes: &[u8]) -> bool
     }
 }
 
-/// Whether `;` stands here.
+/// Whether the bytes begin with `;`.
 fn begins_end(bytes: &[u8]) -> bool
     ensures { result ≡ begins is_end bytes.now }
 {
@@ -36,7 +36,7 @@ fn begins_end(bytes: &[u8]) -> bool
     }
 }
 
-/// The bytes behind so many.
+/// The bytes after the first `count`.
 fn behind(bytes: &[u8], count: usize) -> &[u8]
     ensures { result.now ≡ drop count bytes.now }
 {
@@ -46,7 +46,7 @@ fn behind(bytes: &[u8], count: usize) -> &[u8]
     &bytes[count..]
 }
 
-/// How many letters and digits stand in front.
+/// The number of letters and digits at the front.
 fn named(bytes: &[u8]) -> usize
     ensures length { result ≡ named bytes.now }
     ensures within { result ≤ length bytes.now }
@@ -57,7 +57,8 @@ fn named(bytes: &[u8]) -> usize
         .count()
 }
 
-/// How many bytes an entity has of which so many stand before these; 0 if these are no rest of one.
+/// The number of bytes of an entity with `count` bytes before these; 0 if these bytes are not the
+/// rest of an entity.
 fn entity_rest(count: usize, bytes: &[u8]) -> usize
     requires { count < 2 ^ 62 }
     ensures { result ≡ entity_rest count bytes.now }
@@ -70,7 +71,7 @@ fn entity_rest(count: usize, bytes: &[u8]) -> usize
     }
 }
 
-/// How many bytes the entity of HTML has that stands here; 0 if there is none.
+/// The number of bytes of the entity of HTML at the front; 0 if there is none.
 pub(crate) fn markup_entity(bytes: &[u8]) -> usize
     ensures { result ≡ markup_entity bytes.now }
 {

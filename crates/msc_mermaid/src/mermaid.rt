@@ -4,17 +4,17 @@ ghost use Rattle.std.specs.Prelude.{◌≡◌, ◌≤◌, ◌<◌, ◌^◌, leng
 ghost use Rattle.msc_mermaid.specs.Gives.{Gives};
 ghost use Rattle.msc_mermaid.specs.Mermaid.{behind_head, body, described_as, end_of, ended_in};
 ghost use Rattle.msc_mermaid.specs.Mermaid.{first_line, first_line_place};
-ghost use Rattle.msc_mermaid.specs.Mermaid.{head_as, mermaid, outside, said_in, shape_of, step};
+ghost use Rattle.msc_mermaid.specs.Mermaid.{head_as, mermaid, outside, said_in, line_kind_of, step};
 ghost use Rattle.msc_mermaid.specs.Mermaid.{steps};
 ghost use Rattle.msc_mermaid.specs.Reading.{Leaves};
 ghost use Rattle.msc_mermaid.specs.White.{trimmed};
 
 use crate::fault::{Expectation, ImportFault};
 use crate::key::Mark;
+use crate::line_kind::{LineKind, closed, is_front, line_kind_of, undirected};
 use crate::lines::{Row, lines_of, start_on, starts_of};
 use crate::progress::{Inside, Progress};
 use crate::reading::Reader;
-use crate::shape::{Shape, closed, is_front, shape_of, undirected};
 use crate::statement::{Cross, Diagram};
 use crate::waiting::Waiting;
 use crate::white::{behind_white, is_white, trimmed, white_in_front};
@@ -22,7 +22,8 @@ use msc_lexer::TEXT_LIMIT;
 use msc_place::Position;
 use std::alloc::Global;
 
-/// How many bytes the word takes that the diagram begins with, with the white space before it.
+/// The number of bytes up to the end of the word with which the diagram begins, with the white
+/// space before it.
 fn behind_head(bytes: &[u8]) -> usize
     requires { length bytes.now < 2 ^ 63 }
     ensures { result ≡ behind_head bytes.now }
@@ -31,7 +32,7 @@ fn behind_head(bytes: &[u8]) -> usize
 }
 
 impl Progress {
-    /// Reads a line of a diagram that has begun, behind so many of its bytes.
+    /// Reads a line of a diagram that has begun, after this number of its bytes.
     #[tactic(auto, unfolding(crate::specs::Mermaid::body, crate::specs::Mermaid::body_as))]
     fn body(
         &mut self,
@@ -46,11 +47,11 @@ impl Progress {
     {
         let rest = &bytes[at..];
         let row = Row { line, bytes };
-        match shape_of(trimmed(rest)) {
-            Shape::Directive => self.left_out(row, Inside::Directive, Mark::DirectiveEnd, rest),
-            Shape::Nothing => Ok(()),
-            Shape::Comment => self.commented(row, rest),
-            Shape::Head | Shape::Other => self.said_on(alloc, cross, line, bytes, at),
+        match line_kind_of(trimmed(rest)) {
+            LineKind::Directive => self.left_out(row, Inside::Directive, Mark::DirectiveEnd, rest),
+            LineKind::Nothing => Ok(()),
+            LineKind::Comment => self.commented(row, rest),
+            LineKind::Head | LineKind::Other => self.said_on(alloc, cross, line, bytes, at),
         }
     }
 
@@ -64,18 +65,18 @@ impl Progress {
         bytes: &[u8],
     ) -> Result<(), ImportFault>
         ensures { Leaves result self.new
-            (head_as cross line bytes.now self.old (shape_of (trimmed bytes.now))) }
+            (head_as cross line bytes.now self.old (line_kind_of (trimmed bytes.now))) }
     {
         let row = Row { line, bytes };
-        match shape_of(trimmed(bytes)) {
-            Shape::Directive => self.left_out(row, Inside::Directive, Mark::DirectiveEnd, bytes),
-            Shape::Nothing => Ok(()),
-            Shape::Comment => self.commented(row, bytes),
-            Shape::Head => {
+        match line_kind_of(trimmed(bytes)) {
+            LineKind::Directive => self.left_out(row, Inside::Directive, Mark::DirectiveEnd, bytes),
+            LineKind::Nothing => Ok(()),
+            LineKind::Comment => self.commented(row, bytes),
+            LineKind::Head => {
                 self.begun = true;
                 self.body(alloc, cross, line, bytes, behind_head(bytes))
             }
-            Shape::Other => {
+            LineKind::Other => {
                 let found = row.position_of(behind_white(bytes));
                 Err(ImportFault::Expected(found, Expectation::Diagram))
             }
@@ -127,27 +128,27 @@ impl Progress {
     #[tactic(auto, unfolding(crate::specs::Mermaid::described_as))]
     pub(crate) fn described(&mut self, line: usize, bytes: &[u8]) -> Result<(), ImportFault>
         ensures { Leaves result self.new
-            (described_as line bytes.now self.old (shape_of (trimmed bytes.now))) }
+            (described_as line bytes.now self.old (line_kind_of (trimmed bytes.now))) }
     {
         let row = Row { line, bytes };
-        match shape_of(trimmed(bytes)) {
-            Shape::Nothing => Ok(()),
-            Shape::Directive => {
+        match line_kind_of(trimmed(bytes)) {
+            LineKind::Nothing => Ok(()),
+            LineKind::Directive => {
                 if closed(row, Mark::DirectiveEnd, bytes)? {
                     return Ok(());
                 }
                 let end = row.position_of(&[]);
                 Err(ImportFault::Expected(end, Expectation::Directive))
             }
-            Shape::Comment => self.commented(row, bytes),
-            Shape::Head | Shape::Other => {
+            LineKind::Comment => self.commented(row, bytes),
+            LineKind::Head | LineKind::Other => {
                 let text = undirected(row, bytes)?;
                 self.left_out(row, Inside::Description, Mark::DescriptionEnd, text)
             }
         }
     }
 
-    /// Reads one line more, which begins at this place of the text.
+    /// Reads one more line, which begins at this place of the text.
     #[tactic(auto, unfolding(crate::specs::Mermaid::step, crate::specs::Mermaid::step_in))]
     pub(crate) fn step(
         &mut self,
@@ -182,7 +183,7 @@ impl Progress {
         }
     }
 
-    /// Reads these lines, from the first one on, of a text whose lines begin so.
+    /// Reads these lines, from the first one on, of a text whose lines begin at these places.
     fn steps(
         &mut self,
         alloc: Global,
@@ -200,7 +201,7 @@ impl Progress {
         Ok(())
     }
 
-    /// The diagram, where nothing lacks at the end of a text, which is here.
+    /// The diagram, if nothing is missing at the end of a text, which is at this position.
     #[tactic(auto, unfolding(crate::specs::Mermaid::ended_in))]
     pub(crate) fn ended(self, here: Position) -> Result<Diagram, ImportFault>
         ensures { Gives (λ x. x) result (ended_in here self self.inside) }
@@ -225,7 +226,7 @@ impl Progress {
     }
 }
 
-/// Where a text of these lines ends. It takes no memory.
+/// The position at which a text of these lines ends. It takes no memory.
 pub fn end_of(lines: &[&[u8]]) -> Position
     ensures { result ≡ end_of (map (λ x. x.now) lines.now) }
 {
@@ -236,8 +237,8 @@ pub fn end_of(lines: &[&[u8]]) -> Position
     }
 }
 
-/// Where the first byte stands that is no white space, in a text of these lines; and else its end. It
-/// takes no memory.
+/// The position of the first byte that is no white space in a text of these lines, or the end of
+/// the text if there is none. It takes no memory.
 pub fn beginning_of(lines: &[&[u8]]) -> Position
     ensures { result ≡ first_line_place 1 (map (λ x. x.now) lines.now)
         (end_of (map (λ x. x.now) lines.now)) }
@@ -254,7 +255,7 @@ pub fn beginning_of(lines: &[&[u8]]) -> Position
     end_of(lines)
 }
 
-/// The diagram of these lines of a text, which begin so.
+/// The diagram of these lines of a text, which begin at these places.
 #[tactic(auto, unfolding(crate::specs::Mermaid::said_in))]
 fn said_in(
     alloc: Global,
@@ -275,8 +276,8 @@ fn said_in(
     progress.ended(end_of(lines))
 }
 
-/// The diagram of a Mermaid text, or its first fault. Where it isn't said what crosses are, one that
-/// may be either is a fault.
+/// The diagram of a Mermaid text, or its first fault. Without a meaning of crosses, the message of
+/// an arrow with a cross may be lost or arrive.
 #[tactic(auto, unfolding(crate::specs::Mermaid::mermaid))]
 pub fn diagram_of(alloc: Global, cross: Option<Cross>, text: &[u8]) -> Result<Diagram, ImportFault>
     ensures { Gives (λ x. x) result (mermaid cross text.now) }

@@ -15,28 +15,28 @@ use listed::Listed;
 use msc_place::Position;
 use std::alloc::{AllocError, Global};
 
-/// These bytes, in memory of their own.
+/// These bytes, in new memory.
 pub(crate) fn owned(alloc: Global, bytes: &[u8]) -> Result<Listed<u8>, AllocError>
     ensures { IfOk result (λ l. l ≡ bytes.now) }
 {
     Ok(Listed::from_vec(Vec::from_slice(alloc, bytes)?))
 }
 
-/// Whether no name has this byte. The semicolons of a statement are those of its entities.
+/// Whether no name has this byte. The semicolons of a statement belong to its entities.
 fn is_barred(byte: u8) -> bool
     ensures { result ≡ is_barred byte }
 {
     matches!(byte, b'+' | b'<' | b'=' | b'>' | b':' | b',')
 }
 
-/// Whether a barred byte stands in the bytes.
+/// Whether the bytes have such a byte.
 fn has_barred(bytes: &[u8]) -> bool
     ensures { result ≡ list_any is_barred bytes.now }
 {
     bytes.iter().any(|byte| is_barred(*byte))
 }
 
-/// Whether a text stands in the bytes that no name has.
+/// Whether the bytes have a text that no name has.
 fn holds_barred(bytes: &[u8]) -> bool
     ensures { result ≡ holds_barred bytes.now }
 {
@@ -47,21 +47,21 @@ fn holds_barred(bytes: &[u8]) -> bool
         || holds(bytes, Sought::Text(Mark::DashBar))
 }
 
-/// How many dashes stand in front.
+/// The number of dashes at the front.
 fn dashes_in_front(bytes: &[u8]) -> usize
     ensures { result ≡ prefix_len is_dash bytes.now }
 {
     bytes.iter().take_while(|byte| **byte == b'-').count()
 }
 
-/// How many dashes stand at the end.
+/// The number of dashes at the end.
 fn dashes_at_end(bytes: &[u8]) -> usize
     ensures { result ≡ suffix_len is_dash bytes.now }
 {
     bytes.iter().rev().take_while(|byte| **byte == b'-').count()
 }
 
-/// Whether a dash stands at an end.
+/// Whether the bytes begin or end with a dash.
 fn ends_in_dash(bytes: &[u8]) -> bool
     ensures { result ≡ ends_in_dash bytes.now }
 {
@@ -75,7 +75,7 @@ pub(crate) fn is_name(bytes: &[u8]) -> bool
     !(bytes.is_empty() || has_barred(bytes) || holds_barred(bytes) || ends_in_dash(bytes))
 }
 
-/// The name that stands here, without white space at its ends.
+/// The name that these bytes are, without white space at both ends.
 #[tactic(auto, unfolding(crate::specs::Names::name_at))]
 pub(crate) fn name_at(here: Position, bytes: &[u8]) -> Result<&[u8], ImportFault>
     ensures { Gives (λ x. x.now) result (name_at here bytes.now) }
@@ -87,21 +87,21 @@ pub(crate) fn name_at(here: Position, bytes: &[u8]) -> Result<&[u8], ImportFault
     Ok(name)
 }
 
-/// Whether no name before `()` has this byte: `()` would be a part of the name.
+/// Whether no name before `()` has this byte, since `()` would be a part of the name.
 fn is_joining(byte: u8) -> bool
     ensures { result ≡ is_joining byte }
 {
     matches!(byte, b'-' | b'/' | b'\\' | b'(')
 }
 
-/// Whether such a byte stands in the bytes.
+/// Whether the bytes have such a byte.
 fn has_joining(bytes: &[u8]) -> bool
     ensures { result ≡ list_any is_joining bytes.now }
 {
     bytes.iter().any(|byte| is_joining(*byte))
 }
 
-/// Whether `()` stands at the end.
+/// Whether the bytes end with `()`.
 fn is_central(bytes: &[u8]) -> bool
     ensures { result ≡ is_central bytes.now }
 {
@@ -133,7 +133,7 @@ pub(crate) fn sender(here: Position, bytes: &[u8]) -> Result<&[u8], ImportFault>
     }
 }
 
-/// What stands before a mark, and what stands behind it.
+/// The bytes before a mark, and the bytes after it.
 #[tactic(auto, unfolding(crate::specs::Names::parted))]
 pub(crate) fn parted(
     here: Position,

@@ -16,15 +16,15 @@ use msc_place::Position;
 use std::alloc::Global;
 use std::marker::Model;
 
-/// A block that is open, and where it begins.
+/// An open block, and the position at which it begins.
 #[derive(Clone, Copy)]
 pub(crate) struct Opened {
     pub kind: Kind,
     pub start: Position,
 }
 
-/// The lines in the order in which they are declared or used first, where in the text each of them is
-/// named first, and the blocks that are open, the innermost one last.
+/// The lines in the order in which they are declared or used first, the place in the text at which
+/// each of them is named first, and the open blocks, the innermost one last.
 #[derive(Drop)]
 pub(crate) struct Outline {
     lines: Vec<Listed<u8>>,
@@ -41,7 +41,7 @@ impl Model for Outline {
         record { lines = o.lines.items; names = o.names.items; opened = o.opened.items } };
 }
 
-/// So many bytes of a text, from one on.
+/// `count` bytes of a text, from byte `first` on.
 pub(crate) fn span_of(first: usize, count: usize) -> Span
     ensures { result ≡ span_of first count }
 {
@@ -51,7 +51,7 @@ pub(crate) fn span_of(first: usize, count: usize) -> Span
     }
 }
 
-/// Whether the line is there.
+/// Whether the line is known.
 fn is_known(lines: &[Listed<u8>], ident: &[u8]) -> bool
     ensures { result ≡ is_known lines.now ident.now }
 {
@@ -59,7 +59,7 @@ fn is_known(lines: &[Listed<u8>], ident: &[u8]) -> bool
 }
 
 impl Closer {
-    /// Whether it goes on with a block of this kind, or ends it.
+    /// Whether it begins a branch of a block of this kind, or ends the block.
     fn suits(self, kind: Kind) -> bool
         ensures { result ≡ suits self kind }
     {
@@ -73,7 +73,7 @@ impl Closer {
     }
 }
 
-/// Whether the word goes on with the innermost block, or ends it.
+/// Whether the word begins a branch of the innermost block, or ends the block.
 fn suits_last(closer: Closer, opened: &[Opened]) -> bool
     ensures { result ≡ suits_last closer (innermost opened.now) }
 {
@@ -84,7 +84,7 @@ fn suits_last(closer: Closer, opened: &[Opened]) -> bool
 }
 
 impl Outline {
-    /// Nothing was said.
+    /// The state before any statement.
     pub(crate) fn new(alloc: Global) -> Self
         ensures { result ≡ blank }
     {
@@ -95,7 +95,7 @@ impl Outline {
         }
     }
 
-    /// Meets a line, which a statement here names from this byte of the text on.
+    /// Meets a line, which the statement at this position names from this byte of the text on.
     #[tactic(auto, unfolding(crate::specs::Outlines::meets, crate::specs::Outlines::met))]
     fn meet(
         &mut self,
@@ -131,7 +131,7 @@ impl Outline {
         Ok(())
     }
 
-    /// Goes on with a block, or ends it.
+    /// Begins a branch of a block, or ends the block.
     #[tactic(auto, unfolding(crate::specs::Outlines::laid))]
     fn close(&mut self, here: Position, closer: Closer) -> Result<(), ImportFault>
         ensures { Leaves result self.new (laid here 0 0 (Statement.Closes closer) self.old) }
@@ -145,8 +145,8 @@ impl Outline {
         Ok(())
     }
 
-    /// Lays a statement, which begins here, with this byte of the text. It declares the line, or its
-    /// arrow goes to the line, that it names from the other byte on.
+    /// Takes in a statement, which begins at this position and this byte of the text. The other
+    /// byte is the first of the name of the line that it declares, or of its arrow's receiver.
     #[tactic(auto, unfolding(crate::specs::Outlines::laid))]
     pub(crate) fn lay(
         &mut self,
@@ -169,7 +169,7 @@ impl Outline {
         }
     }
 
-    /// The lines and where each is named first, where no block is open.
+    /// The lines, and the place at which each is named first, if no block is open.
     #[tactic(auto, unfolding(crate::specs::Outlines::finished))]
     pub(crate) fn finish(self) -> Result<(Listed<Listed<u8>>, Listed<Span>), ImportFault>
         ensures { Gives (λ x. x) result (finished self) }

@@ -1,27 +1,29 @@
-//! A diagram in a part of a text: some of its lines, or what of them belongs to the diagram.
+//! A diagram in a part of a text: some of its lines, or the parts of them that belong to the
+//! diagram.
 
 ghost use Rattle.std.specs.Prelude.{◌≡◌, IfOk, map};
 ghost use Rattle.msc_mermaid.specs.Gives.{Gives};
 ghost use Rattle.msc_mermaid.specs.Parts.{blanked, entity_place, first_place, has_entity, is_said};
-ghost use Rattle.msc_mermaid.specs.Parts.{may_say, part_start, part_step, place_in, said_of, steps_of};
+ghost use Rattle.msc_mermaid.specs.Parts.{may_say, part_start, part_step, place_in, said_of};
+ghost use Rattle.msc_mermaid.specs.Parts.{steps_of};
 ghost use Rattle.msc_mermaid.specs.Parts.{stretch};
 ghost use Rattle.msc_mermaid.specs.Reading.{Leaves};
 
 use crate::fault::ImportFault;
 use crate::key::Mark;
+use crate::line_kind::{LineKind, line_kind_of};
 use crate::lines::{Row, further, start_on};
 use crate::progress::{Inside, Progress};
 use crate::reading::Reader;
 use crate::seeking::{Sought, from_entity, holds};
-use crate::shape::{Shape, shape_of};
 use crate::statement::{Cross, Diagram};
 use crate::waiting::Waiting;
 use crate::white::{behind_white, is_white, trimmed};
 use msc_place::Position;
 use std::alloc::{AllocError, Global};
 
-/// What of the line of a number, from 1, belongs to a diagram, and how many columns and how many bytes
-/// of the line stand before it.
+/// The part of the line of a number, from 1, that belongs to a diagram, and the numbers of columns
+/// and of bytes of the line before it.
 #[derive(Clone, Copy, Debug)]
 pub struct LinePart<'t> {
     pub line: usize,
@@ -30,7 +32,7 @@ pub struct LinePart<'t> {
     pub bytes: &'t [u8],
 }
 
-/// The line of a part, with blanks for what stands before it.
+/// The line of a part, with blanks for the columns before it.
 fn line_of(alloc: Global, part: LinePart<'_>) -> Result<Vec<u8>, AllocError>
     ensures { IfOk result (λ v. v.items ≡ blanked (stretch part.entry)) }
 {
@@ -39,7 +41,8 @@ fn line_of(alloc: Global, part: LinePart<'_>) -> Result<Vec<u8>, AllocError>
     Ok(line)
 }
 
-/// Where the line of a part would begin with these blanks, in a text whose lines begin so.
+/// The place at which the line of a part would begin with these blanks, in a text whose lines begin
+/// at these places.
 fn part_start(starts: &[usize], part: LinePart<'_>) -> usize
     ensures { result ≡ part_start starts.now (stretch part.entry) }
 {
@@ -47,7 +50,7 @@ fn part_start(starts: &[usize], part: LinePart<'_>) -> usize
     further(start_on(starts, part.line), more)
 }
 
-/// Where the first byte of a part stands that is no white space.
+/// The position of the first byte of a part that is no white space.
 fn place_in(alloc: Global, part: LinePart<'_>) -> Result<Position, AllocError>
     ensures { IfOk result (λ p. p ≡ place_in (stretch part.entry)) }
 {
@@ -59,8 +62,8 @@ fn place_in(alloc: Global, part: LinePart<'_>) -> Result<Position, AllocError>
     Ok(row.position_of(behind_white(line.as_slice())))
 }
 
-/// Where the first byte stands that is no white space, in parts of lines of a text that ends here;
-/// and else its end. The only error is want of memory.
+/// The position of the first byte that is no white space in parts of lines of a text, or the end of
+/// the text if there is none. The only error is that memory ran out.
 pub fn first_place(
     alloc: Global,
     parts: &[LinePart<'_>],
@@ -76,19 +79,19 @@ pub fn first_place(
     Ok(end)
 }
 
-/// Whether a line of this shape is one of statements, of a diagram that has begun or not.
-fn is_said(begun: bool, shape: Shape) -> bool
-    ensures { result ≡ is_said begun shape }
+/// Whether a line of this shape has statements, in a diagram that has begun or not.
+fn is_said(begun: bool, line_kind: LineKind) -> bool
+    ensures { result ≡ is_said begun line_kind }
 {
-    match shape {
-        Shape::Head => true,
-        Shape::Other => begun,
-        Shape::Nothing | Shape::Directive | Shape::Comment => false,
+    match line_kind {
+        LineKind::Head => true,
+        LineKind::Other => begun,
+        LineKind::Nothing | LineKind::Directive | LineKind::Comment => false,
     }
 }
 
 impl Inside {
-    /// Whether a line within it may be one of statements.
+    /// Whether a line in this state may have statements.
     fn may_say(self) -> bool
         ensures { result ≡ may_say self }
     {
@@ -100,17 +103,17 @@ impl Inside {
 }
 
 impl Progress {
-    /// Whether a line of statements, in which no directive stands, has an entity of HTML.
+    /// Whether a line of statements outside of directives has an entity of HTML.
     fn has_entity(&self, bytes: &[u8]) -> bool
         ensures { result ≡ has_entity bytes.now self.now }
     {
         self.inside.may_say()
-            && is_said(self.begun, shape_of(trimmed(bytes)))
+            && is_said(self.begun, line_kind_of(trimmed(bytes)))
             && !holds(bytes, Sought::Text(Mark::Directive))
             && holds(bytes, Sought::Entity)
     }
 
-    /// Reads one part more, where a browser reads the text first, or not.
+    /// Reads one more part, if a browser reads the text first or not.
     #[tactic(auto, unfolding(crate::specs::Parts::part_step))]
     fn part(
         &mut self,
@@ -154,9 +157,9 @@ impl Progress {
     }
 }
 
-/// The diagram of parts of some lines of a text whose lines begin so ([`starts_of`](crate::starts_of))
-/// and that ends here, or its first fault. Where a browser reads the text first, an entity of HTML in a
-/// line of statements is one.
+/// The diagram of parts of some lines of a text that ends here and whose lines begin at these
+/// places ([`starts_of`](crate::starts_of)), or its first fault. If a browser reads the text first,
+/// an entity of HTML in a line of statements is a fault.
 #[tactic(auto, unfolding(crate::specs::Parts::said_of))]
 pub fn diagram_of_parts(
     alloc: Global,

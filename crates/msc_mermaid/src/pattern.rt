@@ -1,4 +1,4 @@
-//! Patterns: what may stand behind the word that a statement begins with, part by part.
+//! Patterns of the bytes that may follow the word with which a statement begins, part by part.
 
 ghost use Rattle.std.specs.Prelude.{◌≡◌, ◌≤◌, length};
 ghost use Rattle.std.specs.Char.{is_ascii_digit};
@@ -15,7 +15,7 @@ use crate::white::{begins_white, behind_white};
 /// A part of a pattern.
 #[derive(Clone, Copy)]
 pub(crate) enum Part {
-    /// All white space that stands here, if any.
+    /// All white space at the front, if any.
     Blanks,
     /// White space, and all that follows it.
     Gap,
@@ -23,15 +23,15 @@ pub(crate) enum Part {
     Finish,
     /// This text.
     Text(Mark),
-    /// This word, and no byte of a word behind it.
+    /// This word, followed by no byte of a word.
     Word(Key),
-    /// All digits that stand here, one at least.
+    /// All digits at the front, at least one.
     Digits,
-    /// Anything without an arrow up to this text, which is not passed.
+    /// Anything without an arrow before this text, which remains.
     NoArrow(Mark),
 }
 
-/// What may stand behind a word.
+/// The pattern of the bytes that may follow a word.
 #[derive(Clone, Copy)]
 pub(crate) enum Pattern {
     Anything,
@@ -59,7 +59,7 @@ pub fn is_word_byte(byte: u8) -> bool
     byte.is_ascii_alphanumeric() || byte == b'_'
 }
 
-/// How many bytes the word at the front has.
+/// The number of bytes of the word at the front.
 pub(crate) fn word_length(bytes: &[u8]) -> usize
     ensures length { result ≡ prefix_len is_run_byte bytes.now }
     ensures within { result ≤ length bytes.now }
@@ -67,7 +67,7 @@ pub(crate) fn word_length(bytes: &[u8]) -> usize
     bytes.iter().take_while(|byte| is_word_byte(**byte)).count()
 }
 
-/// Whether a byte of a word stands at the front.
+/// Whether the bytes begin with a byte of a word.
 pub fn begins_word(bytes: &[u8]) -> bool
     ensures { result ≡ begins is_run_byte bytes.now }
 {
@@ -77,7 +77,7 @@ pub fn begins_word(bytes: &[u8]) -> bool
     }
 }
 
-/// How many digits stand at the front.
+/// The number of digits at the front.
 fn digits(bytes: &[u8]) -> usize
     ensures length { result ≡ prefix_len is_ascii_digit bytes.now }
     ensures within { result ≤ length bytes.now }
@@ -88,7 +88,7 @@ fn digits(bytes: &[u8]) -> usize
         .count()
 }
 
-/// Whether a digit stands at the front.
+/// Whether the bytes begin with a digit.
 fn begins_digit(bytes: &[u8]) -> bool
     ensures { result ≡ begins is_ascii_digit bytes.now }
 {
@@ -98,21 +98,21 @@ fn begins_digit(bytes: &[u8]) -> bool
     }
 }
 
-/// Whether the word stands at the front, and no byte of a word behind it.
+/// Whether the bytes begin with the word, and no byte of a word follows it.
 fn is_word(bytes: &[u8], key: Key) -> bool
     ensures { result ≡ is_word bytes.now (spelling key) }
 {
     key.begins(bytes) && !begins_word(&bytes[key.length()..])
 }
 
-/// What follows where the test holds, and nothing else.
+/// These bytes if the test holds, and nothing otherwise.
 fn only(test: bool, bytes: &[u8]) -> Option<&[u8]>
     ensures { option_copied result ≡ only test bytes.now }
 {
     if test { Some(bytes) } else { None }
 }
 
-/// What stands behind a text.
+/// The bytes after a text.
 fn behind_text(mark: Mark, bytes: &[u8]) -> Option<&[u8]>
     ensures { option_copied result ≡ behind (Part.Text mark) bytes.now }
 {
@@ -122,7 +122,7 @@ fn behind_text(mark: Mark, bytes: &[u8]) -> Option<&[u8]>
     None
 }
 
-/// What stands behind a word.
+/// The bytes after a word.
 fn behind_word(key: Key, bytes: &[u8]) -> Option<&[u8]>
     ensures { option_copied result ≡ behind (Part.Word key) bytes.now }
 {
@@ -133,7 +133,7 @@ fn behind_word(key: Key, bytes: &[u8]) -> Option<&[u8]>
 }
 
 impl Part {
-    /// What stands behind it, where the bytes begin with it.
+    /// The bytes after this part, if they begin with it.
     fn behind(self, bytes: &[u8]) -> Option<&[u8]>
         ensures { option_copied result ≡ behind self bytes.now }
     {
@@ -152,7 +152,7 @@ impl Part {
     }
 }
 
-/// What stands behind these parts, where the bytes begin with them.
+/// The bytes after these parts, if they begin with them.
 fn fits<'t>(parts: &[Part], bytes: &'t [u8]) -> Option<&'t [u8]>
     ensures { option_copied result ≡ fits parts.now bytes.now }
 {
@@ -225,7 +225,7 @@ impl Pattern {
     }
 }
 
-/// What stands behind the first of these patterns that the bytes begin with.
+/// The bytes after the first of these patterns with which they begin.
 pub(crate) fn first_fit<'t>(patterns: &[Pattern], bytes: &'t [u8]) -> Option<&'t [u8]>
     ensures { option_copied result ≡ first_fit patterns.now bytes.now }
 {

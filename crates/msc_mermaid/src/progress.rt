@@ -10,38 +10,38 @@ ghost use Rattle.msc_mermaid.specs.Reading.{Leaves};
 use crate::cutting::{cut, leaves_open};
 use crate::fault::{Expectation, ImportFault};
 use crate::key::Mark;
+use crate::line_kind::{closed, is_commented, undirected};
 use crate::lines::{Row, counted, further};
 use crate::pattern::{Pattern, first_fit};
-use crate::reading::{Reader, Spot};
+use crate::reading::{Reader, StatementStart};
 use crate::seeking::Sought;
-use crate::shape::{closed, is_commented, undirected};
 use crate::statement::Cross;
 use crate::waiting::{Waiting, is_unended};
 use crate::white::{behind_white, trimmed, white_in_front};
 use msc_place::Position;
 use std::alloc::{AllocError, Global};
 
-/// What a line, or the next piece of one, stands in.
+/// The part of a text that a line, or the next piece of one, continues.
 #[derive(Clone, Copy)]
 pub(crate) enum Inside {
-    /// In front of all lines that aren't empty.
+    /// Nothing: all lines so far are empty.
     Start,
-    /// In nothing that is left out.
+    /// Nothing that is left out.
     Nothing,
-    /// In what stands in front of the diagram.
+    /// The front matter before the diagram.
     Front,
-    /// In a directive.
+    /// A directive.
     Directive,
-    /// In a description.
+    /// A description.
     Description,
-    /// In a configuration that goes on behind its line.
+    /// A configuration over several lines.
     Configuration,
-    /// In the rest of a line, which is left out.
+    /// The rest of a line, which is left out.
     Rest,
 }
 
 impl Inside {
-    /// Whether the line goes on.
+    /// Whether the line continues.
     fn goes_on(self) -> bool
         ensures { result ≡ goes_on self }
     {
@@ -49,8 +49,7 @@ impl Inside {
     }
 }
 
-/// How far a text was read, and where the line that is read begins in it: how many bytes stand before
-/// it.
+/// How far a text was read, and the number of bytes of the text before the line that is read.
 #[derive(Drop)]
 pub(crate) struct Progress {
     pub start: usize,
@@ -60,7 +59,7 @@ pub(crate) struct Progress {
     pub waiting: Waiting,
 }
 
-/// The first bytes, so many.
+/// The first `count` bytes.
 pub(crate) fn first(bytes: &[u8], count: usize) -> &[u8]
     ensures { result.now ≡ take count bytes.now }
 {
@@ -71,7 +70,7 @@ pub(crate) fn first(bytes: &[u8], count: usize) -> &[u8]
     }
 }
 
-/// The bytes behind so many.
+/// The bytes after the first `count`.
 fn behind(bytes: &[u8], count: usize) -> &[u8]
     ensures { result.now ≡ drop count bytes.now }
 {
@@ -81,8 +80,8 @@ fn behind(bytes: &[u8], count: usize) -> &[u8]
     &bytes[count..]
 }
 
-/// Whether nothing stands behind a piece on its line, where the line from it on is this, without
-/// white space in front.
+/// Whether a piece is the last of its line, the rest of which, from the piece on and without white
+/// space at the front, is this.
 fn is_last(rest: &[u8], piece: &[u8]) -> bool
     ensures { result ≡ is_last rest.now piece.now }
 {
@@ -90,7 +89,7 @@ fn is_last(rest: &[u8], piece: &[u8]) -> bool
 }
 
 impl Progress {
-    /// Passes on from a part that is left out, up to this mark: the rest of a line, if it ends here.
+    /// Skips a part that is left out, up to this mark: the rest of a line, if it ends here.
     #[tactic(auto, unfolding(crate::specs::Mermaid::left_out))]
     pub(crate) fn left_out(
         &mut self,
@@ -110,7 +109,7 @@ impl Progress {
         Ok(())
     }
 
-    /// Passes a comment: a directive in it has to end in it.
+    /// Skips a comment: a directive in it has to end in it.
     pub(crate) fn commented(&mut self, row: Row, bytes: &[u8]) -> Result<(), ImportFault>
         ensures { Leaves result self.new
             (commented row.entry.line row.entry.bytes.now bytes.now self.old) }
@@ -122,8 +121,8 @@ impl Progress {
         Ok(())
     }
 
-    /// Passes a title or a description in one line, which begins here: it may not be empty, and takes
-    /// the rest of the line.
+    /// Skips a title or a description in one line, which begins here: it may not be empty, and
+    /// takes the rest of the line.
     #[tactic(auto, unfolding(crate::specs::Mermaid::titled))]
     fn titled(&mut self, here: Position, text: &[u8]) -> Result<(), ImportFault>
         ensures { Leaves result self.new (titled here text.now self.old) }
@@ -135,13 +134,13 @@ impl Progress {
         Ok(())
     }
 
-    /// Reads a statement, which begins here, and behind which the next one stands in this part.
+    /// Reads a statement at this position; the next one follows it in this part of the text.
     #[tactic(auto, unfolding(crate::specs::Mermaid::stated))]
     pub(crate) fn stated(
         &mut self,
         alloc: Global,
         cross: Option<Cross>,
-        spot: Spot,
+        spot: StatementStart,
         bytes: &[u8],
         part: Inside,
     ) -> Result<(), ImportFault>
@@ -158,7 +157,7 @@ impl Progress {
         &mut self,
         alloc: Global,
         cross: Option<Cross>,
-        spot: Spot,
+        spot: StatementStart,
         bytes: &[u8],
     ) -> Result<(), ImportFault>
         ensures { Leaves result self.new (statement cross spot bytes.now self.old) }
@@ -171,8 +170,13 @@ impl Progress {
         self.stated(alloc, cross, spot, bytes, part)
     }
 
-    /// Passes on to the further lines of a statement, which begins here.
-    fn put_off(&mut self, alloc: Global, spot: Spot, bytes: &[u8]) -> Result<(), AllocError>
+    /// Waits for the further lines of a statement, which begins here.
+    fn put_off(
+        &mut self,
+        alloc: Global,
+        spot: StatementStart,
+        bytes: &[u8],
+    ) -> Result<(), AllocError>
         ensures { IfOk result (λ _. self.new ≡ put_off spot bytes.now self.old) }
     {
         self.waiting = Waiting::of(alloc, spot, bytes)?;
@@ -181,13 +185,13 @@ impl Progress {
     }
 
     /// Reads a piece of a line that is a statement, or the first line of one whose configuration
-    /// goes on.
+    /// continues on further lines.
     #[tactic(auto, unfolding(crate::specs::Mermaid::piece_said))]
     fn said(
         &mut self,
         alloc: Global,
         cross: Option<Cross>,
-        spot: Spot,
+        spot: StatementStart,
         rest: &[u8],
         piece: &[u8],
     ) -> Result<(), ImportFault>
@@ -201,14 +205,15 @@ impl Progress {
         self.statement(alloc, cross, spot, own)
     }
 
-    /// Reads the next piece of a line of these bytes, which begins here; the line from it on is rest.
+    /// Reads the next piece of a line of these bytes, which begins here; `rest` is the line from
+    /// the piece on.
     #[tactic(auto, unfolding(crate::specs::Mermaid::read_piece))]
     fn read_piece(
         &mut self,
         alloc: Global,
         cross: Option<Cross>,
         whole: &[u8],
-        spot: Spot,
+        spot: StatementStart,
         rest: &[u8],
         piece: &[u8],
     ) -> Result<(), ImportFault>
@@ -236,7 +241,7 @@ impl Progress {
         self.said(alloc, cross, spot, here, piece)
     }
 
-    /// Reads the pieces of a line, of which the first one begins behind so many of its bytes.
+    /// Reads the pieces of a line, the first of which begins after this number of its bytes.
     pub(crate) fn read_pieces(
         &mut self,
         alloc: Global,
@@ -257,7 +262,7 @@ impl Progress {
             let white = white_in_front(piece);
             let own = column + counted(first(rest, white));
             let begin = at + white;
-            let spot = Spot {
+            let spot = StatementStart {
                 here: Position { line, column: own },
                 first: further(self.start, begin),
             };
@@ -269,7 +274,7 @@ impl Progress {
         Ok(())
     }
 
-    /// Reads the statements of a line, behind so many of its bytes.
+    /// Reads the statements of a line, after this number of its bytes.
     #[tactic(auto, unfolding(crate::specs::Mermaid::said_on))]
     pub(crate) fn said_on(
         &mut self,

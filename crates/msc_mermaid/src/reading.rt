@@ -1,9 +1,10 @@
-//! What was read of a diagram: its statements, one by one.
+//! The part of a diagram that was read: its statements, one by one.
 
 ghost use Rattle.std.specs.Prelude.{◌≡◌, IfOk};
 ghost use Rattle.msc_mermaid.specs.Gives.{Gives};
 ghost use Rattle.msc_mermaid.specs.Outlines.{span_of};
-ghost use Rattle.msc_mermaid.specs.Reading.{Leaves, is_arrow, listed, noted, read_one, shown_length};
+ghost use Rattle.msc_mermaid.specs.Reading.{Leaves, is_arrow, listed, noted, read_one};
+ghost use Rattle.msc_mermaid.specs.Reading.{shown_length};
 ghost use Rattle.msc_mermaid.specs.Reading.{shown_span, told, untold};
 
 use crate::fault::ImportFault;
@@ -15,14 +16,14 @@ use msc_place::Position;
 use std::alloc::{AllocError, Global};
 use std::marker::Model;
 
-/// Where a statement begins: its position, and how many bytes of the text stand before it.
+/// The beginning of a statement: its position, and the number of bytes of the text before it.
 #[derive(Clone, Copy)]
-pub(crate) struct Spot {
+pub(crate) struct StatementStart {
     pub here: Position,
     pub first: usize,
 }
 
-/// How many bytes the label of an arrow has, or the shown name of a line.
+/// The number of bytes of the label of an arrow, or of the shown name of a line.
 fn shown_length(statement: &Statement) -> usize
     ensures { result ≡ shown_length statement.now }
 {
@@ -33,7 +34,8 @@ fn shown_length(statement: &Statement) -> usize
     }
 }
 
-/// Where these stand, if the statement stands here, and so many bytes of it are left from them on.
+/// The bytes of the label or shown name, if the statement has the bytes `whole` and `tail` of them
+/// are left from the label or name on.
 fn shown_span(whole: Span, tail: usize, statement: &Statement) -> Span
     ensures { result ≡ shown_span whole tail statement.now }
 {
@@ -47,8 +49,8 @@ fn is_arrow(statement: &Statement) -> bool
     matches!(statement, Statement::Says(_))
 }
 
-/// What was read so far: the lines that end with the next arrow, how many arrows, the lines and the
-/// open blocks, and the statements.
+/// The part that was read so far: the lines that end with the next arrow, the number of arrows, the
+/// lines and the open blocks, and the statements.
 #[derive(Drop)]
 pub(crate) struct Reader {
     dying: Vec<Listed<u8>>,
@@ -71,7 +73,7 @@ impl Model for Reader {
 }
 
 impl Reader {
-    /// Nothing was read.
+    /// The state before any statement.
     pub(crate) fn new(alloc: Global) -> Self
         ensures { result ≡ untold }
     {
@@ -83,7 +85,7 @@ impl Reader {
         }
     }
 
-    /// The diagram, where no block is open.
+    /// The diagram, if no block is open.
     #[tactic(auto, unfolding(crate::specs::Reading::told))]
     pub(crate) fn finish(self) -> Result<Diagram, ImportFault>
         ensures { Gives (λ x. x) result (told self) }
@@ -103,7 +105,7 @@ impl Reader {
         })
     }
 
-    /// Lists one statement more, which begins here and has these bytes, and is laid already.
+    /// Lists one more statement, which has this beginning and these bytes and is taken in already.
     fn list(
         &mut self,
         here: Position,
@@ -131,7 +133,7 @@ impl Reader {
         Ok(())
     }
 
-    /// Notes what a statement says, which begins here and has these bytes.
+    /// Notes a statement, which has this beginning and these bytes.
     #[tactic(auto, unfolding(crate::specs::Reading::noted))]
     fn note(
         &mut self,
@@ -164,7 +166,7 @@ impl Reader {
         &mut self,
         alloc: Global,
         cross: Option<Cross>,
-        spot: Spot,
+        spot: StatementStart,
         bytes: &[u8],
     ) -> Result<(), ImportFault>
         ensures { Leaves result self.new (read_one cross spot bytes.now self.old) }

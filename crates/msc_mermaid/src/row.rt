@@ -1,5 +1,5 @@
-//! The table of Mermaid's statements: for each word that one may begin with, what may stand behind
-//! it, and what the statement says then.
+//! The table of Mermaid's statements: for each word with which one may begin, the patterns that may
+//! follow it, and the meaning of the statement then.
 
 ghost use Rattle.std.specs.Prelude.{◌≡◌, Some};
 ghost use Rattle.msc_lexer.specs.Bytes.{begins};
@@ -14,7 +14,7 @@ use crate::pattern::{Pattern, first_fit, word_length};
 use crate::white::behind_white;
 use std::fmt;
 
-/// What a block is.
+/// The kind of a block.
 #[derive(Clone, Copy, Debug, PartialEq, Eq)]
 pub enum Kind {
     /// One of its branches.
@@ -23,17 +23,17 @@ pub enum Kind {
     Opt,
     /// Some rounds.
     Loop,
-    /// It is there and ends what it stands in, or is left out.
+    /// It is there and ends the enclosing block, or is left out.
     Break,
     /// Its first branch, and at most one of the others.
     Critical,
-    /// All branches, side by side.
+    /// All branches, in parallel.
     Par,
     /// As if its words weren't there.
     Plain,
 }
 
-/// A word that begins a further branch of a block, or ends it.
+/// A word that begins a further branch of a block, or ends the block.
 #[derive(Clone, Copy, Debug, PartialEq, Eq)]
 pub enum Closer {
     /// A branch of `alt`.
@@ -60,7 +60,7 @@ impl Closer {
     }
 }
 
-/// Shows the word in small letters.
+/// Prints the word in small letters.
 impl fmt::Display for Closer {
     ghost output = { λ w. Some (closer_word w) };
 
@@ -69,10 +69,10 @@ impl fmt::Display for Closer {
     }
 }
 
-/// What a statement says by its first word.
+/// The meaning of a statement by its first word.
 #[derive(Clone, Copy)]
 pub(crate) enum Meaning {
-    /// Nothing of lines and arrows.
+    /// Nothing about lines and arrows.
     Nothing,
     /// It is no statement.
     Refused,
@@ -82,17 +82,17 @@ pub(crate) enum Meaning {
     Destruction,
     /// A block begins.
     Begin(Kind),
-    /// A branch of a block begins, or it ends.
+    /// A branch of a block begins, or the block ends.
     Close(Closer),
-    /// Nothing, but of a name.
+    /// Nothing but a name.
     Activation,
-    /// Nothing, but of a name before a colon.
+    /// Nothing but a name before a colon.
     Links,
     /// An arrow, from its beginning on.
     Arrow,
 }
 
-/// Whether a dash stands at the front.
+/// Whether the bytes begin with a dash.
 pub(crate) fn begins_dash(bytes: &[u8]) -> bool
     ensures { result ≡ begins is_dash bytes.now }
 {
@@ -102,8 +102,8 @@ pub(crate) fn begins_dash(bytes: &[u8]) -> bool
     }
 }
 
-/// Whether a dash stands at the front, or an arrow behind white space: a reader takes the word in
-/// front of it for a name.
+/// Whether the bytes begin with a dash, or with white space and an arrow: a reader takes the word
+/// before them for a name.
 fn begins_arrow(bytes: &[u8]) -> bool
     ensures { result ≡ begins_arrow bytes.now }
 {
@@ -111,7 +111,7 @@ fn begins_arrow(bytes: &[u8]) -> bool
 }
 
 impl Key {
-    /// What may stand behind it: one of these patterns.
+    /// The patterns of which one has to follow the word.
     fn patterns(self) -> &'static [Pattern]
         ensures { result.now ≡ patterns_of self }
     {
@@ -134,7 +134,7 @@ impl Key {
         }
     }
 
-    /// What the statement says then.
+    /// The meaning of the statement then.
     fn meaning(self) -> Meaning
         ensures { result ≡ says_of self }
     {
@@ -159,14 +159,14 @@ impl Key {
         }
     }
 
-    /// Whether the word may be a name, too.
+    /// Whether the word may also be a name.
     fn may_be_name(self) -> bool
         ensures { result ≡ may_be_name self }
     {
         matches!(self, Key::Title)
     }
 
-    /// What the statement says where none of the patterns stands behind the word.
+    /// The meaning of the statement if none of the patterns follows the word.
     fn otherwise(self) -> Meaning
         ensures { result ≡ otherwise self }
     {
@@ -177,7 +177,7 @@ impl Key {
         }
     }
 
-    /// What is said behind the word.
+    /// The meaning of the statement by what follows the word, and the bytes after the pattern.
     fn said(self, bytes: &[u8]) -> (Meaning, &[u8])
         ensures { (result.0, result.1.now) ≡ said_by_key self bytes.now }
     {
@@ -198,14 +198,14 @@ pub(crate) fn first_word(bytes: &[u8]) -> &[u8]
     &bytes[..word_length(bytes)]
 }
 
-/// What stands behind it.
+/// The bytes after the first word.
 pub(crate) fn behind_first_word(bytes: &[u8]) -> &[u8]
     ensures { result.now ≡ behind_first_word bytes.now }
 {
     &bytes[word_length(bytes)..]
 }
 
-/// What a statement says by its first word, with what stands behind the pattern.
+/// The meaning of a statement by its first word, and the bytes after the pattern.
 #[tactic(auto, unfolding(crate::specs::Rows::meaning_of))]
 pub(crate) fn meaning_of(bytes: &[u8]) -> (Meaning, &[u8])
     ensures { (result.0, result.1.now) ≡ meaning_of bytes.now }

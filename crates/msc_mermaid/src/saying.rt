@@ -1,4 +1,4 @@
-//! What one statement of Mermaid says.
+//! The meaning of one statement of Mermaid.
 
 ghost use Rattle.std.specs.Prelude.{◌≡◌};
 ghost use Rattle.msc_lexer.specs.Bytes.{begins};
@@ -19,26 +19,26 @@ use listed::Listed;
 use msc_place::Position;
 use std::alloc::Global;
 
-/// What a statement says of what follows.
+/// The effect of a statement on the diagram.
 #[derive(Drop)]
 pub(crate) enum Said {
     /// Nothing.
     Nothing,
     /// The line of this name ends with the next arrow.
     Dies(Listed<u8>),
-    /// A statement, and how many of its bytes are left from what it names and shows on.
+    /// A statement, and the numbers of its bytes from the parts that it names and shows on.
     Statement(Statement, Tails),
 }
 
-/// What the statements before one leave for it: what crosses are, and which lines end with the next
-/// arrow.
+/// The state that the statements before one leave for it: the meaning of crosses, and the lines
+/// that end with the next arrow.
 #[derive(Clone, Copy)]
 pub(crate) struct Mode<'m> {
     pub cross: Option<Cross>,
     pub dying: &'m [Listed<u8>],
 }
 
-/// What stands behind an arrow, where that is no other arrow that begins with a dash.
+/// The bytes after an arrow, if they are no other arrow that begins with a dash.
 #[tactic(auto, unfolding(crate::specs::Saying::no_second))]
 fn no_second(here: Position, bytes: &[u8]) -> Result<&[u8], ImportFault>
     ensures { Gives (λ x. x.now) result (no_second here bytes.now) }
@@ -49,7 +49,7 @@ fn no_second(here: Position, bytes: &[u8]) -> Result<&[u8], ImportFault>
     Ok(bytes)
 }
 
-/// Whether the sign of an activation stands here.
+/// Whether the bytes begin with the sign of an activation.
 fn begins_sign(bytes: &[u8]) -> bool
     ensures { result ≡ begins is_sign bytes.now }
 {
@@ -59,7 +59,7 @@ fn begins_sign(bytes: &[u8]) -> bool
     }
 }
 
-/// What stands behind the sign of an activation or `()`, if there is one of them.
+/// The bytes after the sign of an activation or `()`, if they begin with one of them.
 fn behind_sign(bytes: &[u8]) -> &[u8]
     ensures { result.now ≡ behind_sign bytes.now }
 {
@@ -81,7 +81,7 @@ fn dies(dying: &[Listed<u8>], from: &[u8], to: &[u8]) -> bool
         .any(|line| line.as_slice() == from || line.as_slice() == to)
 }
 
-/// What becomes of the message of an arrow.
+/// The fate of the message of an arrow.
 #[tactic(auto, unfolding(crate::specs::Saying::fate_of))]
 fn fate_of(cross: Option<Cross>, dying: &[Listed<u8>], head: Head, from: &[u8], to: &[u8]) -> Fate
     ensures { result ≡ fate_of cross dying.now head from.now to.now }
@@ -97,8 +97,8 @@ fn fate_of(cross: Option<Cross>, dying: &[Listed<u8>], head: Head, from: &[u8], 
     }
 }
 
-/// The arrow of these parts, what stands before its head and what stands behind, with the bytes that
-/// are left from its receiver and from its label on.
+/// The arrow of these parts, the bytes before its head and the bytes after it, with the numbers of
+/// bytes from its receiver and from its label on.
 #[tactic(auto, unfolding(crate::specs::Saying::arrow_by))]
 fn arrow_by(
     alloc: Global,
@@ -135,7 +135,7 @@ fn arrow_by(
     Ok((arrow, tails))
 }
 
-/// A statement that names no line, and that people read nothing of.
+/// The places of a statement that names no line and shows no text.
 fn no_tails() -> Tails
     ensures { result ≡ no_tails }
 {
@@ -166,7 +166,7 @@ fn arrow_of(
     }
 }
 
-/// What a statement says that has this meaning, with what stands behind its pattern.
+/// The effect of a statement with this meaning, and with these bytes after its pattern.
 #[tactic(auto, unfolding(crate::specs::Saying::said_as))]
 fn said_as(
     alloc: Global,
@@ -205,7 +205,7 @@ fn said_as(
     }
 }
 
-/// What a statement says, behind some that say which lines end.
+/// The effect of a statement, after statements that say which lines end.
 #[tactic(auto, unfolding(crate::specs::Saying::said_at))]
 pub(crate) fn said_at(
     alloc: Global,

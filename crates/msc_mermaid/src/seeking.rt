@@ -1,4 +1,4 @@
-//! The first place at which something stands.
+//! The first place at which something is found.
 
 ghost use Rattle.std.specs.Prelude.{◌≡◌, ◌≤◌, length, take};
 ghost use Rattle.msc_mermaid.specs.Seeking.{before, entity_in, from_entity, holds, is_alias, is_here};
@@ -8,7 +8,7 @@ use crate::key::Mark;
 use crate::markup::markup_entity;
 use crate::white::{begins_white, behind_one};
 
-/// What is sought.
+/// The part that is searched.
 #[derive(Clone, Copy)]
 pub(crate) enum Sought {
     /// A text.
@@ -21,7 +21,7 @@ pub(crate) enum Sought {
     Entity,
 }
 
-/// Whether `as` and white space stand here.
+/// Whether the bytes begin with `as` and white space.
 pub(crate) fn is_alias(bytes: &[u8]) -> bool
     ensures { result ≡ is_alias bytes.now }
 {
@@ -29,7 +29,7 @@ pub(crate) fn is_alias(bytes: &[u8]) -> bool
 }
 
 impl Sought {
-    /// Whether it stands here.
+    /// Whether the bytes begin with it.
     fn is_here(self, bytes: &[u8]) -> bool
         ensures { result ≡ is_here self bytes.now }
     {
@@ -41,7 +41,8 @@ impl Sought {
         }
     }
 
-    /// How many bytes stand before the first place at which it stands, and else all of them.
+    /// The number of bytes before the first place at which it is found, or of all bytes if there is
+    /// none.
     pub(crate) fn before(self, bytes: &[u8]) -> usize
         ensures value { result ≡ before self bytes.now }
         ensures within { result ≤ length bytes.now }
@@ -55,14 +56,14 @@ impl Sought {
     }
 }
 
-/// Whether this stands in the bytes.
+/// Whether the bytes have it.
 pub(crate) fn holds(bytes: &[u8], sought: Sought) -> bool
     ensures { result ≡ holds bytes.now sought }
 {
     sought.before(bytes) < bytes.len()
 }
 
-/// The first bytes, so many, or all of them.
+/// The first `count` bytes, or all of them if there are fewer.
 fn first(bytes: &[u8], count: usize) -> &[u8]
     ensures { result.now ≡ take count bytes.now }
 {
@@ -73,7 +74,7 @@ fn first(bytes: &[u8], count: usize) -> &[u8]
     }
 }
 
-/// What stands from the first entity of HTML on, and nothing if there is none.
+/// The bytes from the first entity of HTML on, or none if there is no entity.
 pub(crate) fn from_entity(bytes: &[u8]) -> &[u8]
     ensures { result.now ≡ from_entity bytes.now }
 {

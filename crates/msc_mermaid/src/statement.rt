@@ -1,21 +1,21 @@
-//! What statements say, the same for all languages.
+//! Statements, the same for all languages.
 
 use crate::row::{Closer, Kind};
 use listed::Listed;
 
-/// What becomes of an arrow's message.
+/// The fate of an arrow's message.
 #[derive(Clone, Copy, Debug, PartialEq, Eq)]
 pub enum Fate {
     /// Nobody takes it.
     Lost,
     /// It arrives.
     Arrives,
-    /// Either: the arrow has a cross, and nothing says what that means.
+    /// Either: the arrow has a cross, and nothing gives the meaning of crosses.
     Either,
 }
 
-/// An arrow, from a line to a line, each by its identifier. The label is what stands behind the
-/// arrow, any bytes.
+/// An arrow, from a line to a line, each by its identifier. The label is the text after the arrow,
+/// any bytes.
 #[derive(Drop)]
 pub struct Arrow {
     pub from: Listed<u8>,
@@ -26,7 +26,7 @@ pub struct Arrow {
     pub both: bool,
 }
 
-/// What one statement says.
+/// A statement.
 #[derive(Drop)]
 pub enum Statement {
     /// A line, by its identifier and its shown name, if it has one.
@@ -35,22 +35,21 @@ pub enum Statement {
     Says(Arrow),
     /// A block begins.
     Begins(Kind),
-    /// A further branch of a block begins, or it ends.
+    /// A further branch of a block begins, or the block ends.
     Closes(Closer),
 }
 
-/// Some bytes of a text that stand together: how many bytes of it stand before the first one, and how
-/// many before the one behind the last.
+/// Consecutive bytes of a text: the number of bytes before the first of them, and the number before
+/// the first byte after them.
 #[derive(Clone, Copy, Debug, PartialEq, Eq)]
 pub struct Span {
     pub first: usize,
     pub past: usize,
 }
 
-/// A statement and where it begins: its line and its column, both from 1. The number is that of the
-/// arrow that it is, or of the next one behind it, from 1. Of the text that it is read from, `whole`
-/// are its bytes, and `shown` those of its label, or of the shown name of its line; none, if it has
-/// neither.
+/// A statement and its beginning: its line and its column, both from 1. The number is that of the
+/// arrow that it is, or of the next arrow after it, from 1. `whole` are its bytes in the text, and
+/// `shown` those of its label, or of the shown name of its line; none, if it has neither.
 #[derive(Drop)]
 pub struct Placed {
     pub line: usize,
@@ -62,8 +61,8 @@ pub struct Placed {
 }
 
 /// A diagram: its lines, each by its identifier, in the order in which they are declared or used
-/// first; where in the text each of them is named first; and its statements. Each block of them has
-/// its end.
+/// first; the place in the text at which each of them is named first; and its statements. Each
+/// block among them has its end.
 #[derive(Drop)]
 pub struct Diagram {
     pub lines: Listed<Listed<u8>>,
@@ -71,7 +70,7 @@ pub struct Diagram {
     pub statements: Listed<Placed>,
 }
 
-/// What an arrow with a cross is.
+/// The meaning of an arrow with a cross.
 #[derive(Clone, Copy, Debug, PartialEq, Eq)]
 pub enum Cross {
     /// Nobody takes its message.

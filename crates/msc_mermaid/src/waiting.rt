@@ -1,9 +1,9 @@
-//! Statements whose configuration goes on over several lines.
+//! Statements with a configuration over several lines.
 
 ghost use Rattle.std.specs.Prelude.{◌≡◌, ◌≤◌, ◌+◌, length, map, IfOk};
 ghost use Rattle.msc_mermaid.specs.Cutting.{room};
 ghost use Rattle.msc_mermaid.specs.Mermaid.{configured_as, ended_on, gone_on, put_off_said};
-ghost use Rattle.msc_mermaid.specs.Mermaid.{shape_of, text_within};
+ghost use Rattle.msc_mermaid.specs.Mermaid.{line_kind_of, text_within};
 ghost use Rattle.msc_mermaid.specs.Names.{leaves_config};
 ghost use Rattle.msc_mermaid.specs.Reading.{Leaves, gap, lengthened, none_waiting};
 ghost use Rattle.msc_mermaid.specs.Saying.{is_declaration, is_unended};
@@ -12,23 +12,23 @@ ghost use Rattle.msc_mermaid.specs.White.{trimmed};
 use crate::cutting::cut;
 use crate::fault::ImportFault;
 use crate::key::Mark;
+use crate::line_kind::{LineKind, line_kind_of, undirected};
 use crate::lines::{Row, further};
 use crate::name::is_name;
 use crate::progress::{Inside, Progress, first};
-use crate::reading::Spot;
+use crate::reading::StatementStart;
 use crate::row::{Meaning, meaning_of};
 use crate::seeking::{Sought, holds};
-use crate::shape::{Shape, shape_of, undirected};
 use crate::statement::Cross;
 use crate::white::trimmed;
 use msc_place::Position;
 use std::alloc::{AllocError, Global};
 use std::marker::Model;
 
-/// A statement with a configuration that has no end yet: where it begins, and its bytes so far.
+/// A statement with a configuration that has no end yet: its beginning, and its bytes so far.
 #[derive(Drop)]
 pub(crate) struct Waiting {
-    pub spot: Spot,
+    pub spot: StatementStart,
     bytes: Vec<u8>,
 }
 
@@ -41,12 +41,12 @@ impl Model for Waiting {
 }
 
 impl Waiting {
-    /// None was met.
+    /// No such statement.
     pub(crate) fn new(alloc: Global) -> Self
         ensures { result ≡ none_waiting }
     {
         Waiting {
-            spot: Spot {
+            spot: StatementStart {
                 here: Position { line: 1, column: 1 },
                 first: 0,
             },
@@ -54,16 +54,16 @@ impl Waiting {
         }
     }
 
-    /// The one that begins here with these bytes.
-    pub(crate) fn of(alloc: Global, spot: Spot, bytes: &[u8]) -> Result<Self, AllocError>
+    /// The statement with this beginning and these bytes.
+    pub(crate) fn of(alloc: Global, spot: StatementStart, bytes: &[u8]) -> Result<Self, AllocError>
         ensures { IfOk result (λ o. o ≡ record { spot = spot; bytes = bytes.now }) }
     {
         let bytes = Vec::from_slice(alloc, bytes)?;
         Ok(Waiting { spot, bytes })
     }
 
-    /// How many bytes of the text stand between those so far and a line that begins here: one at
-    /// least.
+    /// The number of bytes of the text between the bytes so far and a line that begins here: at
+    /// least one.
     fn gap(&self, start: usize) -> usize
         ensures { result ≡ gap start self.now }
     {
@@ -71,9 +71,9 @@ impl Waiting {
         if between == 0 { 1 } else { between }
     }
 
-    /// Adds these bytes of a further line, which begins here, behind a comma for each byte of the text
-    /// between: what a line says of a configuration ends with it, and what follows stands as far from
-    /// the beginning as in the text.
+    /// Adds these bytes of a further line, which begins here, after a comma for each byte of the
+    /// text between. So a value in a configuration ends with its line, and all later bytes are as
+    /// far from the beginning as in the text.
     fn lengthen(&mut self, alloc: Global, start: usize, more: &[u8]) -> Result<(), AllocError>
         ensures { IfOk result (λ _. self.new ≡ lengthened start more.now self.old) }
     {
@@ -119,7 +119,7 @@ pub(crate) fn is_unended(bytes: &[u8]) -> bool
 }
 
 impl Progress {
-    /// Adds these bytes of a further line to the statement that is open.
+    /// Adds these bytes of a further line to the open statement.
     fn go_on(&mut self, alloc: Global, more: &[u8]) -> Result<(), AllocError>
         ensures { IfOk result (λ _. self.new ≡ gone_on more.now self.old) }
     {
@@ -138,8 +138,8 @@ impl Progress {
         Ok(())
     }
 
-    /// Reads a line in which a configuration ends, behind so many of its bytes, where its pieces
-    /// from there on are these: the first is the end of the statement.
+    /// Reads a line in which a configuration ends, after this number of its bytes. Its pieces from
+    /// there on are these: the first is the end of the statement.
     #[tactic(auto, unfolding(crate::specs::Mermaid::ended_on))]
     fn ended_on(
         &mut self,
@@ -164,7 +164,7 @@ impl Progress {
         }
     }
 
-    /// Reads a line of text within a configuration: it ends there, or goes on.
+    /// Reads a line of text within a configuration: it ends there, or continues.
     #[tactic(auto, unfolding(crate::specs::Mermaid::text_within))]
     fn text_within(
         &mut self,
@@ -195,11 +195,13 @@ impl Progress {
         bytes: &[u8],
     ) -> Result<(), ImportFault>
         ensures { Leaves result self.new
-            (configured_as cross line bytes.now self.old (shape_of (trimmed bytes.now))) }
+            (configured_as cross line bytes.now self.old (line_kind_of (trimmed bytes.now))) }
     {
-        match shape_of(trimmed(bytes)) {
-            Shape::Nothing | Shape::Directive | Shape::Comment => self.described(line, bytes),
-            Shape::Head | Shape::Other => self.text_within(alloc, cross, line, bytes),
+        match line_kind_of(trimmed(bytes)) {
+            LineKind::Nothing | LineKind::Directive | LineKind::Comment => self.described(
+                line, bytes,
+            ),
+            LineKind::Head | LineKind::Other => self.text_within(alloc, cross, line, bytes),
         }
     }
 }

@@ -1,5 +1,5 @@
-//! White space of Mermaid: what `\s` is in JavaScript, but LF and CR, in UTF-8. A line of Markdown
-//! has spaces and tabs instead (`lines`).
+//! White space of Mermaid: `\s` of JavaScript without LF and CR, in UTF-8. A line of Markdown has
+//! spaces and tabs instead (`lines`).
 
 ghost use Rattle.std.specs.Prelude.{◌≡◌, ◌≤◌, ◌<◌, ◌^◌, ◌+◌, ◌-◌, ◌==◌, cond, drop, get_or, length};
 ghost use Rattle.msc_mermaid.specs.Patterns.{is_empty};
@@ -7,7 +7,7 @@ ghost use Rattle.msc_mermaid.specs.White.{ahead, before_white, begins_white, beh
 ghost use Rattle.msc_mermaid.specs.White.{front, is_general, is_one, is_three, is_two, trimmed};
 ghost use Rattle.msc_mermaid.specs.White.{white, width};
 
-/// The byte at a place, and 0 behind the end.
+/// The byte at a place, or 0 after the end.
 fn byte_at(bytes: &[u8], place: usize) -> u8
     ensures { result ≡ get_or bytes.now place 0 }
 {
@@ -46,7 +46,7 @@ fn is_three(a: u8, b: u8, c: u8) -> bool
         || (a == 239 && b == 187 && c == 191)
 }
 
-/// How many bytes the white space has that begins with these three; 0 if none begins.
+/// The number of bytes of the white space that begins with these three bytes; 0 if none does.
 fn width(a: u8, b: u8, c: u8) -> usize
     ensures { result ≡ width a b c }
 {
@@ -59,21 +59,21 @@ fn width(a: u8, b: u8, c: u8) -> usize
     if is_three(a, b, c) { 3 } else { 0 }
 }
 
-/// How many bytes the white space has that stands here; 0 if there is none.
+/// The number of bytes of the white space at the front; 0 if there is none.
 fn white(bytes: &[u8]) -> usize
     ensures { result ≡ white bytes.now }
 {
     width(byte_at(bytes, 0), byte_at(bytes, 1), byte_at(bytes, 2))
 }
 
-/// Whether white space stands here.
+/// Whether the bytes begin with white space.
 pub(crate) fn begins_white(bytes: &[u8]) -> bool
     ensures { result ≡ begins_white bytes.now }
 {
     white(bytes) > 0
 }
 
-/// The bytes behind the white space that stands here, or all of them.
+/// The bytes after the white space at the front, or all of them.
 pub(crate) fn behind_one(bytes: &[u8]) -> &[u8]
     ensures { result.now ≡ drop (white bytes.now) bytes.now }
 {
@@ -84,14 +84,15 @@ pub(crate) fn behind_one(bytes: &[u8]) -> &[u8]
     &bytes[one..]
 }
 
-/// How many bytes are left here of white space, if so many are left of one that began before.
+/// The number of bytes of white space that are left here, if `left` bytes are left of one that
+/// began before.
 fn ahead(left: usize, bytes: &[u8]) -> usize
     ensures { result ≡ ahead left bytes.now }
 {
     if left == 0 { white(bytes) } else { left }
 }
 
-/// How many bytes of white space stand in front.
+/// The number of bytes of white space at the front.
 pub(crate) fn white_in_front(bytes: &[u8]) -> usize
     ensures length { result ≡ front 0 bytes.now }
     ensures within { result ≤ length bytes.now }
@@ -107,14 +108,15 @@ pub(crate) fn white_in_front(bytes: &[u8]) -> usize
     bytes.len()
 }
 
-/// How many bytes are left behind this one, if so many are left at it.
+/// The number of bytes left after this one, if `here` are left at it.
 fn after(here: usize) -> usize
     ensures { result ≡ here - 1 }
 {
     if here == 0 { 0 } else { here - 1 }
 }
 
-/// Where the bytes end that are up to a place not of white space, if so much is white space at it.
+/// The end of the bytes up to a place, without white space at their end, if this number of bytes of
+/// white space is left at the place.
 fn end_at(here: usize, place: usize, end: usize) -> usize
     requires { place < 2 ^ 63 }
     ensures { result ≡ cond (here == 0) (place + 1) end }
@@ -122,7 +124,7 @@ fn end_at(here: usize, place: usize, end: usize) -> usize
     if here == 0 { place + 1 } else { end }
 }
 
-/// How many bytes stand up to the last one that is not of white space.
+/// The number of bytes up to the last one that is not white space.
 fn body(bytes: &[u8]) -> usize
     ensures length { result ≡ body 0 bytes.now }
     ensures within { result ≤ length bytes.now }
@@ -137,7 +139,7 @@ fn body(bytes: &[u8]) -> usize
     end
 }
 
-/// The bytes behind the white space in front.
+/// The bytes after the white space at the front.
 pub(crate) fn behind_white(bytes: &[u8]) -> &[u8]
     ensures { result.now ≡ behind_white bytes.now }
 {

@@ -15,7 +15,7 @@ use Rattle.msc_place.specs.Standing.{BeginsEvent}
 use Rattle.msc_notes.specs.declared.event.OwnEvent.{OwnEvent}
 use Rattle.msc_notes.specs.Events.{own_statement, owned_in, owned_of, act_in, act_view, own_view}
 use Rattle.msc_notes.specs.Faults.{BeginsOrNone}
-use Rattle.msc_notes.specs.Told.{HasNoMessageAt, IsFirstLike}
+use Rattle.msc_notes.specs.FaultNotes.{HasNoMessageAt, IsFirstLike}
 use Rattle.msc_notes.proofs.ChartPlaces.{statement_in, owned_statements}
 
 -- what an event does

@@ -11,7 +11,7 @@ use Rattle.msc_chart.specs.Events.Act.{OfMessage}
 use Rattle.msc_chart.proofs.MatchingLemmas.{is_end-true, same_end-refl}
 use Rattle.msc_notes.specs.declared.event.OwnEvent.{OwnEvent}
 use Rattle.msc_notes.specs.Events.{act_view}
-use Rattle.msc_notes.specs.Told.{IsFirstEnd, IsFirstNamed}
+use Rattle.msc_notes.specs.FaultNotes.{IsFirstEnd, IsFirstNamed}
 
 -- what an event that was read does
 pub act_at : (events : List OwnEvent) (e : ℕ) (d : OwnEvent) → e < length events

@@ -5,7 +5,7 @@ use Rattle.msc_parser.specs.declared.tree.Section.{Section}
 use Rattle.msc_parser.specs.Grammar.{Tree}
 use Rattle.msc_place.specs.Standing.{NamesSection}
 use Rattle.msc_notes.specs.declared.note.Note.{Note}
-use Rattle.msc_notes.specs.Told.{IsFirstNamed, HasNoneNamed, AreOfName, AreRepeated, name_note, first_note}
+use Rattle.msc_notes.specs.FaultNotes.{IsFirstNamed, HasNoneNamed, AreOfName, AreRepeated, name_note, first_note}
 
 -- where the first section of a name stands
 abbrev pub IsFirstPlace : List ℕ → Tree → List ℕ → ℕ → Type 0

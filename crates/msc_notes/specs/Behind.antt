@@ -4,9 +4,9 @@ use Rattle.msc_lexer.specs.declared.token.Token.{Token}
 use Rattle.msc_lexer.specs.Lexing.{HasTokens}
 use Rattle.msc_parser.specs.declared.fault.ParseFault.{ParseFault}
 use Rattle.msc_parser.specs.declared.fault.ParseFault.TheVariants.{Expected}
-use Rattle.msc_place.specs.declared.spots.Spot.{Spot}
+use Rattle.msc_place.specs.declared.tokens_at.TokenAt.{TokenAt}
 use Rattle.msc_place.specs.Positions.{IsPosition}
-use Rattle.msc_place.specs.Spots.{IsSpot}
+use Rattle.msc_place.specs.TokensAt.{IsTokenAt}
 use Rattle.msc_notes.specs.declared.note.Note.{Note}
 use Rattle.msc_notes.specs.declared.note.Tag.TheVariants as tags
 
@@ -16,13 +16,13 @@ IsOnAnotherLine text at None o = o ≡ None
 IsOnAnotherLine text at (Some b) o =
     (l : ℕ) × (c : ℕ) × (m : ℕ) × (d : ℕ) × IsPosition text b l c × IsPosition text at m d × (o ≡ (if l == m then None else Some b))
 
--- the place right behind the last byte of the token before the fault, where there is one and that is on
--- another line than the fault
+-- the place right behind the last byte of the token before the fault, where there is one and that
+-- is on another line than the fault
 pub record IsBehind (text : List ℕ) (at : ℕ) (o : Option ℕ) : Type 0 where
   pub tokens : List Token
-  pub spot : Spot
+  pub spot : TokenAt
   pub have : HasTokens text tokens
-  pub is_spot : IsSpot tokens at spot
+  pub is_spot : IsTokenAt tokens at spot
   pub chosen : IsOnAnotherLine text at spot.behind o
 
 -- `found ..`

@@ -2,7 +2,7 @@
 pub mod Notes
 pub mod Sorts
 pub mod Faults
-pub mod Told
+pub mod FaultNotes
 pub mod Behind
 pub mod Texts
 pub mod AllFaults

@@ -1,20 +1,20 @@
 -- Sorts of events.
 use Rattle.std.specs.Prelude.{ℕ, Bool, true, false, min, Option, Some, None}
-use Rattle.msc_parser.specs.declared.tree.Way.{Way}
-use Rattle.msc_parser.specs.declared.tree.Way.TheVariants as ways
+use Rattle.msc_parser.specs.declared.tree.Direction.{Direction}
+use Rattle.msc_parser.specs.declared.tree.Direction.TheVariants as directions
 use Rattle.msc_parser.specs.declared.tree.Statement.{Statement}
 use Rattle.msc_parser.specs.declared.tree.Statement.TheVariants as statements
 use Rattle.msc_notes.specs.declared.counting.Sort.{Sort}
 use Rattle.msc_notes.specs.declared.counting.Sort.TheVariants as sorts
 
 -- the sort of a message event
-abbrev pub sort_by : Way → Sort
-sort_by ways.Output = sorts.Output
-sort_by ways.Input = sorts.Input
+abbrev pub sort_by : Direction → Sort
+sort_by directions.Output = sorts.Output
+sort_by directions.Input = sorts.Input
 
 -- the sort of a statement
 abbrev pub sort_of : Statement → Sort
-sort_of (statements.Message s) = sort_by s.way
+sort_of (statements.Message s) = sort_by s.direction
 sort_of (statements.Action label) = sorts.Action
 
 -- whether two sorts are one

@@ -1,7 +1,7 @@
 -- Notes as they are printed.
 use Rattle.std.specs.Prelude.{◌≡◌, ℕ, ◌++◌, List, [], ◌∷◌, Option, None, Some, codes, length, min}
 use Rattle.msc_place.specs.Positions.{IsPosition}
-use Rattle.msc_place.specs.Sites.{beginning}
+use Rattle.msc_place.specs.EventPositions.{beginning}
 use Rattle.msc_place.specs.Texts.{place_text}
 use Rattle.msc_place.specs.declared.position.Position.{Position}
 use Rattle.msc_notes.specs.declared.note.Note.{Note}
@@ -25,8 +25,8 @@ placed_words First n = codes "the first one stands here"
 placed_words Opened n = codes "it is opened here"
 placed_words tag n = note_words n
 
--- where a note stands: at its own place, at the first of its two, or at that of its fault; of a fault
--- without a place at the beginning of the text
+-- where a note stands: at its own place, at the first of its two, or at that of its fault; of a
+-- fault without a place at the beginning of the text
 abbrev pub stands_at : Option ℕ → Option (ℕ × ℕ) → Option ℕ → ℕ
 stands_at (Some at) pair fault = at
 stands_at None (Some p) fault = p.0

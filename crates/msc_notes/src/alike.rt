@@ -6,10 +6,10 @@ ghost use Rattle.msc_chart.specs.Events.{address_of, end_of, is_end, other_end, 
 ghost use Rattle.msc_chart.specs.Events.{same_name};
 ghost use Rattle.msc_chart.specs.Events.{same_number};
 ghost use Rattle.msc_notes.specs.Events.{act_view, end_in, end_view};
-ghost use Rattle.msc_notes.specs.Told.{IsFirstEnd, HasNoEnd};
+ghost use Rattle.msc_notes.specs.FaultNotes.{IsFirstEnd, HasNoEnd};
 
 use crate::event::OwnEvent;
-use msc_parser::{Signal, Statement, Way};
+use msc_parser::{Direction, Signal, Statement};
 
 /// An end of a message, with its names in the draft.
 #[derive(Clone, Copy, PartialEq, Eq, Hash)]
@@ -21,7 +21,7 @@ pub(crate) struct End<'d> {
     pub number: Option<&'d [u8]>,
 }
 
-/// The end of a message that a statement of the instance `own` draws.
+/// The end of a message in a statement of the instance `own`.
 fn end_of<'d>(own: &'d [u8], signal: &'d Signal) -> End<'d>
     ensures { end_view result ≡ end_of own.entry.now signal.entry.now }
 {
@@ -31,15 +31,15 @@ fn end_of<'d>(own: &'d [u8], signal: &'d Signal) -> End<'d>
         Some(number) => Some(number.as_slice()),
         None => None,
     };
-    match signal.way {
-        Way::Output => End {
+    match signal.direction {
+        Direction::Output => End {
             sends: true,
             sender: own,
             receiver: address,
             name,
             number,
         },
-        Way::Input => End {
+        Direction::Input => End {
             sends: false,
             sender: address,
             receiver: own,
@@ -88,7 +88,7 @@ impl<'d> End<'d> {
         }
     }
 
-    /// The name that stands as its address.
+    /// The name in its address.
     pub fn address(&self) -> &'d [u8]
         ensures { result.now ≡ address_of (end_view self.entry.now) }
     {

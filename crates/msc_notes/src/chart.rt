@@ -1,4 +1,4 @@
-//! What is said of a fault of a draft.
+//! Notes on a fault of a draft.
 
 ghost use Rattle.std.specs.Prelude.{◌≡◌, ℕ, ◌≤◌, None, Some, length, map, slice_get, IfOk};
 ghost use Rattle.std.specs.Prelude.{IfSome, MatchOption};
@@ -9,17 +9,17 @@ ghost use Rattle.msc_parser.specs.Parsing.{HasDraft};
 ghost use Rattle.msc_place.specs.Standing.{BeginsEvent, NamesAddress, NamesSection};
 ghost use Rattle.msc_notes.specs.Events.{HasNoSignal, own_view, owned_of, statement_view};
 ghost use Rattle.msc_notes.specs.Faults.{BeginsOrNone, HasNoMessage, IsChartPlace};
-ghost use Rattle.msc_notes.specs.Told.{AreChartNotes, AreOfAddress, AreOfHeader, AreOfName};
-ghost use Rattle.msc_notes.specs.Told.{AreRepeated, AreTwice, BeginWith, HasNoMessageAt};
-ghost use Rattle.msc_notes.specs.Told.{HasNoneNamed, IsFirstLike, IsFirstNamed};
-ghost use Rattle.msc_notes.specs.Told.{first_note, name_note};
+ghost use Rattle.msc_notes.specs.FaultNotes.{AreChartNotes, AreOfAddress, AreOfHeader, AreOfName};
+ghost use Rattle.msc_notes.specs.FaultNotes.{AreRepeated, AreTwice, BeginWith, HasNoMessageAt};
+ghost use Rattle.msc_notes.specs.FaultNotes.{HasNoneNamed, IsFirstLike, IsFirstNamed};
+ghost use Rattle.msc_notes.specs.FaultNotes.{first_note, name_note};
 
 use crate::counting::{last_action, last_message};
 use crate::draft::{apart_hint, first_event, first_section};
 use crate::event::{OwnEvent, events_of};
 use crate::near::unmatched_notes;
 use crate::nearest::nearest;
-use crate::note::{Note, Tag, Told, placed, worded};
+use crate::note::{FaultNotes, Note, Tag, placed, worded};
 use crate::ring::ring_notes;
 use listed::Listed;
 use msc_chart::{ChartFault, INSTANCE_LIMIT};
@@ -27,7 +27,7 @@ use msc_parser::{Draft, Section, Signal};
 use msc_place::Places;
 use std::alloc::{AllocError, Global};
 
-/// Where the statement of an event begins.
+/// The place of the statement of an event.
 fn event_place(places: &Places, e: usize) -> Option<usize>
     ensures stands { (t : Tree) → HasDraft places.now.text t
         → BeginsOrNone places.now.text t e result }
@@ -39,7 +39,7 @@ fn event_place(places: &Places, e: usize) -> Option<usize>
     }
 }
 
-/// Where the address of an event stands.
+/// The place of the address of an event.
 fn address_place(places: &Places, e: usize) -> Option<usize>
     ensures stands { (t : Tree) → HasDraft places.now.text t
         → MatchOption result (HasNoMessage t e) (NamesAddress places.now.text t e) }
@@ -51,7 +51,7 @@ fn address_place(places: &Places, e: usize) -> Option<usize>
     }
 }
 
-/// Where the statement of an event begins, if there is such an event.
+/// The place of the statement of an event, if there is such an event.
 fn some_place(places: &Places, e: Option<usize>) -> Option<usize>
     ensures stands { (t : Tree) → HasDraft places.now.text t
         → MatchOption e (result ≡ None) (λ e. BeginsOrNone places.now.text t e result) }
@@ -102,8 +102,8 @@ fn nearest_note(
     Ok(None)
 }
 
-/// The notes of a name that is that of no section: the name, and the section's name that was
-/// probably meant.
+/// The notes on a name that no section has: the name, and the section's name that was probably
+/// meant.
 fn named_notes(
     alloc: Global,
     draft: &Draft,
@@ -120,14 +120,14 @@ fn named_notes(
     Ok(notes)
 }
 
-/// The note of the place where something stood first.
+/// The note on the place of a first occurrence.
 fn first_at(alloc: Global, place: usize) -> Note
     ensures { result ≡ first_note place }
 {
     placed(Tag::First, Vec::new(alloc), place)
 }
 
-/// The place of the first section of a name.
+/// The place of the first section with a name.
 fn first_named(draft: &Draft, places: &Places, name: &[u8]) -> Option<usize>
     ensures { HasDraft places.now.text draft.now
         → MatchOption result (HasNoneNamed draft.now.sections name.now)
@@ -140,7 +140,7 @@ fn first_named(draft: &Draft, places: &Places, name: &[u8]) -> Option<usize>
     }
 }
 
-/// The notes of a name that an earlier section has: the name, and the place of the first.
+/// The notes on a name that an earlier section has: the name, and the place of the first.
 fn section_notes(
     alloc: Global,
     draft: &Draft,
@@ -169,7 +169,7 @@ fn section_at(draft: &Draft, i: usize) -> Option<&Section>
     draft.sections().get(i)
 }
 
-/// The notes of a section whose name an earlier one has.
+/// The notes on a section whose name an earlier one has.
 fn repeated_notes(
     alloc: Global,
     draft: &Draft,
@@ -185,7 +185,7 @@ fn repeated_notes(
     }
 }
 
-/// The place of the first event of the kind and key of event `e`.
+/// The place of the first event with the kind and key of event `e`.
 fn first_like(draft: &Draft, events: &[OwnEvent], places: &Places, e: usize) -> Option<usize>
     requires { map own_view events.now ≡ owned_of draft.now.sections }
     ensures { HasDraft places.now.text draft.now
@@ -199,7 +199,7 @@ fn first_like(draft: &Draft, events: &[OwnEvent], places: &Places, e: usize) -> 
     }
 }
 
-/// The hint of a message that is there twice, if event `e` is one.
+/// The hint on a message that occurs twice, if event `e` is an end of one.
 fn apart_note(alloc: Global, events: &[OwnEvent], e: usize) -> Result<Option<Note>, AllocError> {
     match signal_at(events, e) {
         Some(signal) => {
@@ -210,7 +210,7 @@ fn apart_note(alloc: Global, events: &[OwnEvent], e: usize) -> Result<Option<Not
     }
 }
 
-/// The place of the first event of a kind and key, and what tells event `e` apart from it.
+/// The place of the first event with a kind and key, and a hint to tell event `e` apart from it.
 fn apart_notes(
     alloc: Global,
     events: &[OwnEvent],
@@ -227,7 +227,7 @@ fn apart_notes(
     Ok(notes)
 }
 
-/// The notes of a message event whose kind and key an earlier one has.
+/// The notes on a message event whose kind and key an earlier one has.
 fn twice_notes(
     alloc: Global,
     draft: &Draft,
@@ -256,7 +256,7 @@ fn signal_at<'d>(events: &[OwnEvent<'d>], e: usize) -> Option<&'d Signal>
     }
 }
 
-/// The notes of an event with an unknown address.
+/// The notes on an event with an unknown address.
 fn address_notes(
     alloc: Global,
     draft: &Draft,
@@ -273,7 +273,7 @@ fn address_notes(
     }
 }
 
-/// The notes of a header name without a section.
+/// The notes on a header name without a section.
 fn header_notes(
     alloc: Global,
     draft: &Draft,
@@ -288,7 +288,7 @@ fn header_notes(
     }
 }
 
-/// The notes of a fault of a draft.
+/// The notes on a fault of a draft.
 fn notes(
     alloc: Global,
     draft: &Draft,
@@ -313,14 +313,15 @@ fn notes(
     }
 }
 
-/// What is said of a fault of a draft: of the first, or of any other that stands in it. `places`
-/// are those of the draft's text. The only error is want of memory.
+/// The place of a fault of a draft, and the notes on it. The fault may be the first, or any other
+/// that stands in the draft. `places` are those of the draft's text. The only error is want of
+/// memory.
 pub fn tell_chart(
     alloc: Global,
     draft: &Draft,
     places: &Places,
     fault: ChartFault,
-) -> Result<Told, AllocError>
+) -> Result<FaultNotes, AllocError>
     ensures place { IfOk result (λ told. HasDraft places.now.text draft.now
         → IsChartPlace places.now.text draft.now fault told.place) }
     ensures inside { IfOk result
@@ -329,7 +330,7 @@ pub fn tell_chart(
         → AreChartNotes places.now.text draft.now fault told.notes) }
 {
     let events = events_of(alloc, draft)?;
-    Ok(Told {
+    Ok(FaultNotes {
         place: place(draft, &events, places, fault),
         notes: Listed::from_vec(notes(alloc, draft, &events, places, fault)?),
     })

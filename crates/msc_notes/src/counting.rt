@@ -8,9 +8,9 @@ ghost use Rattle.msc_notes.specs.declared.counting.Sort.TheVariants.{Action};
 
 use crate::event::OwnEvent;
 use msc_chart::{ACTION_LIMIT, MESSAGE_LIMIT};
-use msc_parser::{Statement, Way};
+use msc_parser::{Direction, Statement};
 
-/// The sorts of events that are counted by themselves.
+/// The sorts of events that are counted apart.
 #[derive(Clone, Copy, Debug, PartialEq, Eq)]
 pub(crate) enum Sort {
     Output,
@@ -23,14 +23,14 @@ fn is_of(sort: Sort, statement: &Statement) -> bool
     ensures { result ≡ is_of sort statement.now }
 {
     match (sort, statement) {
-        (Sort::Output, Statement::Message(signal)) => signal.way == Way::Output,
-        (Sort::Input, Statement::Message(signal)) => signal.way == Way::Input,
+        (Sort::Output, Statement::Message(signal)) => signal.direction == Direction::Output,
+        (Sort::Input, Statement::Message(signal)) => signal.direction == Direction::Input,
         (Sort::Action, Statement::Action(_)) => true,
         _ => false,
     }
 }
 
-/// The event of a sort before which stand so many of it.
+/// The event of a sort after `count` others of it.
 fn nth(events: &[OwnEvent], sort: Sort, count: u32) -> Option<usize>
     ensures { MatchOption result (HasNone (IsNth sort count (map statement_view events.now)))
         (IsNth sort count (map statement_view events.now)) }
@@ -47,7 +47,7 @@ fn nth(events: &[OwnEvent], sort: Sort, count: u32) -> Option<usize>
     None
 }
 
-/// The lesser of two numbers, or that which there is.
+/// The smaller of two numbers, or the one that is given.
 fn lesser(a: Option<usize>, b: Option<usize>) -> Option<usize>
     ensures { result ≡ lesser a b }
 {

@@ -3,21 +3,22 @@
 ghost use Rattle.std.specs.Prelude.{◌≡◌, map, MatchOption};
 ghost use Rattle.msc_chart.specs.Events.{same_name};
 ghost use Rattle.msc_notes.specs.Events.{act_view};
-ghost use Rattle.msc_notes.specs.Told.{HasNoMessageAt, HasNoneNamed, IsFirstLike, IsFirstNamed};
+ghost use Rattle.msc_notes.specs.FaultNotes.{HasNoMessageAt, HasNoneNamed, IsFirstLike};
+ghost use Rattle.msc_notes.specs.FaultNotes.{IsFirstNamed};
 
 use crate::alike::{End, first_end};
 use crate::event::OwnEvent;
 use msc_parser::Section;
 use std::alloc::{AllocError, Global};
 
-/// Whether a section has a name.
+/// Whether a section has this name.
 fn is_named(section: &Section, name: &[u8]) -> bool
     ensures { result ≡ same_name section.now.decl.name name.now }
 {
     section.decl.name.as_slice() == name
 }
 
-/// The first section of a name.
+/// The first section with a name.
 pub(crate) fn first_section(sections: &[Section], name: &[u8]) -> Option<usize>
     ensures { MatchOption result (HasNoneNamed sections.now name.now)
         (IsFirstNamed sections.now name.now) }
@@ -30,7 +31,7 @@ pub(crate) fn first_section(sections: &[Section], name: &[u8]) -> Option<usize>
     None
 }
 
-/// The first event of the kind and key of event `e`.
+/// The first event with the kind and key of event `e`.
 pub(crate) fn first_event(events: &[OwnEvent], e: usize) -> Option<usize>
     ensures { MatchOption result (HasNoMessageAt (map act_view events.now) e)
         (IsFirstLike (map act_view events.now) e) }
@@ -44,7 +45,7 @@ pub(crate) fn first_event(events: &[OwnEvent], e: usize) -> Option<usize>
     }
 }
 
-/// The number that a name is, as it is printed, if it is one.
+/// The number that a name is, if it is one in its printed form.
 fn number_in(name: &[u8]) -> Option<usize> {
     let mut number: usize = 0;
     for byte in name {

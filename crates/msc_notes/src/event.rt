@@ -1,4 +1,4 @@
-//! The events of a draft, in the order of its text, and what is shown of them.
+//! The events of a draft, in the order of its text, and their texts in notes.
 
 ghost use Rattle.std.specs.Prelude.{◌≡◌, ◌++◌, map, IfOk, OnOk, MatchOption};
 ghost use Rattle.msc_parser.specs.declared.tree.Statement.TheVariants.{Message};
@@ -7,7 +7,7 @@ ghost use Rattle.msc_parser.specs.Drafts.{statements_in};
 ghost use Rattle.msc_notes.specs.Events.{own_view, owned_in, owned_of};
 ghost use Rattle.msc_notes.specs.Events.{own_statement, IsAction};
 
-use msc_parser::{Draft, Item, Section, Signal, Statement, Way};
+use msc_parser::{Direction, Draft, Item, Section, Signal, Statement};
 use std::alloc::{AllocError, Global};
 use std::slice;
 
@@ -44,7 +44,7 @@ fn statements_in(item: &Item) -> &[Statement]
     }
 }
 
-/// Puts the events of an item at the back.
+/// Appends the events of an item.
 fn push_item<'d>(
     events: &mut Vec<OwnEvent<'d>>,
     line: usize,
@@ -67,7 +67,7 @@ fn push_item<'d>(
     Ok(())
 }
 
-/// Puts the events of a section at the back.
+/// Appends the events of a section.
 fn push_section<'d>(
     events: &mut Vec<OwnEvent<'d>>,
     line: usize,
@@ -98,7 +98,7 @@ pub(crate) fn events_of<'d>(
     Ok(events)
 }
 
-/// Puts the name of a message at the back, and its message instance name where it has one.
+/// Appends the name of a message, and its message instance name if it has one.
 pub(crate) fn put_message(
     text: &mut Vec<u8>,
     name: &[u8],
@@ -120,11 +120,11 @@ fn number_of(signal: &Signal) -> Option<&[u8]> {
     }
 }
 
-/// Puts a message event at the back, in the words of its statement.
+/// Appends a message event, in the words of its statement.
 fn put_signal(text: &mut Vec<u8>, signal: &Signal) -> Result<(), AllocError> {
-    let (word, preposition): (&[u8], &[u8]) = match signal.way {
-        Way::Output => (b"out ", b" to "),
-        Way::Input => (b"in ", b" from "),
+    let (word, preposition): (&[u8], &[u8]) = match signal.direction {
+        Direction::Output => (b"out ", b" to "),
+        Direction::Input => (b"in ", b" from "),
     };
     text.extend_from_slice(word)?;
     put_message(text, signal.name.as_slice(), number_of(signal))?;
@@ -133,8 +133,8 @@ fn put_signal(text: &mut Vec<u8>, signal: &Signal) -> Result<(), AllocError> {
     Ok(())
 }
 
-/// Puts a byte of an action's text at the back: an apostrophe doubled, and a question mark for what
-/// is no visible character of ASCII and no space.
+/// Appends a byte of an action's text: an apostrophe doubled, and a question mark for a byte that
+/// is neither a visible character of ASCII nor a space.
 fn put_byte(text: &mut Vec<u8>, byte: u8) -> Result<(), AllocError> {
     match byte {
         b'\'' => text.extend_from_slice(b"''")?,
@@ -144,7 +144,7 @@ fn put_byte(text: &mut Vec<u8>, byte: u8) -> Result<(), AllocError> {
     Ok(())
 }
 
-/// Puts an action at the back.
+/// Appends an action.
 fn put_action(text: &mut Vec<u8>, label: &[u8]) -> Result<(), AllocError> {
     text.extend_from_slice(b"action '")?;
     for byte in label {
@@ -154,7 +154,7 @@ fn put_action(text: &mut Vec<u8>, label: &[u8]) -> Result<(), AllocError> {
     Ok(())
 }
 
-/// Puts an event at the back, behind the name of its instance, as a trace has it.
+/// Appends an event, after the name of its instance, as a trace has it.
 pub(crate) fn put_event(text: &mut Vec<u8>, event: &OwnEvent) -> Result<(), AllocError> {
     text.extend_from_slice(event.own)?;
     text.push(b' ')?;

@@ -1,4 +1,4 @@
-//! Notes of grammar faults.
+//! Notes on grammar faults.
 
 ghost use Rattle.std.specs.Prelude.{◌≡◌, ◌≤◌, List, length, IfOk, IfSome};
 ghost use Rattle.msc_lexer.specs.declared.token.Token.{Token};
@@ -9,7 +9,7 @@ use crate::note::{Note, Tag, placed, worded};
 use listed::Listed;
 use msc_lexer::{Kind, Token};
 use msc_parser::{ParseFault, What, parse};
-use msc_place::{Position, Spot, spot_at};
+use msc_place::{Position, TokenAt, token_at};
 use std::alloc::{AllocError, Global};
 
 /// The bytes of a token.
@@ -18,7 +18,7 @@ fn bytes_of(text: &[u8], token: Token) -> &[u8] {
         .unwrap_or(b"")
 }
 
-/// What a token is called, without its bytes.
+/// The word for a kind of token.
 fn kind_words(kind: Kind) -> &'static [u8] {
     match kind {
         Kind::Word(_) => b"the reserved word ",
@@ -46,7 +46,7 @@ fn found(alloc: Global, text: &[u8], token: Option<Token>) -> Result<Vec<u8>, Al
     Ok(words)
 }
 
-/// Whether a name is expected at a place: it is where a `;` is refused for that.
+/// Whether a name is expected at a place: a `;` there would be refused for want of one.
 fn expects_name(alloc: Global, text: &[u8], at: usize) -> Result<bool, AllocError> {
     let mut tried = Vec::from_slice(alloc, text.get(..at).unwrap_or(b""))?;
     tried.push(b';')?;
@@ -57,7 +57,7 @@ fn expects_name(alloc: Global, text: &[u8], at: usize) -> Result<bool, AllocErro
     }
 }
 
-/// What to write in place of a reserved word where a name is expected.
+/// What to write in place of a reserved word if a name is expected.
 fn reserved_hint(alloc: Global, word: &[u8]) -> Result<Vec<u8>, AllocError> {
     let mut hint = Vec::from_slice(alloc, word)?;
     hint.extend_from_slice(b" is reserved in any case; ")?;
@@ -84,8 +84,8 @@ fn hint(
     }
 }
 
-/// The place behind the token before a fault, where that is on another line than the fault.
-fn behind(text: &[u8], at: usize, spot: Spot) -> Option<usize>
+/// The place after the token before a fault, if that is on another line than the fault.
+fn behind(text: &[u8], at: usize, spot: TokenAt) -> Option<usize>
     requires at { at ≤ length text.now }
     requires behind { IfSome spot.behind (λ b. b ≤ length text.now) }
     ensures { IsOnAnotherLine text.now at spot.behind result }
@@ -104,7 +104,7 @@ fn behind(text: &[u8], at: usize, spot: Spot) -> Option<usize>
     }
 }
 
-/// The notes where a word is not supported.
+/// The notes on a word that is not supported.
 pub(crate) fn unsupported_notes(
     alloc: Global,
     text: &[u8],
@@ -112,7 +112,7 @@ pub(crate) fn unsupported_notes(
 ) -> Result<Vec<Note>, AllocError> {
     let mut notes = Vec::new(alloc);
     if expects_name(alloc, text, at)? {
-        let spot = spot_at(alloc, text, at)?;
+        let spot = token_at(alloc, text, at)?;
         if let Some(hint) = hint(alloc, text, spot.token)? {
             notes.push(worded(Tag::Hint, hint.into_vec()))?;
         }
@@ -120,7 +120,7 @@ pub(crate) fn unsupported_notes(
     Ok(notes)
 }
 
-/// The notes of what was found, of what stands before it, and of a hint.
+/// The notes: what was found, the end of the token before it, and a hint.
 fn assembled(
     alloc: Global,
     found: Vec<u8>,
@@ -140,7 +140,7 @@ fn assembled(
     Ok(notes)
 }
 
-/// The hint where something else was expected: on a reserved word where that is a name.
+/// The hint if something else was expected: on a reserved word in place of a name.
 fn expected_hint(
     alloc: Global,
     text: &[u8],
@@ -153,7 +153,7 @@ fn expected_hint(
     }
 }
 
-/// The notes where something else was expected.
+/// The notes if something else was expected.
 pub(crate) fn expected_notes(
     alloc: Global,
     text: &[u8],
@@ -164,7 +164,7 @@ pub(crate) fn expected_notes(
     ensures { IfOk result (λ notes. (ts : List Token) → HasTokens text.now ts
         → AreExpected text.now at notes.items) }
 {
-    let spot = spot_at(alloc, text, at)?;
+    let spot = token_at(alloc, text, at)?;
     let found = found(alloc, text, spot.token)?;
     let hint = expected_hint(alloc, text, spot.token, what)?;
     assembled(alloc, found, behind(text, at, spot), hint)

@@ -1,4 +1,4 @@
-//! Notes of lexical faults.
+//! Notes on lexical faults.
 
 use crate::note::{Note, Tag, worded};
 use msc_lexer::LexFault;
@@ -12,7 +12,7 @@ fn is_run_byte(byte: u8) -> bool {
     byte.is_ascii_alphanumeric() || byte == b'_'
 }
 
-/// What was found: a byte, as a character where it is a visible one.
+/// What was found: a byte, as a character if it is a visible one.
 fn found_byte(alloc: Global, byte: u8) -> Result<Vec<u8>, AllocError> {
     let mut text = Vec::new(alloc);
     if byte.is_ascii_graphic() {
@@ -38,7 +38,7 @@ fn byte_hint(text: &[u8], at: usize, byte: u8) -> &'static [u8] {
     }
 }
 
-/// How many bytes of a name begin the bytes.
+/// The number of bytes at the beginning that can be in a name.
 fn run_length(bytes: &[u8]) -> usize {
     let mut length = 0;
     for byte in bytes {
@@ -50,7 +50,7 @@ fn run_length(bytes: &[u8]) -> usize {
     length
 }
 
-/// What was found: a name of so many bytes.
+/// What was found: a name of `length` bytes.
 fn found_length(alloc: Global, length: usize) -> Result<Vec<u8>, AllocError> {
     let mut digits = itoa::Buffer::new();
     let mut text = Vec::from_slice(alloc, digits.format(length).as_bytes())?;
@@ -58,7 +58,7 @@ fn found_length(alloc: Global, length: usize) -> Result<Vec<u8>, AllocError> {
     Ok(text)
 }
 
-/// The notes of a lexical fault of a text.
+/// The notes on a lexical fault of a text.
 pub(crate) fn lexical_notes(
     alloc: Global,
     text: &[u8],

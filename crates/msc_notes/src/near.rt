@@ -8,8 +8,8 @@ use indexmap::{IndexMap, IndexSet};
 use msc_place::Places;
 use std::alloc::{AllocError, Global};
 
-/// What an event that may have been meant as the other end of a message has in common with it, the
-/// most telling first.
+/// What an event has in common with the missing end of a message, if it may be meant as that end.
+/// The most telling likeness comes first.
 #[derive(Clone, Copy, PartialEq, Eq, Hash)]
 enum Likeness<'d> {
     /// The sender, the receiver and the name of the message.
@@ -36,7 +36,7 @@ pub(crate) struct Lonely<'d> {
 }
 
 impl<'d> Lonely<'d> {
-    /// Notes an event, where none that is like it is noted.
+    /// Keeps an event for each of its likenesses that has none yet.
     fn note(&mut self, e: usize, end: &End<'d>) -> Result<(), AllocError> {
         for likeness in likenesses(end) {
             if !self.firsts.contains_key(&likeness) {
@@ -46,7 +46,7 @@ impl<'d> Lonely<'d> {
         Ok(())
     }
 
-    /// Of these events the outputs, or the inputs, whose other end is none of the ends.
+    /// The outputs, or the inputs, among these events whose other end is none of the ends.
     pub fn of(
         alloc: Global,
         events: &[OwnEvent<'d>],
@@ -105,7 +105,7 @@ fn near<'d>(
     Ok(lonely.near(end))
 }
 
-/// The notes of event `e`, a message's end without the other.
+/// The notes on event `e`, an end of a message without the other.
 pub(crate) fn unmatched_notes(
     alloc: Global,
     events: &[OwnEvent],

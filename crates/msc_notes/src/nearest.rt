@@ -11,20 +11,20 @@ fn lowered(alloc: Global, name: &[u8]) -> Result<Vec<u8>, AllocError> {
         .collect(alloc)
 }
 
-/// How many bytes have to be put in, dropped or changed at least, capital letters counted as small
-/// ones.
+/// The least number of bytes that have to be added, dropped or changed; capital letters count as
+/// small ones.
 fn distance(alloc: Global, a: &[u8], b: &[u8]) -> Result<usize, AllocError> {
     let a = lowered(alloc, a)?;
     let b = lowered(alloc, b)?;
     generic_levenshtein(alloc, &a, &b)
 }
 
-/// Whether so many changes are few for the two names.
+/// Whether this number of changes is small for the two names.
 fn is_few(distance: usize, a: &[u8], b: &[u8]) -> bool {
     distance.saturating_mul(3) <= a.len().max(b.len())
 }
 
-/// The section whose name is nearest to a name, the first of several, where few changes are enough.
+/// The section whose name is nearest to a name, the first of several, if few changes are enough.
 pub(crate) fn nearest(
     alloc: Global,
     sections: &[Section],

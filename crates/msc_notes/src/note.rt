@@ -5,20 +5,20 @@ ghost use Rattle.msc_notes.specs.Notes.{word_of};
 
 use listed::Listed;
 
-/// What a note tells: the first word of its line.
+/// The kind of a note: the first word of its line.
 #[derive(Clone, Copy, Debug, PartialEq, Eq)]
 pub enum Tag {
-    /// What stands at the place of the fault.
+    /// What was found at the place of the fault.
     Found,
     /// What to write in its place.
     Hint,
-    /// The place behind what stands before the fault.
+    /// The end of the token before the fault.
     Behind,
     /// The name that the fault is about.
     Name,
     /// The name that is most like it.
     Nearest,
-    /// What stood there first.
+    /// The place of the first of two.
     First,
     /// The other end that is missing.
     Wanted,
@@ -56,7 +56,7 @@ impl Tag {
     }
 }
 
-/// A note: its word, the text behind that, which may be empty, and a place; or two places, of the
+/// A note: its word, the text after that, which may be empty, and a place; or two places, of the
 /// events that the note shows.
 #[derive(Drop)]
 pub struct Note {
@@ -66,9 +66,9 @@ pub struct Note {
     pub pair: Option<(usize, usize)>,
 }
 
-/// What is said of a fault: its place, if it has one, and its notes.
+/// The place of a fault, if it has one, and the notes on it.
 #[derive(Drop)]
-pub struct Told {
+pub struct FaultNotes {
     pub place: Option<usize>,
     pub notes: Listed<Note>,
 }

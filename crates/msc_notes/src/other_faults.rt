@@ -1,4 +1,4 @@
-//! The further faults of a draft, behind its first one, and what is said of them.
+//! The further faults of a draft, after its first one, and the notes on them.
 
 ghost use Rattle.std.specs.Prelude.{IfOk};
 ghost use Rattle.msc_notes.specs.AllFaults.{AreFurther};
@@ -8,7 +8,7 @@ use crate::alike::End;
 use crate::chart::tell_chart;
 use crate::event::{OwnEvent, events_of};
 use crate::near::Lonely;
-use crate::note::Told;
+use crate::note::FaultNotes;
 use crate::standing::{ends_of, faults, is_listed};
 use listed::Listed;
 use msc_chart::ChartFault;
@@ -16,25 +16,24 @@ use msc_parser::Draft;
 use msc_place::Places;
 use std::alloc::{AllocError, Global};
 
-/// How many further faults are told at most.
+/// The greatest number of further faults that are printed.
 pub const FURTHER_LIMIT: usize = 20;
 
-/// A further fault, and what is said of it.
+/// A further fault, and the notes on it.
 #[derive(Drop)]
-pub struct ToldFault {
+pub struct NotedFault {
     pub fault: ChartFault,
-    pub told: Told,
+    pub told: FaultNotes,
 }
 
-/// The further faults of a draft: how many they are, and the first of them, at most
-/// [`FURTHER_LIMIT`].
+/// The further faults of a draft: their number, and the first of them, at most [`FURTHER_LIMIT`].
 #[derive(Drop)]
 pub struct FurtherFaults {
     pub count: usize,
-    pub first: Listed<ToldFault>,
+    pub first: Listed<NotedFault>,
 }
 
-/// The event of a fault of an event.
+/// The event of a fault, if it is a fault of an event.
 fn event_of(fault: ChartFault) -> Option<u32> {
     match fault {
         ChartFault::UnknownAddress(e)
@@ -45,12 +44,12 @@ fn event_of(fault: ChartFault) -> Option<u32> {
     }
 }
 
-/// Whether the event is named.
+/// Whether the event was named.
 fn is_named(named: &[bool], e: usize) -> bool {
     named.get(e).copied().unwrap_or(false)
 }
 
-/// Whether an event may have been meant as the other end of event `e` that is named.
+/// Whether an event that was named may have been meant as the other end of event `e`.
 fn is_told_there<'d>(
     events: &[OwnEvent<'d>],
     outputs: &Lonely<'d>,
@@ -66,8 +65,8 @@ fn is_told_there<'d>(
     }
 }
 
-/// Whether no fault before says what this one does: none has named its event, nor the output that
-/// may have been meant as the other end of an input. Its event is then named.
+/// Whether the fault is new: no earlier fault named its event, nor the output that may have been
+/// meant as the other end of an input. Its event is then named.
 fn is_news<'d>(
     events: &[OwnEvent<'d>],
     outputs: &Lonely<'d>,
@@ -91,7 +90,7 @@ fn is_news<'d>(
     true
 }
 
-/// Of all these faults those that say what none before says, without the first one.
+/// The new faults among these, without the first one.
 fn others<'d>(
     alloc: Global,
     events: &[OwnEvent<'d>],
@@ -112,10 +111,10 @@ fn others<'d>(
     Ok(further)
 }
 
-/// The further faults behind the first fault of a draft: of [`faults`] the others, ascending, where
-/// the first is one of these. Two sorts are left out: a fault of an event that has one of a lower
-/// number, and that of an input without an output for which an output may have been meant that one
-/// of the faults is about. The only error is want of memory.
+/// The further faults after the first fault of a draft, which is one of [`faults`], in their order.
+/// Two sorts are left out: a fault of an event that has one with a lower number, and that of an
+/// input without an output if one of the faults is about an output that may have been meant for it.
+/// The only error is want of memory.
 pub fn further(
     alloc: Global,
     draft: &Draft,
@@ -131,7 +130,7 @@ pub fn further(
     others(alloc, events.as_slice(), all.as_slice(), first)
 }
 
-/// What is said of the further faults behind the first fault of a draft. `places` are those of the
+/// The notes on the further faults after the first fault of a draft. `places` are those of the
 /// draft's text. The only error is want of memory.
 pub fn tell_further(
     alloc: Global,
@@ -142,7 +141,7 @@ pub fn tell_further(
     let further = further(alloc, draft, first)?;
     let mut told = Vec::new(alloc);
     for fault in further.iter().take(FURTHER_LIMIT) {
-        told.push(ToldFault {
+        told.push(NotedFault {
             fault: *fault,
             told: tell_chart(alloc, draft, places, *fault)?,
         })?;

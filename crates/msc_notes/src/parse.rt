@@ -1,4 +1,4 @@
-//! What is said of the first fault of a text.
+//! Notes on the first fault of a text.
 
 ghost use Rattle.std.specs.Prelude.{◌≡◌, ◌≤◌, length, IfOk, IfSome};
 ghost use Rattle.msc_parser.specs.Parsing.{HasParseFault};
@@ -7,7 +7,7 @@ ghost use Rattle.msc_notes.specs.Faults.{lexical_place, parse_place};
 
 use crate::grammar::{expected_notes, unsupported_notes};
 use crate::lexical::lexical_notes;
-use crate::note::{Note, Told};
+use crate::note::{FaultNotes, Note};
 use listed::Listed;
 use msc_lexer::LexFault;
 use msc_parser::ParseFault;
@@ -37,7 +37,7 @@ fn place(fault: ParseFault) -> Option<usize>
     }
 }
 
-/// The notes of a fault of a text.
+/// The notes on a fault of a text.
 fn notes(alloc: Global, text: &[u8], fault: ParseFault) -> Result<Vec<Note>, AllocError>
     ensures { IfOk result (λ notes. HasParseFault text.now fault
         → AreParseNotes text.now fault notes.items) }
@@ -55,7 +55,7 @@ fn notes(alloc: Global, text: &[u8], fault: ParseFault) -> Result<Vec<Note>, All
     }
 }
 
-/// The place, where a text of so many bytes has it.
+/// The place, if a text of `len` bytes has it.
 fn kept(place: Option<usize>, len: usize) -> Option<usize>
     ensures inside { IfSome result (λ at. at ≤ len) }
     ensures same { IfSome place (λ at. at ≤ len) → result ≡ place }
@@ -66,15 +66,15 @@ fn kept(place: Option<usize>, len: usize) -> Option<usize>
     }
 }
 
-/// What is said of the first fault of a text. The only error is want of memory.
-pub fn tell_parse(alloc: Global, text: &[u8], fault: ParseFault) -> Result<Told, AllocError>
+/// The place of the first fault of a text, and the notes on it. The only error is want of memory.
+pub fn tell_parse(alloc: Global, text: &[u8], fault: ParseFault) -> Result<FaultNotes, AllocError>
     ensures place { IfOk result (λ told. HasParseFault text.now fault
         → told.place ≡ parse_place fault) }
     ensures inside { IfOk result (λ told. IfSome told.place (λ at. at ≤ length text.now)) }
     ensures notes { IfOk result (λ told. HasParseFault text.now fault
         → AreParseNotes text.now fault told.notes) }
 {
-    Ok(Told {
+    Ok(FaultNotes {
         place: kept(place(fault), text.len()),
         notes: Listed::from_vec(notes(alloc, text, fault)?),
     })

@@ -39,7 +39,7 @@ fn steps(alloc: Global, events: &[OwnEvent]) -> Result<Vec<u64>, AllocError>
     Ok(words)
 }
 
-/// Puts the steps of an event into the table.
+/// Adds the steps of an event to the table.
 fn put_steps(words: &mut [u64], events: &[OwnEvent], x: u32)
     requires few { length events.now ≤ EVENT_LIMIT }
     requires square { length words.old ≡ length events.now * word_count (length events.now) }
@@ -78,8 +78,8 @@ fn step_note(
     Ok(Some(paired(tag, text, pair)))
 }
 
-/// The ring through event `e`: of the shortest the least, event by event; none where there is none,
-/// or where the draft has more events than a chart may have.
+/// The ring through event `e`: the shortest, and of several the least, event by event; none if
+/// there is none, or if the draft has more events than a chart may have.
 fn ring_of(alloc: Global, events: &[OwnEvent], e: u32) -> Result<Vec<u32>, AllocError> {
     if events.len() > EVENT_LIMIT as usize || e as usize >= events.len() {
         return Ok(Vec::new(alloc));
@@ -89,7 +89,7 @@ fn ring_of(alloc: Global, events: &[OwnEvent], e: u32) -> Result<Vec<u32>, Alloc
     Ok(found.unwrap_or(Vec::new(alloc)))
 }
 
-/// The notes of an event that precedes itself: the steps of its ring.
+/// The notes on an event that precedes itself: the steps of its ring.
 pub(crate) fn ring_notes(
     alloc: Global,
     events: &[OwnEvent],

@@ -23,15 +23,15 @@ use msc_lexer::TEXT_LIMIT;
 use msc_parser::{Decl, Draft, Section};
 use std::alloc::{AllocError, Global};
 
-/// Whether the name of section `i` is not new, and the section's number is one that a fault can
-/// have; no text has as many sections.
+/// Whether the name of section `i` is not new, and a fault can have the section's number; no text
+/// has more sections.
 fn is_repeat(is_new: bool, i: usize) -> bool
     ensures { IsTrue result ↔ ((is_new ≡ false) × (i < 2 ^ 32)) }
 {
     !is_new && i < 0x1_0000_0000
 }
 
-/// Puts the sections whose name an earlier one has at the back, and answers all their names.
+/// Appends the faults of sections whose name an earlier one has, and returns all names of sections.
 fn put_repeated_names<'d>(
     alloc: Global,
     faults: &mut Vec<ChartFault>,
@@ -53,7 +53,7 @@ fn put_repeated_names<'d>(
     Ok(names)
 }
 
-/// Puts the header names that are those of no section at the back.
+/// Appends the faults of header names that no section has.
 fn put_unknown_headers<'d>(
     faults: &mut Vec<ChartFault>,
     header: &[Decl],
@@ -83,7 +83,7 @@ fn is_away<'d>(event: &OwnEvent<'d>, names: &IndexSet<&'d [u8]>) -> bool
     }
 }
 
-/// Puts the events whose address is the name of no section at the back.
+/// Appends the faults of events whose address is the name of no section.
 fn put_unknown_addresses<'d>(
     faults: &mut Vec<ChartFault>,
     events: &[OwnEvent<'d>],
@@ -102,7 +102,7 @@ fn put_unknown_addresses<'d>(
     Ok(())
 }
 
-/// Puts the end of a message that an event is, if it is one, into a set, and answers whether it was
+/// Adds the end of a message that an event is, if it is one, to a set, and returns whether it was
 /// there.
 fn put_end<'d>(ends: &mut IndexSet<End<'d>>, event: &OwnEvent<'d>) -> Result<bool, AllocError>
     ensures again { IfOk result (λ was. IsTrue was ↔ OfEnd
@@ -131,7 +131,7 @@ pub(crate) fn ends_of<'d>(
     Ok(ends)
 }
 
-/// Puts the events whose kind and key an earlier one has at the back, and answers all ends of
+/// Appends the faults of events whose kind and key an earlier one has, and returns all ends of
 /// messages.
 fn put_repeated_ends<'d>(
     alloc: Global,
@@ -175,7 +175,7 @@ fn unmatched_fault(sends: bool, e: u32) -> ChartFault
     }
 }
 
-/// Puts the outputs, or the inputs, that have no other end at the back.
+/// Appends the faults of outputs, or of inputs, that have no other end.
 fn put_unmatched<'d>(
     faults: &mut Vec<ChartFault>,
     events: &[OwnEvent<'d>],
@@ -214,8 +214,8 @@ pub(crate) fn is_listed(fault: ChartFault) -> bool {
 }
 
 /// The faults of names, of addresses and of ends of messages that stand in a draft, each by its own
-/// rule and without regard to the others. They are in the order in which one of them would be
-/// answered first, and each is there once. The only error is want of memory.
+/// rule, whether others stand or not. They are in the order in which each would be the first one,
+/// and each occurs once. The only error is want of memory.
 pub fn faults(alloc: Global, draft: &Draft) -> Result<Vec<ChartFault>, AllocError>
     ensures { IfOk result (λ faults. AreAllFaults draft.now faults.items) }
 {

@@ -6,7 +6,7 @@ ghost use Rattle.msc_notes.specs.Texts.{error_text, note_line, note_words, place
 ghost use Rattle.msc_notes.specs.Texts.{stands_at, IsFaultPosition, StandsAt};
 ghost use Rattle.msc_place.specs.declared.position.Position.{Position};
 
-use crate::note::{Note, Tag, Told};
+use crate::note::{FaultNotes, Note, Tag};
 use crate::other_faults::FurtherFaults;
 use msc_chart::ChartFault;
 use msc_place::writing::{write_place, write_places};
@@ -17,14 +17,14 @@ use std::io::Write;
 /// The beginning of a text.
 const BEGINNING: Position = Position { line: 1, column: 1 };
 
-/// The position of a place; one past the text is its end.
+/// The position of a place; that of one past the text is its end.
 fn position_of(lines: &Lines, at: usize) -> Position
     ensures { StandsAt lines.now at result }
 {
     lines.position(at.min(lines.text().len()))
 }
 
-/// The position of a fault: that of its place, or the beginning of the text where it has none.
+/// The position of a fault: that of its place, or the beginning of the text if it has none.
 fn position_of_fault(lines: &Lines, place: Option<usize>) -> Position
     ensures { IsFaultPosition lines.now place result }
 {
@@ -47,7 +47,7 @@ fn write_words<W: Write>(writer: &mut W, note: &Note) -> io::Result<()>
     Ok(())
 }
 
-/// Writes a note: its line, and the line of its two places where it has such.
+/// Writes a note: its line, and the line of its two places if it has them.
 pub fn write_note<W: Write>(
     writer: &mut W,
     file: &[u8],
@@ -69,8 +69,8 @@ pub fn write_note<W: Write>(
     }
 }
 
-/// Where a note stands by itself: at its own place, at the first of its two, or at that of its
-/// fault; of a fault without a place at the beginning of the text.
+/// The place of a note in lines for editors: its own, the first of its two, or that of its fault;
+/// the beginning of the text if the fault has none.
 fn stands_at(note: &Note, fault: Option<usize>) -> usize
     ensures { result ≡ stands_at note.now.place note.now.pair fault }
 {
@@ -82,7 +82,7 @@ fn stands_at(note: &Note, fault: Option<usize>) -> usize
     }
 }
 
-/// Writes the words of a note that stands at its place alone.
+/// Writes the words of a note whose line begins with its place.
 fn write_placed_words<W: Write>(writer: &mut W, note: &Note) -> io::Result<()>
     ensures { OnOk result (Appends (W.contents writer.old) (W.contents writer.new)
         (placed_words note.now.tag note.now)) }
@@ -95,8 +95,8 @@ fn write_placed_words<W: Write>(writer: &mut W, note: &Note) -> io::Result<()>
     }
 }
 
-/// Writes a note as a line by itself, for editors: its place, that it is a note, and its words. The
-/// fault stands at the place that is given, if it has one.
+/// Writes a note as a line for editors: its place, the word `note`, and its words. `fault` is the
+/// place of the fault, if it has one.
 pub fn write_note_line<W: Write>(
     writer: &mut W,
     file: &[u8],
@@ -115,8 +115,8 @@ pub fn write_note_line<W: Write>(
     writer.write_all(b"\n")
 }
 
-/// Writes what stands before the line of a fault for editors: the position of its place, if it has
-/// one, and that it is an error.
+/// Writes what precedes the line of a fault for editors: the position of its place, if it has one,
+/// and the word `error`.
 pub fn write_error<W: Write>(
     writer: &mut W,
     file: &[u8],
@@ -130,13 +130,13 @@ pub fn write_error<W: Write>(
     writer.write_all(b": error: ")
 }
 
-/// Writes what is said of a fault, behind its line: its place and the line of that, as
-/// [`msc_place::excerpt`] makes it, or none, where it has a place; and then its notes.
-pub fn write_told<W: Write>(
+/// Writes what follows the line of a fault: its place, if it has one, the line of that, as
+/// [`msc_place::excerpt`] makes it, or none; and then its notes.
+pub fn write_fault_notes<W: Write>(
     writer: &mut W,
     file: &[u8],
     lines: &Lines,
-    told: &Told,
+    told: &FaultNotes,
     excerpt: &[u8],
 ) -> io::Result<()> {
     if let Some(at) = told.place {
@@ -151,9 +151,9 @@ pub fn write_told<W: Write>(
     Ok(())
 }
 
-/// Writes the further faults of a draft, behind what is said of its first one: where there are any,
-/// how many they are, and of those that are told the line, which the caller words, the place and
-/// the notes.
+/// Writes the further faults of a draft, after the notes on its first one. If there are any, these
+/// are their number, and for each that is printed its line, which the caller words, its place and
+/// its notes.
 pub fn write_further<W: Write, F: FnMut(&mut W, ChartFault) -> io::Result<()>>(
     writer: &mut W,
     file: &[u8],
@@ -169,7 +169,7 @@ pub fn write_further<W: Write, F: FnMut(&mut W, ChartFault) -> io::Result<()>>(
     writeln!(writer, "further {}", further.count)?;
     for other in further.first.as_slice() {
         write_line(writer, other.fault)?;
-        write_told(writer, file, lines, &other.told, b"")?;
+        write_fault_notes(writer, file, lines, &other.told, b"")?;
     }
     Ok(())
 }

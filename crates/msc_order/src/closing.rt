@@ -1,9 +1,9 @@
 //! Closing a table under the rules of lines and messages: row by row, in the reverse of a linear
 //! order of the events, so that each row is made of rows that are finished.
 //!
-//! What a line leads to from an event is the same for all events of a segment. So the first of them
-//! that is reached takes in the rows of the next segment, and the rows of the others are begun as
-//! its row.
+//! A line leads from all events of a segment to the same events. So the first event of the segment
+//! that is reached takes in the rows of the next segment, and the rows of the others begin as a
+//! copy of its row.
 
 ghost use Rattle.std.specs.Prelude.{◌≡◌, ℕ, ◌*◌, ◌<◌, ◌≤◌, ◌||◌, ◌&&◌, ◌↔◌, length, nat_eq};
 ghost use Rattle.std.specs.Prelude.{IsTrue, OnOk, false};
@@ -20,7 +20,7 @@ use bit_rows::table::{merge, take_in};
 use msc_chart::{Chart, Event};
 use std::alloc::{AllocError, Global};
 
-/// Whether what is drawn before `f` leads to it.
+/// Whether an event drawn before `f` leads to it.
 fn leads(chart: &Chart, inputs: bool, f: Event) -> bool
     requires { f < length chart.now.events }
     ensures { result ≡ (inputs || is_controlled chart.now.events f) }
@@ -28,8 +28,8 @@ fn leads(chart: &Chart, inputs: bool, f: Event) -> bool
     inputs || chart.is_controlled(f)
 }
 
-/// The row of `e`, a blank one, takes in what the line leads to from `e`, where the events from
-/// `start` up to `end` are the next segment, and the rows of all that is drawn after `e` are made.
+/// Row `e`, which is blank, takes in all to which the line leads from `e`. The events from `start`
+/// up to `end` are the next segment, and the rows of all events drawn after `e` are made.
 fn add_lines(words: &mut [u64], chart: &Chart, inputs: bool, e: Event, start: Event, end: Event)
     requires square { length words.old
         ≡ length chart.now.events * word_count (length chart.now.events) }
@@ -51,7 +51,7 @@ fn add_lines(words: &mut [u64], chart: &Chart, inputs: bool, e: Event, start: Ev
     }
 }
 
-/// Begins row `f` as row `e`, which has more than it only where `more` says so.
+/// Begins row `f` as row `e`, which has more numbers only if `more` says so.
 fn begin_as(words: &mut [u64], begun: &mut [u64], n: u32, e: Event, f: Event, more: bool)
     requires row { HasRow n words.old f }
     requires other { HasRow n words.old e }
@@ -69,8 +69,8 @@ fn begin_as(words: &mut [u64], begun: &mut [u64], n: u32, e: Event, f: Event, mo
     row::put(begun, f);
 }
 
-/// Begins the rows of the segment of `e`, unless they are begun, where the rows of all that is
-/// drawn after it are made.
+/// Begins the rows of the segment of `e`, unless they are begun. The rows of all events drawn after
+/// it are made.
 fn begin_segment(words: &mut [u64], begun: &mut [u64], chart: &Chart, inputs: bool, e: Event)
     requires square { length words.old
         ≡ length chart.now.events * word_count (length chart.now.events) }
@@ -100,7 +100,7 @@ fn begin_segment(words: &mut [u64], begun: &mut [u64], chart: &Chart, inputs: bo
     }
 }
 
-/// Makes the row of `e`, where the rows of all that comes after it are made.
+/// Makes the row of `e`. The rows of all events after it are made.
 fn add_row(words: &mut [u64], begun: &mut [u64], chart: &Chart, inputs: bool, e: Event)
     requires square { length words.old
         ≡ length chart.now.events * word_count (length chart.now.events) }
@@ -130,16 +130,16 @@ fn add_rows(words: &mut [u64], begun: &mut [u64], chart: &Chart, inputs: bool)
     requires begun { AreBegun chart.now.events inputs words.old begun.old }
     ensures { IsTestOf (Led chart.now.events inputs) (cell (length chart.now.events) words.new) }
 {
-    chart.accepted();
+    chart.facts();
     let order = chart.linear_order();
     for done in 0..order.len() {
         add_row(words, begun, chart, inputs, order[order.len() - 1 - done]);
     }
 }
 
-/// Closes a blank table under the rules of lines and messages: what is drawn before an event comes
-/// before it, where `inputs` says so before each event, otherwise before each controlled one; and
-/// an output comes before its input.
+/// Closes a blank table under the rules of lines and messages. An event comes before each event
+/// drawn after it if `inputs` is set, otherwise before each controlled one; and an output comes
+/// before its input.
 pub fn close(
     alloc: Global,
     words: &mut [u64],

@@ -33,7 +33,7 @@ impl Model for Order {
 
 impl Order {
     /// The visual order of a chart (Alur, Holzmann, Peled 1996): the least transitive relation that
-    /// holds the drawn order of each line and puts each output before its input. An error is a
+    /// contains the drawn order of each line and puts each output before its input. An error is a
     /// growth of memory that was refused.
     pub fn visual(alloc: Global, chart: &Chart) -> Result<Order, AllocError>
         ensures events { IfOk result (λ order. length order ≡ length chart.now.events) }
@@ -46,9 +46,9 @@ impl Order {
     }
 
     /// The enforced order of a chart under an architecture: the least transitive relation that puts
-    /// before an output or an action what is drawn before it, before an input its output, and the
-    /// inputs of one queue in the order of their outputs. An error is a growth of memory that was
-    /// refused.
+    /// the events drawn before an output or an action before it, each output before its input, and
+    /// the inputs of one queue in the order of their outputs. An error is a growth of memory that
+    /// was refused.
     pub fn enforced(alloc: Global, chart: &Chart, queues: Queues) -> Result<Order, AllocError>
         ensures events { IfOk result (λ order. length order ≡ length chart.now.events) }
         ensures enforced { IfOk result (λ order. IsEnforcedOrder (wired queues chart.now)
@@ -69,8 +69,8 @@ impl Order {
         has(&self.words, self.events, e, f)
     }
 
-    /// The row of `e`: it has the numbers of the events that `e` comes before, and no other
-    /// ([`bit_rows`]). It takes no memory.
+    /// The row of `e`: the numbers of exactly those events that `e` comes before ([`bit_rows`]). It
+    /// takes no memory.
     pub fn row(&self, e: Event) -> &[u64]
         requires { e < length self.now }
         ensures words { length result.now ≡ word_count (length self.now) }

@@ -1,8 +1,9 @@
 //! The rule of queues, once, over the caused order.
 //!
-//! The outputs are looked at in the reverse of a linear order of the events. For each output the
-//! outputs of its queue that are caused after it are known by then; its input takes in the inputs
-//! of these. Whatever is caused after one of them needs no look: its input's row has been taken in.
+//! The outputs are visited in the reverse of a linear order of the events. So for each output the
+//! outputs of its queue that are caused after it are known, and its input takes in the inputs of
+//! these. An output that is caused after one of them needs no visit: the row of that one's input
+//! was taken in.
 
 ghost use Rattle.std.specs.Prelude.{◌≡◌, ℕ, ◌+◌, ◌*◌, ◌<◌, ◌||◌, length, nat_eq, IsTrue};
 ghost use Rattle.std.specs.Prelude.{false, OnOk};
@@ -33,14 +34,14 @@ fn take_input(taken: &mut [u64], words: &[u64], wiring: &Wiring, c: Event)
         || (nat_eq y (partner wiring.now.chart.now.events c)
         || cell (size wiring.now) words.now (partner wiring.now.chart.now.events c) y)) }
 {
-    wiring.chart.accepted();
+    wiring.chart.facts();
     let events = wiring.chart.events();
     let input = wiring.chart.other_end(c);
     put_row(taken, words, events, input);
 }
 
-/// Takes the inputs of those outputs that are left in word `k` into `taken`. Whatever is caused
-/// after one of them is left no more.
+/// Takes the inputs of those outputs that are left in word `k` into `taken`. Outputs that are
+/// caused after one of them are then no longer left.
 #[inline(never)]
 fn take_word(taken: &mut [u64], left: &mut [u64], words: &[u64], wiring: &Wiring, k: usize)
     requires taken { length taken.old ≡ word_count (size wiring.now) }
@@ -81,8 +82,8 @@ fn take_left(taken: &mut [u64], left: &mut [u64], words: &[u64], wiring: &Wiring
     }
 }
 
-/// Makes `taken` the row of the outputs in `left`, unless it is: `kept` are those that it was made
-/// of last. Outputs of one coregion mostly have the same.
+/// Makes `taken` the row of the outputs in `left`, unless it is already: `kept` are the outputs of
+/// which it was made last. Outputs of one coregion mostly have the same.
 fn renew(taken: &mut [u64], kept: &mut [u64], left: &mut [u64], words: &[u64], wiring: &Wiring)
     requires taken { length taken.old ≡ word_count (size wiring.now) }
     requires kept { length kept.old ≡ word_count (size wiring.now) }
@@ -103,7 +104,7 @@ fn renew(taken: &mut [u64], kept: &mut [u64], left: &mut [u64], words: &[u64], w
 }
 
 /// Adds the rule of queues for output `s`, where `masks` has, for each queue, the outputs that were
-/// looked at, and `taken` what was taken in for the outputs in `kept`.
+/// visited, and `taken` is the row of the outputs in `kept`.
 fn add_queue_of(
     words: &mut [u64],
     masks: &mut [u64],
@@ -133,7 +134,7 @@ fn add_queue_of(
     ensures kept { Keeps (cell (size wiring.now) masks.old) (cell (size wiring.now) masks.new) }
     ensures own { IsTrue (cell (size wiring.now) masks.new (queue (wired_by wiring.now) s) s) }
 {
-    wiring.chart.accepted();
+    wiring.chart.facts();
     ends_share_queues();
     let events = wiring.chart.events();
     let q = wiring.queue(s);
@@ -169,7 +170,7 @@ fn add_queues(
         → y < size wiring.now }
 {
     ends_share_queues();
-    wiring.chart.accepted();
+    wiring.chart.facts();
     let order = wiring.chart.linear_order();
     for done in 0..order.len() {
         let s = order[order.len() - 1 - done];

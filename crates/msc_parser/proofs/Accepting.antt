@@ -3,8 +3,8 @@ use Rattle.std.proofs.Common.{◌≡◌, ◌≢◌, ℕ, List, [], ◌∷◌, Op
 use Rattle.std.specs.Option.{option_map_or}
 use Rattle.msc_lexer.specs.declared.word.Word.TheVariants as words
 use Rattle.msc_lexer.specs.Lexemes.{Symbol, Reserved, Named, Quoted, Semicolon, Comma, Colon, LeftParen, RightParen, Lexeme}
-use Rattle.msc_parser.specs.declared.tree.Way.{Way}
-use Rattle.msc_parser.specs.declared.tree.Way.TheVariants as ways
+use Rattle.msc_parser.specs.declared.tree.Direction.{Direction}
+use Rattle.msc_parser.specs.declared.tree.Direction.TheVariants as directions
 use Rattle.msc_parser.specs.declared.tree.Decl.{Decl}
 use Rattle.msc_parser.specs.declared.tree.Signal.{Signal}
 use Rattle.msc_parser.specs.declared.tree.Statement.{Statement}
@@ -74,18 +74,18 @@ wide_decl InInst x h = refl
 wide_decl InInstance x h = refl
 
 -- behind a message name may stand what may stand behind a message instance name, and a comma
-wide_message : (w : Way) (p : GrammarPlace) → Wider (AfterMessage w p) (AfterNumber w p)
-wide_message ways.Output p Comma h = absurd (h refl)
-wide_message ways.Output p x h = refl
-wide_message ways.Input p Comma h = absurd (h refl)
-wide_message ways.Input p x h = refl
+wide_message : (w : Direction) (p : GrammarPlace) → Wider (AfterMessage w p) (AfterNumber w p)
+wide_message directions.Output p Comma h = absurd (h refl)
+wide_message directions.Output p x h = refl
+wide_message directions.Input p Comma h = absurd (h refl)
+wide_message directions.Input p x h = refl
 
 -- behind a message instance name may stand what may stand behind parameters, and `(`
-wide_number : (w : Way) (p : GrammarPlace) → Wider (AfterNumber w p) (AfterParameters w p)
-wide_number ways.Output p LeftParen h = absurd (h refl)
-wide_number ways.Output p x h = refl
-wide_number ways.Input p LeftParen h = absurd (h refl)
-wide_number ways.Input p x h = refl
+wide_number : (w : Direction) (p : GrammarPlace) → Wider (AfterNumber w p) (AfterParameters w p)
+wide_number directions.Output p LeftParen h = absurd (h refl)
+wide_number directions.Output p x h = refl
+wide_number directions.Input p LeftParen h = absurd (h refl)
+wide_number directions.Input p x h = refl
 
 -- before the sections may stand what may stand between them, and `inst`
 wide_header : Wider Header Sections
@@ -145,7 +145,7 @@ by_inst b a (d ∷ ds) h rest =
     (by_decl_end InInst h.2.0 a h.2.2 rest)))
 
 -- a message instance name, or none, leads to what follows it
-by_number : (w : Way) (p : GrammarPlace) (o : Option (List ℕ)) (b a : List Lexeme) → IsNumber b o a
+by_number : (w : Direction) (p : GrammarPlace) (o : Option (List ℕ)) (b a : List Lexeme) → IsNumber b o a
     → Accepts (AfterNumber w p) a → Accepts (AfterMessage w p) b
 by_number w p None b a h rest =
     by_wider (AfterMessage w p) (AfterNumber w p) (wide_message w p) (λ e. cc) b (ap (walk (AfterNumber w p)) h ∙ rest)
@@ -153,7 +153,7 @@ by_number w p (Some n) b a h rest =
     by_token _ (Number w p) Comma b h.0 h.1 (comma_leads w p) (by_token _ _ (Named n) h.0 a h.2 refl rest)
 
 -- names with commas between them lead behind the last of them
-by_names : (w : Way) (p : GrammarPlace) (ps : List (List ℕ)) (b a : List Lexeme) → AreListed IsNamed b ps a
+by_names : (w : Direction) (p : GrammarPlace) (ps : List (List ℕ)) (b a : List Lexeme) → AreListed IsNamed b ps a
     → Accepts (AfterParameter w p) a → Accepts (Parameters w p) b
 by_names w p [] b a h rest = absurd h
 by_names w p (x ∷ xs) b a h rest =
@@ -161,7 +161,7 @@ by_names w p (x ∷ xs) b a h rest =
     (by_many (IsLedBy Comma IsNamed) (AfterParameter w p) (λ c e y k more. by_token _ (Parameter w p) Comma c k.0 k.1 refl (by_token _ _ (Named y) k.0 e k.2 refl more)) xs h.0 a h.2 rest)
 
 -- parameters, or none, lead to what follows them
-by_parameters : (w : Way) (p : GrammarPlace) (ps : List (List ℕ)) (b a : List Lexeme)
+by_parameters : (w : Direction) (p : GrammarPlace) (ps : List (List ℕ)) (b a : List Lexeme)
     → AreParameters b ps a → Accepts (AfterParameters w p) a → Accepts (AfterNumber w p) b
 by_parameters w p ps b a (Absent none h) rest =
     by_wider (AfterNumber w p) (AfterParameters w p) (wide_number w p) (λ e. cc) b (ap (walk (AfterParameters w p)) h ∙ rest)
@@ -172,12 +172,12 @@ by_parameters w p ps b a (Given names close h k l) rest =
 
 -- a message event behind its first word leads behind the event
 by_signal : (p : GrammarPlace) (b a : List Lexeme) (e : Signal) → IsSignal b e a → Accepts p a
-    → Accepts (Message e.way p) b
+    → Accepts (Message e.direction p) b
 by_signal p b a e h rest =
-    by_token _ (AfterMessage e.way p) (Named e.name) b h.is_ident.number h.is_ident.is_name refl
-    (by_number e.way p e.number h.is_ident.number h.is_ident.parameters h.is_ident.is_number
-    (by_parameters e.way p e.parameters h.is_ident.parameters h.word h.is_ident.are_parameters
-    (by_token _ (Address p) _ h.word h.address h.is_word (word_leads e.way p)
+    by_token _ (AfterMessage e.direction p) (Named e.name) b h.is_ident.number h.is_ident.is_name refl
+    (by_number e.direction p e.number h.is_ident.number h.is_ident.parameters h.is_ident.is_number
+    (by_parameters e.direction p e.parameters h.is_ident.parameters h.word h.is_ident.are_parameters
+    (by_token _ (Address p) _ h.word h.address h.is_word (word_leads e.direction p)
     (by_token _ (StatementEnd p) (Named e.address) h.address h.close h.is_address refl (by_end p h.close a h.is_end rest)))))
 
 -- an action behind its first word leads behind the action
@@ -190,7 +190,7 @@ by_action p b a label h rest =
 by_event : (p : GrammarPlace) → LeadsToEvents p → (b a : List Lexeme) (x : Statement) → IsEvent b x a
     → Accepts p a → Accepts p b
 by_event p leads b a (statements.Message e) h rest =
-    by_token p (Message e.way p) _ b h.0 h.1 (leads (openings.Message e.way)) (by_signal p h.0 a e h.2 rest)
+    by_token p (Message e.direction p) _ b h.0 h.1 (leads (openings.Message e.direction)) (by_signal p h.0 a e h.2 rest)
 by_event p leads b a (statements.Action label) h rest =
     by_token p (ActionText p) _ b h.0 h.1 (leads openings.Action) (by_action p h.0 a label h.2 rest)
 

@@ -1,5 +1,5 @@
--- Actions are read: a text, what it holds, and the end of the statement. They and message events are
--- told apart by their first words.
+-- Actions are read: a text, what it holds, and the end of the statement. They and message events
+-- are told apart by their first words.
 use Rattle.std.proofs.Common.{◌≡◌, ℕ, List, [], ◌∷◌, get_or, Some, Err, refl, sym, ap, ◌∙◌, arith}
 use Rattle.std.specs.List.{slice_range}
 use Rattle.std.proofs.lemmas.List.{take_rest}
@@ -8,7 +8,7 @@ use Rattle.msc_lexer.specs.declared.token.Kind.{Kind}
 use Rattle.msc_lexer.specs.declared.token.Kind.TheVariants as kinds
 use Rattle.msc_lexer.specs.declared.token.Token.{Token}
 use Rattle.msc_lexer.specs.Lexemes.{Symbol, Quoted, unquoted, lexemes, symbol_of, AreWithin, IsWithin}
-use Rattle.msc_parser.specs.declared.tree.Way.{Way}
+use Rattle.msc_parser.specs.declared.tree.Direction.{Direction}
 use Rattle.msc_parser.specs.declared.tree.Signal.{Signal}
 use Rattle.msc_parser.specs.declared.tree.Statement.TheVariants as statements
 use Rattle.msc_parser.specs.declared.opening.Opening.TheVariants as openings
@@ -68,7 +68,7 @@ action_read text p a b c l held end = record {
 }
 
 -- a message event behind its first word is an event that begins so
-pub message_opened : (text : List ℕ) (w : Way) (p : GrammarPlace) (a b : List Token) (e : Signal)
+pub message_opened : (text : List ℕ) (w : Direction) (p : GrammarPlace) (a b : List Token) (e : Signal)
     → DidRead text (IsSignalOf w) (Message w p) p a b e
     → DidRead text (IsOpened (openings.Message w)) (Message w p) p a b (statements.Message e)
 message_opened text w p a b e h =

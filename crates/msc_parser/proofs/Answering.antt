@@ -48,7 +48,7 @@ not_done : (len : ℕ) (end : GrammarPlace × List Lexeme) (e : ParseFault) → 
 not_done len end e h p q =
     let f : end ≡ (Done, []) = cc in let g : Some e ≡ fault_of len (Done, []) = h ∙ ap (fault_of len) f in some_none e g
   where
-    -- a fault is not the lack of one
+    -- a fault is not the cause of one
     some_none : (e : ParseFault) → Some e ≡ None → ⊥
     some_none e h = cc
 

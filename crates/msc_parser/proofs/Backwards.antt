@@ -3,11 +3,11 @@ use Rattle.std.proofs.Common.{◌≡◌, ℕ, List, [], ◌∷◌, None, refl, s
 use Rattle.std.specs.List.{flat_map}
 use Rattle.msc_lexer.specs.declared.word.Word.TheVariants as words
 use Rattle.msc_lexer.specs.Lexemes.{Reserved, Named, Quoted, Semicolon, Comma, Lexeme}
-use Rattle.msc_parser.specs.declared.tree.Way.{Way}
+use Rattle.msc_parser.specs.declared.tree.Direction.{Direction}
 use Rattle.msc_parser.specs.declared.tree.Statement.TheVariants.{Message, Action}
 use Rattle.msc_parser.specs.declared.tree.Item.TheVariants.{Single, Coregion}
 use Rattle.msc_parser.specs.Forms.{IsToken}
-use Rattle.msc_parser.specs.Grammar.{Tree, IsEnd, Plain, Commented, way_word, address_word, Absent, IsInstance, IsChart}
+use Rattle.msc_parser.specs.Grammar.{Tree, IsEnd, Plain, Commented, direction_word, address_word, Absent, IsInstance, IsChart}
 use Rattle.msc_parser.specs.Places.{DeclStatement, InInst, InInstance}
 use Rattle.msc_parser.proofs.Following.{at_place, SectionsRest, HeaderRest, ItemsRest, EventsRest, EndRest, DeclsRest, DeclRest, SecondRest, KindRest, NameRest, AddressRest, WordRest, ParametersRest, NumberRest, EventRest}
 
@@ -42,30 +42,30 @@ pub no_second : (st : DeclStatement) (ls : List Lexeme) → DeclRest st ls → S
 no_second st ls r = record { second = []; after = ls; is = refl; rest = r }
 
 -- there may be no message instance name here
-pub no_number : (w : Way) (More : List Lexeme → Type 0) (ls : List Lexeme)
+pub no_number : (w : Direction) (More : List Lexeme → Type 0) (ls : List Lexeme)
     → ParametersRest w More ls → NumberRest w More ls
 no_number w More ls r = record { number = None; parameters = ls; is = refl; rest = r }
 
 -- there may be no parameters here
-pub no_parameters : (w : Way) (More : List Lexeme → Type 0) (ls : List Lexeme) → WordRest w More ls
+pub no_parameters : (w : Direction) (More : List Lexeme → Type 0) (ls : List Lexeme) → WordRest w More ls
     → ParametersRest w More ls
 no_parameters w More ls r = record { parameters = []; word = ls; are = Absent refl refl; rest = r }
 
 -- the word before an address in front of the address
-pub word_back : (w : Way) (More : List Lexeme → Type 0) (at : ℕ) (ls : List Lexeme)
+pub word_back : (w : Direction) (More : List Lexeme → Type 0) (at : ℕ) (ls : List Lexeme)
     → AddressRest More ls → WordRest w More (at_place (Reserved (address_word w)) at ∷ ls)
 word_back w More at ls r = record { address = ls; is = (at, refl); rest = r }
 
 -- a way and a message name in front of the rest of the message event
-pub event_back : (w : Way) (More : List Lexeme → Type 0) (n : List ℕ) (at bt : ℕ) (ls : List Lexeme)
+pub event_back : (w : Direction) (More : List Lexeme → Type 0) (n : List ℕ) (at bt : ℕ) (ls : List Lexeme)
     → NumberRest w More ls
-    → EventRest More (at_place (Reserved (way_word w)) at ∷ at_place (Named n) bt ∷ ls)
+    → EventRest More (at_place (Reserved (direction_word w)) at ∷ at_place (Named n) bt ∷ ls)
 event_back w More n at bt ls r =
     let p = r.rest in
     let q = p.rest in
     let a = q.rest in
     record {
-      event = Message (record { way = w; name = n; number = r.number; parameters = p.parameters; address = a.name });
+      event = Message (record { direction = w; name = n; number = r.number; parameters = p.parameters; address = a.name });
       after = a.rest.after;
       is = (
         at_place (Named n) bt ∷ ls,

@@ -4,7 +4,7 @@ use Rattle.std.specs.Prelude.{IfSome}
 use Rattle.std.specs.Option.{option_map_or}
 use Rattle.msc_lexer.specs.declared.word.Word.TheVariants as words
 use Rattle.msc_lexer.specs.Lexemes.{Symbol, Reserved, Named, Quoted, Semicolon, Comma, Colon, LeftParen, RightParen, Lexeme}
-use Rattle.msc_parser.specs.declared.tree.Way.TheVariants as ways
+use Rattle.msc_parser.specs.declared.tree.Direction.TheVariants as directions
 use Rattle.msc_parser.specs.Grammar.{Tree, Empty, Given, IsChart}
 use Rattle.msc_parser.specs.Places.{InInst, InInstance, GrammarPlace, Start, ChartName, Header, Sections, Items, Events, DeclName, DeclKind, KindFirst, KindSecond, DeclEnd, Message, AfterMessage, Number, AfterNumber, Parameters, Parameter, AfterParameter, AfterParameters, Address, ActionText, StatementEnd, CommentText, CommentEnd, Done, next, walk}
 use Rattle.msc_parser.proofs.Following.{at_place, HeaderRest, ItemsRest, Rest}
@@ -62,22 +62,22 @@ back (DeclEnd InInst) Semicolon at ls = λ r. no_decls _ (plain_end HeaderRest a
 back (DeclEnd InInstance) (Reserved words.Comment) at ls = λ r. r at
 back (DeclEnd InInstance) Semicolon at ls = λ r. plain_end ItemsRest at ls r
 back (Message w p) (Named n) at ls = λ r bt. event_back w (Rest p) n bt at ls r
-back (AfterMessage ways.Output p) Comma at ls = λ r. r at
-back (AfterMessage ways.Input p) Comma at ls = λ r. r at
-back (AfterMessage ways.Output p) LeftParen at ls = λ r. no_number ways.Output (Rest p) _ (r at)
-back (AfterMessage ways.Input p) LeftParen at ls = λ r. no_number ways.Input (Rest p) _ (r at)
-back (AfterMessage ways.Output p) (Reserved words.To) at ls =
-    λ r. no_number ways.Output (Rest p) _ (no_parameters ways.Output (Rest p) _ (word_back ways.Output (Rest p) at ls r))
-back (AfterMessage ways.Input p) (Reserved words.From) at ls =
-    λ r. no_number ways.Input (Rest p) _ (no_parameters ways.Input (Rest p) _ (word_back ways.Input (Rest p) at ls r))
+back (AfterMessage directions.Output p) Comma at ls = λ r. r at
+back (AfterMessage directions.Input p) Comma at ls = λ r. r at
+back (AfterMessage directions.Output p) LeftParen at ls = λ r. no_number directions.Output (Rest p) _ (r at)
+back (AfterMessage directions.Input p) LeftParen at ls = λ r. no_number directions.Input (Rest p) _ (r at)
+back (AfterMessage directions.Output p) (Reserved words.To) at ls =
+    λ r. no_number directions.Output (Rest p) _ (no_parameters directions.Output (Rest p) _ (word_back directions.Output (Rest p) at ls r))
+back (AfterMessage directions.Input p) (Reserved words.From) at ls =
+    λ r. no_number directions.Input (Rest p) _ (no_parameters directions.Input (Rest p) _ (word_back directions.Input (Rest p) at ls r))
 back (Number w p) (Named n) at ls =
     λ r bt. record { number = Some n; parameters = ls; is = (at_place (Named n) at ∷ ls, (bt, refl), (at, refl)); rest = r }
-back (AfterNumber ways.Output p) LeftParen at ls = λ r. r at
-back (AfterNumber ways.Input p) LeftParen at ls = λ r. r at
-back (AfterNumber ways.Output p) (Reserved words.To) at ls =
-    λ r. no_parameters ways.Output (Rest p) _ (word_back ways.Output (Rest p) at ls r)
-back (AfterNumber ways.Input p) (Reserved words.From) at ls =
-    λ r. no_parameters ways.Input (Rest p) _ (word_back ways.Input (Rest p) at ls r)
+back (AfterNumber directions.Output p) LeftParen at ls = λ r. r at
+back (AfterNumber directions.Input p) LeftParen at ls = λ r. r at
+back (AfterNumber directions.Output p) (Reserved words.To) at ls =
+    λ r. no_parameters directions.Output (Rest p) _ (word_back directions.Output (Rest p) at ls r)
+back (AfterNumber directions.Input p) (Reserved words.From) at ls =
+    λ r. no_parameters directions.Input (Rest p) _ (word_back directions.Input (Rest p) at ls r)
 back (Parameters w p) (Named n) at ls =
     λ r bt. record { parameters = n ∷ r.names; word = r.word; are = Given (at_place (Named n) at ∷ ls) r.close (bt, refl) (ls, (at, refl), r.are) r.is_close; rest = r.rest }
 back (Parameters w p) RightParen at ls =
@@ -87,10 +87,10 @@ back (Parameter w p) (Named n) at ls =
 back (AfterParameter w p) Comma at ls = λ r. r at
 back (AfterParameter w p) RightParen at ls =
     λ r. record { names = []; close = at_place RightParen at ∷ ls; word = ls; are = refl; is_close = (at, refl); rest = r }
-back (AfterParameters ways.Output p) (Reserved words.To) at ls =
-    λ r. word_back ways.Output (Rest p) at ls r
-back (AfterParameters ways.Input p) (Reserved words.From) at ls =
-    λ r. word_back ways.Input (Rest p) at ls r
+back (AfterParameters directions.Output p) (Reserved words.To) at ls =
+    λ r. word_back directions.Output (Rest p) at ls r
+back (AfterParameters directions.Input p) (Reserved words.From) at ls =
+    λ r. word_back directions.Input (Rest p) at ls r
 back (Address p) (Named n) at ls = λ r. record { name = n; close = ls; is = (at, refl); rest = r }
 back (ActionText p) (Quoted label) at ls = λ r bt. action_back (Rest p) label bt at ls r
 back (StatementEnd p) (Reserved words.Comment) at ls = λ r. r at

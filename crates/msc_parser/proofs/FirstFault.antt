@@ -4,8 +4,8 @@ use Rattle.std.specs.Option.{option_map_or}
 use Rattle.std.proofs.lemmas.List.{append-nil}
 use Rattle.msc_lexer.specs.declared.word.Word.TheVariants as words
 use Rattle.msc_lexer.specs.Lexemes.{Symbol, Reserved, Named, Quoted, Semicolon, RightParen, Lexeme}
-use Rattle.msc_parser.specs.declared.tree.Way.{Way}
-use Rattle.msc_parser.specs.declared.tree.Way.TheVariants as ways
+use Rattle.msc_parser.specs.declared.tree.Direction.{Direction}
+use Rattle.msc_parser.specs.declared.tree.Direction.TheVariants as directions
 use Rattle.msc_parser.specs.Grammar.{address_word}
 use Rattle.msc_parser.specs.Places.{DeclStatement, InInst, InInstance, GrammarPlace, Start, ChartName, Header, Sections, Items, Events, DeclName, DeclKind, KindFirst, KindSecond, DeclEnd, Message, AfterMessage, Number, AfterNumber, Parameters, Parameter, AfterParameter, AfterParameters, Address, ActionText, StatementEnd, CommentText, CommentEnd, Done, next, walk}
 use Rattle.msc_parser.specs.Parsing.{IsContinuable, IsEndOfGood}
@@ -79,7 +79,7 @@ from_decl InInst = from_end from_sections
 from_decl InInstance = from_end from_items
 
 -- the word before an address, an address and `;`
-from_word : Way → List Lexeme → List Lexeme
+from_word : Direction → List Lexeme → List Lexeme
 unfolding lexeme
 from_word w more = lexeme (Reserved (address_word w)) ∷ name ∷ from_end more
 
@@ -131,22 +131,22 @@ completed (KindSecond InInst) = refl
 completed (KindSecond InInstance) = refl
 completed (DeclEnd InInst) = refl
 completed (DeclEnd InInstance) = refl
-completed (Message ways.Output p) = completed p
-completed (Message ways.Input p) = completed p
-completed (AfterMessage ways.Output p) = completed p
-completed (AfterMessage ways.Input p) = completed p
-completed (Number ways.Output p) = completed p
-completed (Number ways.Input p) = completed p
-completed (AfterNumber ways.Output p) = completed p
-completed (AfterNumber ways.Input p) = completed p
-completed (Parameters ways.Output p) = completed p
-completed (Parameters ways.Input p) = completed p
-completed (Parameter ways.Output p) = completed p
-completed (Parameter ways.Input p) = completed p
-completed (AfterParameter ways.Output p) = completed p
-completed (AfterParameter ways.Input p) = completed p
-completed (AfterParameters ways.Output p) = completed p
-completed (AfterParameters ways.Input p) = completed p
+completed (Message directions.Output p) = completed p
+completed (Message directions.Input p) = completed p
+completed (AfterMessage directions.Output p) = completed p
+completed (AfterMessage directions.Input p) = completed p
+completed (Number directions.Output p) = completed p
+completed (Number directions.Input p) = completed p
+completed (AfterNumber directions.Output p) = completed p
+completed (AfterNumber directions.Input p) = completed p
+completed (Parameters directions.Output p) = completed p
+completed (Parameters directions.Input p) = completed p
+completed (Parameter directions.Output p) = completed p
+completed (Parameter directions.Input p) = completed p
+completed (AfterParameter directions.Output p) = completed p
+completed (AfterParameter directions.Input p) = completed p
+completed (AfterParameters directions.Output p) = completed p
+completed (AfterParameters directions.Input p) = completed p
 completed (Address p) = completed p
 completed (ActionText p) = completed p
 completed (StatementEnd p) = completed p

@@ -39,9 +39,9 @@ walks_on front more through =
 -- what the table lets through is the beginning of a chart, since each place has a way to the end
 begins_a_chart : (ls : List Lexeme) → (walk Start ls).1 ≡ [] → IsContinuable ls
 begins_a_chart ls through =
-    let way = completion (place_behind ls) in
-    let c = walks_chart (ls ++ way) (walks_on ls way through ∙ completed (place_behind ls)) in
-    (way, c.0, c.1)
+    let direction = completion (place_behind ls) in
+    let c = walks_chart (ls ++ direction) (walks_on ls direction through ∙ completed (place_behind ls)) in
+    (direction, c.0, c.1)
 
 -- an allowed token is let through
 allowed : (p : GrammarPlace) (l : Lexeme) (o : Option GrammarPlace) → next p l.symbol ≡ o → o ≢ None

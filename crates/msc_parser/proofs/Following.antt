@@ -2,13 +2,13 @@
 use Rattle.std.proofs.Common.{◌≡◌, ℕ, List, [], ◌∷◌, Option}
 use Rattle.msc_lexer.specs.declared.word.Word.TheVariants as words
 use Rattle.msc_lexer.specs.Lexemes.{Symbol, Reserved, Named, Quoted, Comma, Colon, LeftParen, RightParen, Lexeme}
-use Rattle.msc_parser.specs.declared.tree.Way.{Way}
+use Rattle.msc_parser.specs.declared.tree.Direction.{Direction}
 use Rattle.msc_parser.specs.declared.tree.Decl.{Decl}
 use Rattle.msc_parser.specs.declared.tree.Statement.{Statement}
 use Rattle.msc_parser.specs.declared.tree.Item.{Item}
 use Rattle.msc_parser.specs.declared.tree.Section.{Section}
 use Rattle.msc_parser.specs.Forms.{IsToken, IsNamed, AreMany, IsLedBy}
-use Rattle.msc_parser.specs.Grammar.{Tree, IsEnd, IsSecond, IsKind, IsDecl, way_word, address_word, IsNumber, AreParameters, IsEvent, IsItem, IsSection, AreDecls, IsChart}
+use Rattle.msc_parser.specs.Grammar.{Tree, IsEnd, IsSecond, IsKind, IsDecl, direction_word, address_word, IsNumber, AreParameters, IsEvent, IsItem, IsSection, AreDecls, IsChart}
 use Rattle.msc_parser.specs.Places.{DeclStatement, InInst, InInstance, GrammarPlace, Start, ChartName, Header, Sections, Items, Events, DeclName, DeclKind, KindFirst, KindSecond, DeclEnd, Message, AfterMessage, Number, AfterNumber, Parameters, Parameter, AfterParameter, AfterParameters, Address, ActionText, StatementEnd, CommentText, CommentEnd, Done}
 
 -- a symbol that stands at a place of the text
@@ -102,20 +102,20 @@ pub record AddressRest (More : List Lexeme → Type 0) (ls : List Lexeme) : Type
   pub rest : EndRest More close
 
 -- the word before an address, and what follows it
-pub record WordRest (w : Way) (More : List Lexeme → Type 0) (ls : List Lexeme) : Type 0 where
+pub record WordRest (w : Direction) (More : List Lexeme → Type 0) (ls : List Lexeme) : Type 0 where
   pub address : List Lexeme
   pub is : IsToken (Reserved (address_word w)) ls address
   pub rest : AddressRest More address
 
 -- parameters or none, and what follows them
-pub record ParametersRest (w : Way) (More : List Lexeme → Type 0) (ls : List Lexeme) : Type 0 where
+pub record ParametersRest (w : Direction) (More : List Lexeme → Type 0) (ls : List Lexeme) : Type 0 where
   pub parameters : List (List ℕ)
   pub word : List Lexeme
   pub are : AreParameters ls parameters word
   pub rest : WordRest w More word
 
 -- further parameters and `)`, and what follows them
-pub record NamesRest (w : Way) (More : List Lexeme → Type 0) (ls : List Lexeme) : Type 0 where
+pub record NamesRest (w : Direction) (More : List Lexeme → Type 0) (ls : List Lexeme) : Type 0 where
   pub names : List (List ℕ)
   pub close : List Lexeme
   pub word : List Lexeme
@@ -124,7 +124,7 @@ pub record NamesRest (w : Way) (More : List Lexeme → Type 0) (ls : List Lexeme
   pub rest : WordRest w More word
 
 -- a message instance name or none, and what follows it
-pub record NumberRest (w : Way) (More : List Lexeme → Type 0) (ls : List Lexeme) : Type 0 where
+pub record NumberRest (w : Direction) (More : List Lexeme → Type 0) (ls : List Lexeme) : Type 0 where
   pub number : Option (List ℕ)
   pub parameters : List Lexeme
   pub is : IsNumber ls number parameters
@@ -137,8 +137,8 @@ pub record EventRest (More : List Lexeme → Type 0) (ls : List Lexeme) : Type 0
   pub is : IsEvent ls event after
   pub rest : More after
 
--- what may follow from a place to the end of a chart; where a part began before the place, the tokens
--- before it, which may stand anywhere, are told too
+-- what may follow from a place to the end of a chart; where a part began before the place, the
+-- tokens before it, which may stand anywhere, are told too
 unfoldable pub Rest : GrammarPlace → List Lexeme → Type 0
 Rest Start ls = (t : Tree) × IsChart ls t
 Rest ChartName ls =
@@ -152,7 +152,7 @@ Rest (DeclKind st) ls = KindRest st ls
 Rest (KindFirst st) ls = (at : ℕ) → KindRest st (at_place Colon at ∷ ls)
 Rest (KindSecond st) ls = SecondRest st ls
 Rest (DeclEnd st) ls = DeclRest st ls
-Rest (Message w p) ls = (at : ℕ) → EventRest (Rest p) (at_place (Reserved (way_word w)) at ∷ ls)
+Rest (Message w p) ls = (at : ℕ) → EventRest (Rest p) (at_place (Reserved (direction_word w)) at ∷ ls)
 Rest (AfterMessage w p) ls = NumberRest w (Rest p) ls
 Rest (Number w p) ls = (at : ℕ) → NumberRest w (Rest p) (at_place Comma at ∷ ls)
 Rest (AfterNumber w p) ls = ParametersRest w (Rest p) ls

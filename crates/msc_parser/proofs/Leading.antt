@@ -1,9 +1,9 @@
--- Steps of the table that are alike for both statements with decls, for both ways of a message event,
--- or for all events.
+-- Steps of the table that are alike for both statements with decls, for both ways of a message
+-- event, or for all events.
 use Rattle.std.proofs.Common.{◌≡◌, ℕ, List, Some, refl}
 use Rattle.msc_lexer.specs.Lexemes.{Reserved, Named, Comma, Colon, LeftParen}
-use Rattle.msc_parser.specs.declared.tree.Way.{Way}
-use Rattle.msc_parser.specs.declared.tree.Way.TheVariants as ways
+use Rattle.msc_parser.specs.declared.tree.Direction.{Direction}
+use Rattle.msc_parser.specs.declared.tree.Direction.TheVariants as directions
 use Rattle.msc_parser.specs.declared.opening.Opening.{Opening}
 use Rattle.msc_parser.specs.declared.opening.Opening.TheVariants as openings
 use Rattle.msc_parser.specs.Grammar.{address_word}
@@ -22,20 +22,20 @@ second_leads InInst n = refl
 second_leads InInstance n = refl
 
 -- a comma leads to the message instance name
-pub comma_leads : (w : Way) (p : GrammarPlace) → next (AfterMessage w p) Comma ≡ Some (Number w p)
-comma_leads ways.Output p = refl
-comma_leads ways.Input p = refl
+pub comma_leads : (w : Direction) (p : GrammarPlace) → next (AfterMessage w p) Comma ≡ Some (Number w p)
+comma_leads directions.Output p = refl
+comma_leads directions.Input p = refl
 
 -- `(` leads to the parameters
-pub open_leads : (w : Way) (p : GrammarPlace) → next (AfterNumber w p) LeftParen ≡ Some (Parameters w p)
-open_leads ways.Output p = refl
-open_leads ways.Input p = refl
+pub open_leads : (w : Direction) (p : GrammarPlace) → next (AfterNumber w p) LeftParen ≡ Some (Parameters w p)
+open_leads directions.Output p = refl
+open_leads directions.Input p = refl
 
 -- the word before an address leads to the address
-pub word_leads : (w : Way) (p : GrammarPlace)
+pub word_leads : (w : Direction) (p : GrammarPlace)
     → next (AfterParameters w p) (Reserved (address_word w)) ≡ Some (Address p)
-word_leads ways.Output p = refl
-word_leads ways.Input p = refl
+word_leads directions.Output p = refl
+word_leads directions.Input p = refl
 
 -- the first word of an event leads behind it from the place
 abbrev pub LeadsToEvents : GrammarPlace → Type 0
@@ -44,12 +44,12 @@ LeadsToEvents p =
 
 -- so it does from a statement of a section
 pub item_leads : LeadsToEvents Items
-item_leads (openings.Message ways.Output) = refl
-item_leads (openings.Message ways.Input) = refl
+item_leads (openings.Message directions.Output) = refl
+item_leads (openings.Message directions.Input) = refl
 item_leads openings.Action = refl
 
 -- and from a statement of a coregion
 pub event_leads : LeadsToEvents Events
-event_leads (openings.Message ways.Output) = refl
-event_leads (openings.Message ways.Input) = refl
+event_leads (openings.Message directions.Output) = refl
+event_leads (openings.Message directions.Input) = refl
 event_leads openings.Action = refl

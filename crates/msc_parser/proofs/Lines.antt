@@ -6,7 +6,7 @@ use Rattle.msc_lexer.specs.declared.token.Kind.{Kind}
 use Rattle.msc_lexer.specs.declared.token.Kind.TheVariants as kinds
 use Rattle.msc_lexer.specs.declared.token.Token.{Token}
 use Rattle.msc_lexer.specs.Lexemes.{Reserved, Lexeme, lexemes, symbol_of, AreWithin}
-use Rattle.msc_parser.specs.declared.tree.Way.TheVariants as ways
+use Rattle.msc_parser.specs.declared.tree.Direction.TheVariants as directions
 use Rattle.msc_parser.specs.declared.tree.Decl.{Decl}
 use Rattle.msc_parser.specs.declared.tree.Statement.{Statement}
 use Rattle.msc_parser.specs.declared.tree.Statement.TheVariants as statements
@@ -42,9 +42,9 @@ only-Events : (k : Kind) (bytes : List ℕ)
     → ((o : Opening) → k ≢ kinds.Word (opening_word o))
     → k ≢ kinds.Word words.EndConcurrent → next Events (symbol_of k bytes) ≡ None
 only-Events (kinds.Word words.Output) bytes no_event c =
-    absurd (no_event (openings.Message ways.Output) refl)
+    absurd (no_event (openings.Message directions.Output) refl)
 only-Events (kinds.Word words.Input) bytes no_event c =
-    absurd (no_event (openings.Message ways.Input) refl)
+    absurd (no_event (openings.Message directions.Input) refl)
 only-Events (kinds.Word words.Action) bytes no_event c = absurd (no_event openings.Action refl)
 only-Events (kinds.Word words.EndConcurrent) bytes no_event c = absurd (c refl)
 only-Events k bytes no_event c = refl
@@ -139,9 +139,9 @@ only-Items : (k : Kind) (bytes : List ℕ)
     → k ≢ kinds.Word words.Concurrent → k ≢ kinds.Word words.EndInstance
     → next Items (symbol_of k bytes) ≡ None
 only-Items (kinds.Word words.Output) bytes no_event c d =
-    absurd (no_event (openings.Message ways.Output) refl)
+    absurd (no_event (openings.Message directions.Output) refl)
 only-Items (kinds.Word words.Input) bytes no_event c d =
-    absurd (no_event (openings.Message ways.Input) refl)
+    absurd (no_event (openings.Message directions.Input) refl)
 only-Items (kinds.Word words.Action) bytes no_event c d = absurd (no_event openings.Action refl)
 only-Items (kinds.Word words.Concurrent) bytes no_event c d = absurd (c refl)
 only-Items (kinds.Word words.EndInstance) bytes no_event c d = absurd (d refl)

@@ -14,7 +14,7 @@ use Rattle.msc_parser.specs.Grammar.{IsEnd, IsEvent, IsCoregion, IsItem, IsInsta
 use Rattle.msc_parser.specs.Parsing.{OneDraft}
 use Rattle.msc_parser.proofs.Tokens.{token_same, symbols_clash, name_same, token_at, end_same}
 use Rattle.msc_parser.proofs.Decided.{Decided, IsSequence, many_same, behind_same}
-use Rattle.msc_parser.proofs.OnePart.{Closed, end_stops, decl_same, decls_same, way_apart, event_same}
+use Rattle.msc_parser.proofs.OnePart.{Closed, end_stops, decl_same, decls_same, direction_apart, event_same}
 
 -- this symbol stands first
 abbrev StandsFirst : Symbol → List Lexeme → Type 0
@@ -26,7 +26,7 @@ StandsFirst s b = (a : List Lexeme) × IsToken s b a
 event_apart : (x : Statement) (s : Symbol) (b a c : List Lexeme) → IsEvent b x a → IsToken s b c
     → s ≢ Reserved words.Output → s ≢ Reserved words.Input → s ≢ Reserved words.Action → ⊥
 event_apart (Message e) s b a c h g no_out no_in no_action =
-    way_apart e.way b h.0 c h.1 s g no_out no_in
+    direction_apart e.direction b h.0 c h.1 s g no_out no_in
 event_apart (Action l) s b a c h g no_out no_in no_action =
     symbols_clash s (Reserved words.Action) b c h.0 g h.1 no_action
 

@@ -2,13 +2,13 @@
 use Rattle.std.proofs.Common.{◌≡◌, ◌≢◌, ℕ, List, [], ◌∷◌, Option, Some, None, refl, sym, subst, ◌∙◌}
 use Rattle.msc_lexer.specs.declared.word.Word.TheVariants as words
 use Rattle.msc_lexer.specs.Lexemes.{Symbol, Reserved, Named, Quoted, Comma, Colon, LeftParen, RightParen, Lexeme}
-use Rattle.msc_parser.specs.declared.tree.Way.{Way}
-use Rattle.msc_parser.specs.declared.tree.Way.TheVariants as ways
+use Rattle.msc_parser.specs.declared.tree.Direction.{Direction}
+use Rattle.msc_parser.specs.declared.tree.Direction.TheVariants as directions
 use Rattle.msc_parser.specs.declared.tree.Decl.{Decl}
 use Rattle.msc_parser.specs.declared.tree.Signal.{Signal}
 use Rattle.msc_parser.specs.declared.tree.Statement.TheVariants.{Message, Action}
 use Rattle.msc_parser.specs.Forms.{IsToken, IsNamed, IsLedBy, AreListed}
-use Rattle.msc_parser.specs.Grammar.{IsEnd, IsSecond, IsKind, IsDecl, way_word, address_word, IsNumber, AreParameters, Absent, Empty, Given, IsIdent, IsSignal, IsAction, IsMessage, IsEvent, AreDecls}
+use Rattle.msc_parser.specs.Grammar.{IsEnd, IsSecond, IsKind, IsDecl, direction_word, address_word, IsNumber, AreParameters, Absent, Empty, Given, IsIdent, IsSignal, IsAction, IsMessage, IsEvent, AreDecls}
 use Rattle.msc_parser.proofs.Tokens.{token_same, symbols_clash, name_same, token_at, end_apart, end_same}
 use Rattle.msc_parser.proofs.Decided.{Decided, IsSequence, behind_same, listed_same}
 
@@ -172,33 +172,33 @@ ident_same b a c x y h g stop_a stop_c =
     (e0.0, e1.0, e2.0, e2.1)
 
 -- the word before an address stops an ident
-word_stops : (w : Way) (b a : List Lexeme) → IsToken (Reserved (address_word w)) b a → StopsIdent b
+word_stops : (w : Direction) (b a : List Lexeme) → IsToken (Reserved (address_word w)) b a → StopsIdent b
 word_stops w b a h =
     (λ c g. symbols_clash (Reserved (address_word w)) Comma b a c h g (λ e. cc), λ c g. symbols_clash (Reserved (address_word w)) LeftParen b a c h g (λ e. cc))
 
 -- a way is known by its word
-way_word_same : (v w : Way) → Reserved (way_word v) ≡ Reserved (way_word w) → v ≡ w
-way_word_same ways.Output ways.Output e = refl
-way_word_same ways.Input ways.Input e = refl
-way_word_same ways.Output ways.Input e = absurd cc
-way_word_same ways.Input ways.Output e = absurd cc
+direction_word_same : (v w : Direction) → Reserved (direction_word v) ≡ Reserved (direction_word w) → v ≡ w
+direction_word_same directions.Output directions.Output e = refl
+direction_word_same directions.Input directions.Input e = refl
+direction_word_same directions.Output directions.Input e = absurd cc
+direction_word_same directions.Input directions.Output e = absurd cc
 
 -- a message event is determined
 message_same : Decided Closed IsMessage
 message_same b a c x y h g stop_a stop_c =
     let e0 = token_same _ _ b h.0 g.0 h.1 g.1 in
-    let way = way_word_same x.way y.way e0.0 in
+    let direction = direction_word_same x.direction y.direction e0.0 in
     let k = subst (λ (m : List Lexeme). IsSignal m x a) e0.1 h.2 in
     let l = g.2 in
-    let e1 = ident_same g.0 k.word l.word x y k.is_ident l.is_ident (word_stops x.way k.word k.address k.is_word) (word_stops y.way l.word l.address l.is_word) in
+    let e1 = ident_same g.0 k.word l.word x y k.is_ident l.is_ident (word_stops x.direction k.word k.address k.is_word) (word_stops y.direction l.word l.address l.is_word) in
     let e2 = token_same _ _ l.word k.address l.address (token_at _ k.word l.word k.address e1.3 k.is_word) l.is_word in
     let e3 = name_same x.address y.address l.address k.close l.close (token_at _ k.address l.address k.close e2.1 k.is_address) l.is_address in
-    (signal way e1.0 e1.1 e1.2 e3.0, end_same l.close a c (subst (λ (m : List Lexeme). IsEnd m a) e3.1 k.is_end) l.is_end)
+    (signal direction e1.0 e1.1 e1.2 e3.0, end_same l.close a c (subst (λ (m : List Lexeme). IsEnd m a) e3.1 k.is_end) l.is_end)
   where
     -- message events with equal parts are equal
-    signal : {v w : Way} {m n p q : List ℕ} {k l : Option (List ℕ)} {f g : List (List ℕ)} → v ≡ w
+    signal : {v w : Direction} {m n p q : List ℕ} {k l : Option (List ℕ)} {f g : List (List ℕ)} → v ≡ w
         → m ≡ n → k ≡ l → f ≡ g → p ≡ q
-        → (let e : Signal = record { way = v; name = m; number = k; parameters = f; address = p } in e) ≡ record { way = w; name = n; number = l; parameters = g; address = q }
+        → (let e : Signal = record { direction = v; name = m; number = k; parameters = f; address = p } in e) ≡ record { direction = w; name = n; number = l; parameters = g; address = q }
     signal p1 p2 p3 p4 p5 = cc
 
 -- an action behind its first word is determined
@@ -209,11 +209,11 @@ action_same b a c x y h g stop_a stop_c =
     ((cc), end_same g.close a c (subst (λ (m : List Lexeme). IsEnd m a) e0.1 h.is_end) g.is_end)
 
 -- a message event begins with no other symbol than `out` and `in`
-pub way_apart : (w : Way) (b a c : List Lexeme) → IsToken (Reserved (way_word w)) b a
+pub direction_apart : (w : Direction) (b a c : List Lexeme) → IsToken (Reserved (direction_word w)) b a
     → (s : Symbol) → IsToken s b c → s ≢ Reserved words.Output → s ≢ Reserved words.Input → ⊥
-way_apart ways.Output b a c h s g no_out no_in =
+direction_apart directions.Output b a c h s g no_out no_in =
     symbols_clash s (Reserved words.Output) b c a g h no_out
-way_apart ways.Input b a c h s g no_out no_in =
+direction_apart directions.Input b a c h s g no_out no_in =
     symbols_clash s (Reserved words.Input) b c a g h no_in
 
 -- an event is determined
@@ -221,8 +221,8 @@ pub event_same : Decided Closed IsEvent
 event_same b a c (Message x) (Message y) h g stop_a stop_c =
     let e = message_same b a c x y h g tt tt in let i = e.0 in ((cc), e.1)
 event_same b a c (Message x) (Action l) h g stop_a stop_c =
-    absurd (way_apart x.way b h.0 g.0 h.1 _ g.1 (λ e. cc) (λ e. cc))
+    absurd (direction_apart x.direction b h.0 g.0 h.1 _ g.1 (λ e. cc) (λ e. cc))
 event_same b a c (Action k) (Message y) h g stop_a stop_c =
-    absurd (way_apart y.way b g.0 h.0 g.1 _ h.1 (λ e. cc) (λ e. cc))
+    absurd (direction_apart y.direction b g.0 h.0 g.1 _ h.1 (λ e. cc) (λ e. cc))
 event_same b a c (Action k) (Action l) h g stop_a stop_c =
     let e = behind_same (Reserved words.Action) IsAction Closed action_same b a c k l h g tt tt in let i = e.0 in ((cc), e.1)

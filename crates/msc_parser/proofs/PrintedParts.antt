@@ -11,7 +11,7 @@ use Rattle.msc_parser.specs.declared.tree.Signal.{Signal}
 use Rattle.msc_parser.specs.declared.tree.Statement.{Statement}
 use Rattle.msc_parser.specs.declared.tree.Statement.TheVariants.{Message, Action}
 use Rattle.msc_parser.specs.Forms.{IsNamed, IsLedBy}
-use Rattle.msc_parser.specs.Grammar.{Plain, IsKind, IsDecl, way_word, address_word, IsNumber, AreParameters, Absent, Given, IsIdent, IsAction, IsMessage, IsEvent, IsHeader}
+use Rattle.msc_parser.specs.Grammar.{Plain, IsKind, IsDecl, direction_word, address_word, IsNumber, AreParameters, Absent, Given, IsIdent, IsAction, IsMessage, IsEvent, IsHeader}
 use Rattle.msc_parser.specs.Canonical.{word, space, line_end, kind_pieces, decl_pieces, next_decl_pieces, header_pieces, next_name_pieces, number_pieces, parameter_pieces, ident_pieces, address_pieces, signal_pieces, action_pieces, event_pieces}
 use Rattle.msc_parser.specs.Drafts.{IsDeclNamed, IsSignalNamed, IsStatementNamed}
 use Rattle.msc_parser.proofs.Printing.{StopsRun, IsPrintedAs, after_space, same_pieces, a_colon, a_comma, a_left_paren, a_right_paren, a_line_end, a_word, a_name, a_text, a_behind, PrintsEach, many_follow, a_many}
@@ -170,22 +170,22 @@ module _ (laws : PrintsPieces) where
   a_message e rest named =
       let last = Mark 59 ∷ Blank 10 ∷ rest in
       let target = Run e.address ∷ last in
-      let after = space ∷ word (address_word e.way) ∷ space ∷ target in
+      let after = space ∷ word (address_word e.direction) ∷ space ∷ target in
       let end = a_line_end rest in
       let address = spaced_name e.address last named.address refl in
-      let partner = after_space _ tt (word (address_word e.way) ∷ space ∷ target) (space ∷ target) (a_word laws (address_word e.way) (space ∷ target) refl) in
+      let partner = after_space _ tt (word (address_word e.direction) ∷ space ∷ target) (space ∷ target) (a_word laws (address_word e.direction) (space ∷ target) refl) in
       let ident = after_space IsIdent e (ident_pieces e ++ after) after (an_ident e after named refl) in
-      let way = a_word laws (way_word e.way) (space ∷ ident_pieces e ++ after) refl in
+      let direction = a_word laws (direction_word e.direction) (space ∷ ident_pieces e ++ after) refl in
       let same : (ident_pieces e ++ address_pieces e) ++ rest ≡ ident_pieces e ++ after = append_assoc (ident_pieces e) (address_pieces e) rest in
-      same_pieces IsMessage e (signal_pieces e ++ rest) (word (way_word e.way) ∷ space ∷ ident_pieces e ++ after) rest (ap (λ (x : List Piece). word (way_word e.way) ∷ space ∷ x) same) (record {
+      same_pieces IsMessage e (signal_pieces e ++ rest) (word (direction_word e.direction) ∷ space ∷ ident_pieces e ++ after) rest (ap (λ (x : List Piece). word (direction_word e.direction) ∷ space ∷ x) same) (record {
         reads = λ at.
-            let t0 = way.reads at in
+            let t0 = direction.reads at in
             let t1 = ident.reads t0.0 in
             let t2 = partner.reads t1.0 in
             let t3 = address.reads t2.0 in
             let t4 = end.reads t3.0 in
             (t4.0, (lexemes_of t0.0 (space ∷ ident_pieces e ++ after), t0.1, record { word = lexemes_of t1.0 after; address = lexemes_of t2.0 (space ∷ target); close = lexemes_of t3.0 last; is_ident = t1.1; is_word = t2.1; is_address = t3.1; is_end = Plain t4.1 }));
-        cut = λ c. way.cut (ident.cut (partner.cut (address.cut (end.cut c))));
+        cut = λ c. direction.cut (ident.cut (partner.cut (address.cut (end.cut c))));
       })
 
   -- an action is read again, whatever its text

@@ -6,8 +6,8 @@ use Rattle.msc_lexer.specs.declared.token.Kind.{Kind}
 use Rattle.msc_lexer.specs.declared.token.Kind.TheVariants as kinds
 use Rattle.msc_lexer.specs.declared.token.Token.{Token}
 use Rattle.msc_lexer.specs.Lexemes.{Reserved, Named, Comma, LeftParen, RightParen, lexemes, symbol_of, AreWithin}
-use Rattle.msc_parser.specs.declared.tree.Way.{Way}
-use Rattle.msc_parser.specs.declared.tree.Way.TheVariants as ways
+use Rattle.msc_parser.specs.declared.tree.Direction.{Direction}
+use Rattle.msc_parser.specs.declared.tree.Direction.TheVariants as directions
 use Rattle.msc_parser.specs.declared.fault.What.{What}
 use Rattle.msc_parser.specs.declared.fault.What.TheVariants as whats
 use Rattle.msc_parser.specs.declared.fault.ParseFault.{ParseFault}
@@ -22,21 +22,21 @@ use Rattle.msc_parser.proofs.Endings.{stuck_but_two}
 -- ---- message instance names
 
 -- but for a comma, behind a message name stands what stands behind a message instance name
-alike-AfterMessage : (w : Way) (p : GrammarPlace) (k : Kind) (bytes : List ℕ) → k ≢ kinds.Comma
+alike-AfterMessage : (w : Direction) (p : GrammarPlace) (k : Kind) (bytes : List ℕ) → k ≢ kinds.Comma
     → next (AfterMessage w p) (symbol_of k bytes) ≡ next (AfterNumber w p) (symbol_of k bytes)
-alike-AfterMessage ways.Output p kinds.Comma bytes a = absurd (a refl)
-alike-AfterMessage ways.Output p k bytes a = refl
-alike-AfterMessage ways.Input p kinds.Comma bytes a = absurd (a refl)
-alike-AfterMessage ways.Input p k bytes a = refl
+alike-AfterMessage directions.Output p kinds.Comma bytes a = absurd (a refl)
+alike-AfterMessage directions.Output p k bytes a = refl
+alike-AfterMessage directions.Input p kinds.Comma bytes a = absurd (a refl)
+alike-AfterMessage directions.Input p k bytes a = refl
 
 -- behind that comma only a name may stand
-only-Number : (w : Way) (p : GrammarPlace) → OnlyTakes (Number w p) kinds.Name
+only-Number : (w : Direction) (p : GrammarPlace) → OnlyTakes (Number w p) kinds.Name
 only-Number w p kinds.Name bytes a = absurd (a refl)
 only-Number w p k bytes a = refl
 
 -- no comma stands behind the message's name
 pub number_none : (text : List ℕ) (a : List Token) → AreWithin text a
-    → first_kind a ≢ Some kinds.Comma → (w : Way) (p : GrammarPlace)
+    → first_kind a ≢ Some kinds.Comma → (w : Direction) (p : GrammarPlace)
     → DidRead text IsNumber (AfterMessage w p) (AfterNumber w p) a a None
 number_none text a within no_comma w p = record {
   part = refl;
@@ -48,14 +48,14 @@ number_none text a within no_comma w p = record {
 -- behind the comma no name stands
 pub number_refused : (text : List ℕ) (a : List Token) (e : ParseFault) → AreWithin text a
     → first_kind a ≡ Some kinds.Comma → TakesName text whats.Name (others a) (Err e)
-    → (w : Way) (p : GrammarPlace) → Stops text (AfterMessage w p) a e
+    → (w : Direction) (p : GrammarPlace) → Stops text (AfterMessage w p) a e
 number_refused text a e within comma refused w p =
     Stops-back text (AfterMessage w p) (Number w p) a (others a) e (leads_on text (AfterMessage w p) (Number w p) Comma a (others a) (took text kinds.Comma a within comma).1 (comma_leads w p))
     (refuses_name text (Number w p) whats.Name (others a) e (λ len ls. refl) (only-Number w p) refl refused)
 
 -- a comma and a message instance name
 pub number_some : (text : List ℕ) (a b : List Token) (n : List ℕ) → AreWithin text a
-    → first_kind a ≡ Some kinds.Comma → DidTake text (Named n) (others a) b → (w : Way) (p : GrammarPlace)
+    → first_kind a ≡ Some kinds.Comma → DidTake text (Named n) (others a) b → (w : Direction) (p : GrammarPlace)
     → DidRead text IsNumber (AfterMessage w p) (AfterNumber w p) a b (Some n)
 number_some text a b n within comma name w p =
     let word = (took text kinds.Comma a within comma).1 in
@@ -69,19 +69,19 @@ number_some text a b n within comma name w p =
 -- ---- parameters
 
 -- behind a comma between parameters only a name may stand
-only-Parameter : (w : Way) (p : GrammarPlace) → OnlyTakes (Parameter w p) kinds.Name
+only-Parameter : (w : Direction) (p : GrammarPlace) → OnlyTakes (Parameter w p) kinds.Name
 only-Parameter w p kinds.Name bytes a = absurd (a refl)
 only-Parameter w p k bytes a = refl
 
 -- behind `(` only a name and `)` may stand
-only-Parameters : (w : Way) (p : GrammarPlace) (k : Kind) (bytes : List ℕ) → k ≢ kinds.RightParen
+only-Parameters : (w : Direction) (p : GrammarPlace) (k : Kind) (bytes : List ℕ) → k ≢ kinds.RightParen
     → k ≢ kinds.Name → next (Parameters w p) (symbol_of k bytes) ≡ None
 only-Parameters w p kinds.RightParen bytes a b = absurd (a refl)
 only-Parameters w p kinds.Name bytes a b = absurd (b refl)
 only-Parameters w p k bytes a b = refl
 
 -- behind a parameter only a comma and `)` may stand
-only-AfterParameter : (w : Way) (p : GrammarPlace) (k : Kind) (bytes : List ℕ) → k ≢ kinds.Comma
+only-AfterParameter : (w : Direction) (p : GrammarPlace) (k : Kind) (bytes : List ℕ) → k ≢ kinds.Comma
     → k ≢ kinds.RightParen → next (AfterParameter w p) (symbol_of k bytes) ≡ None
 only-AfterParameter w p kinds.Comma bytes a b = absurd (a refl)
 only-AfterParameter w p kinds.RightParen bytes a b = absurd (b refl)
@@ -90,27 +90,27 @@ only-AfterParameter w p k bytes a b = refl
 -- neither a parameter nor `)` stands behind `(`
 pub first_refused : (text : List ℕ) (a : List Token) (e : ParseFault)
     → first_kind a ≢ Some kinds.RightParen → TakesName text whats.Parameter a (Err e)
-    → (w : Way) (p : GrammarPlace) → Stops text (Parameters w p) a e
+    → (w : Direction) (p : GrammarPlace) → Stops text (Parameters w p) a e
 first_refused text a e no_close refused w p =
     name_stops text (Parameters w p) whats.Parameter a e (λ len ls. refl) (λ no_name. stuck_but_two text (Parameters w p) kinds.RightParen kinds.Name a (only-Parameters w p) no_close no_name) refl refused
 
 -- behind a comma between parameters no name stands
 pub next_refused : (text : List ℕ) (a : List Token) (e : ParseFault)
-    → TakesName text whats.Name a (Err e) → (w : Way) (p : GrammarPlace) → Stops text (Parameter w p) a e
+    → TakesName text whats.Name a (Err e) → (w : Direction) (p : GrammarPlace) → Stops text (Parameter w p) a e
 next_refused text a e refused w p =
     refuses_name text (Parameter w p) whats.Name a e (λ len ls. refl) (only-Parameter w p) refl refused
 
 -- but for `(`, behind a message instance name stands what stands behind parameters
-alike-AfterNumber : (w : Way) (p : GrammarPlace) (k : Kind) (bytes : List ℕ) → k ≢ kinds.LeftParen
+alike-AfterNumber : (w : Direction) (p : GrammarPlace) (k : Kind) (bytes : List ℕ) → k ≢ kinds.LeftParen
     → next (AfterNumber w p) (symbol_of k bytes) ≡ next (AfterParameters w p) (symbol_of k bytes)
-alike-AfterNumber ways.Output p kinds.LeftParen bytes a = absurd (a refl)
-alike-AfterNumber ways.Output p k bytes a = refl
-alike-AfterNumber ways.Input p kinds.LeftParen bytes a = absurd (a refl)
-alike-AfterNumber ways.Input p k bytes a = refl
+alike-AfterNumber directions.Output p kinds.LeftParen bytes a = absurd (a refl)
+alike-AfterNumber directions.Output p k bytes a = refl
+alike-AfterNumber directions.Input p kinds.LeftParen bytes a = absurd (a refl)
+alike-AfterNumber directions.Input p k bytes a = refl
 
 -- no parentheses stand there
 pub parameters_none : (text : List ℕ) (a : List Token) (ps : List (List ℕ)) → AreWithin text a
-    → first_kind a ≢ Some kinds.LeftParen → ps ≡ [] → (w : Way) (p : GrammarPlace)
+    → first_kind a ≢ Some kinds.LeftParen → ps ≡ [] → (w : Direction) (p : GrammarPlace)
     → DidRead text AreParameters (AfterNumber w p) (AfterParameters w p) a a ps
 parameters_none text a ps within no_open none w p = record {
   part = Absent none refl;
@@ -121,7 +121,7 @@ parameters_none text a ps within no_open none w p = record {
 
 -- `(` leads to the parameters
 opened : (text : List ℕ) (a : List Token) → AreWithin text a → first_kind a ≡ Some kinds.LeftParen
-    → (w : Way) (p : GrammarPlace)
+    → (w : Direction) (p : GrammarPlace)
     → fault_from text (AfterNumber w p) a ≡ fault_from text (Parameters w p) (others a)
 opened text a within paren w p =
     leads_on text (AfterNumber w p) (Parameters w p) LeftParen a (others a) (took text kinds.LeftParen a within paren).1 (open_leads w p)
@@ -129,7 +129,7 @@ opened text a within paren w p =
 -- `()` is no parameter
 pub parameters_empty : (text : List ℕ) (a : List Token) (ps : List (List ℕ)) → AreWithin text a
     → first_kind a ≡ Some kinds.LeftParen → first_kind (others a) ≡ Some kinds.RightParen → ps ≡ []
-    → (w : Way) (p : GrammarPlace)
+    → (w : Direction) (p : GrammarPlace)
     → DidRead text AreParameters (AfterNumber w p) (AfterParameters w p) a (others (others a)) ps
 parameters_empty text a ps within paren close none w p =
     let first = (took text kinds.LeftParen a within paren).1 in
@@ -143,14 +143,14 @@ parameters_empty text a ps within paren close none w p =
 
 -- a fault of the names is a fault of the parameters
 pub names_stop : (text : List ℕ) (a : List Token) (e : ParseFault) → AreWithin text a
-    → first_kind a ≡ Some kinds.LeftParen → (w : Way) (p : GrammarPlace)
+    → first_kind a ≡ Some kinds.LeftParen → (w : Direction) (p : GrammarPlace)
     → Stops text (Parameters w p) (others a) e → Stops text (AfterNumber w p) a e
 names_stop text a e within paren w p stop =
     Stops-back text (AfterNumber w p) (Parameters w p) a (others a) e (opened text a within paren w p) stop
 
 -- neither a comma nor `)` stands behind the parameters
 pub close_refused : (text : List ℕ) (a : List Token) {b : List Token} {ps : List (List ℕ)} (e : ParseFault)
-    → AreWithin text a → first_kind a ≡ Some kinds.LeftParen → (w : Way) (p : GrammarPlace)
+    → AreWithin text a → first_kind a ≡ Some kinds.LeftParen → (w : Direction) (p : GrammarPlace)
     → DidRead text (AreListed IsNamed) (Parameters w p) (AfterParameter w p) (others a) b ps
     → first_kind b ≢ Some kinds.Comma → Refuses text kinds.RightParen whats.Parameter b e
     → Stops text (AfterNumber w p) a e
@@ -160,7 +160,7 @@ close_refused text a {b} e within paren w p names no_comma refused =
 
 -- names in parentheses are parameters
 pub parameters_read : (text : List ℕ) (a : List Token) {b c : List Token} {ps : List (List ℕ)}
-    → AreWithin text a → first_kind a ≡ Some kinds.LeftParen → (w : Way) (p : GrammarPlace)
+    → AreWithin text a → first_kind a ≡ Some kinds.LeftParen → (w : Direction) (p : GrammarPlace)
     → DidRead text (AreListed IsNamed) (Parameters w p) (AfterParameter w p) (others a) b ps
     → DidTake text RightParen b c
     → DidRead text AreParameters (AfterNumber w p) (AfterParameters w p) a c ps
@@ -176,17 +176,17 @@ parameters_read text a {b} {c} within paren w p names close =
 -- ---- events behind their first words
 
 -- behind `out` and `in` only a name may stand
-only-Message : (w : Way) (p : GrammarPlace) → OnlyTakes (Message w p) kinds.Name
+only-Message : (w : Direction) (p : GrammarPlace) → OnlyTakes (Message w p) kinds.Name
 only-Message w p kinds.Name bytes a = absurd (a refl)
 only-Message w p k bytes a = refl
 
 -- behind parameters only the word before the address may stand
-only-AfterParameters : (w : Way) (p : GrammarPlace)
+only-AfterParameters : (w : Direction) (p : GrammarPlace)
     → OnlyTakes (AfterParameters w p) (kinds.Word (address_word w))
-only-AfterParameters ways.Output p (kinds.Word words.To) bytes a = absurd (a refl)
-only-AfterParameters ways.Output p k bytes a = refl
-only-AfterParameters ways.Input p (kinds.Word words.From) bytes a = absurd (a refl)
-only-AfterParameters ways.Input p k bytes a = refl
+only-AfterParameters directions.Output p (kinds.Word words.To) bytes a = absurd (a refl)
+only-AfterParameters directions.Output p k bytes a = refl
+only-AfterParameters directions.Input p (kinds.Word words.From) bytes a = absurd (a refl)
+only-AfterParameters directions.Input p k bytes a = refl
 
 -- behind that word only a name may stand
 only-Address : (p : GrammarPlace) → OnlyTakes (Address p) kinds.Name
@@ -194,20 +194,20 @@ only-Address p kinds.Name bytes a = absurd (a refl)
 only-Address p k bytes a = refl
 
 -- behind `out` or `in` no name stands
-pub signal_refused : (text : List ℕ) (w : Way) (a : List Token) (e : ParseFault)
+pub signal_refused : (text : List ℕ) (w : Direction) (a : List Token) (e : ParseFault)
     → TakesName text whats.Name a (Err e) → (p : GrammarPlace) → Stops text (Message w p) a e
 signal_refused text w a e refused p =
     refuses_name text (Message w p) whats.Name a e (λ len ls. refl) (only-Message w p) refl refused
 
 -- the message's name leads to what follows it
-pub message_leads : (text : List ℕ) (w : Way) (p : GrammarPlace) (a b : List Token) (n : List ℕ)
+pub message_leads : (text : List ℕ) (w : Direction) (p : GrammarPlace) (a b : List Token) (n : List ℕ)
     → DidTake text (Named n) a b
     → fault_from text (Message w p) a ≡ fault_from text (AfterMessage w p) b
 message_leads text w p a b n name =
     leads_on text (Message w p) (AfterMessage w p) (Named n) a b name refl
 
 -- the word before the address leads to the address
-pub address_leads : (text : List ℕ) (w : Way) (p : GrammarPlace) (a b : List Token) (v : Word)
+pub address_leads : (text : List ℕ) (w : Direction) (p : GrammarPlace) (a b : List Token) (v : Word)
     → v ≡ address_word w → DidTake text (Reserved v) a b
     → fault_from text (AfterParameters w p) a ≡ fault_from text (Address p) b
 address_leads text w p a b v same word =
@@ -220,7 +220,7 @@ pub end_leads : (text : List ℕ) (p : GrammarPlace) (a b : List Token) (n : Lis
 end_leads text p a b n name = leads_on text (Address p) (StatementEnd p) (Named n) a b name refl
 
 -- the word before the address does not stand there
-pub word_refused : (text : List ℕ) (w : Way) (p : GrammarPlace) (a : List Token) (v : Word) (x : What)
+pub word_refused : (text : List ℕ) (w : Direction) (p : GrammarPlace) (a : List Token) (v : Word) (x : What)
     (e : ParseFault) → v ≡ address_word w → x ≡ address_what w → Refuses text (kinds.Word v) x a e
     → Stops text (AfterParameters w p) a e
 word_refused text w p a v x e same expects refused =
@@ -233,7 +233,7 @@ address_refused text p a e refused =
     refuses_name text (Address p) whats.Name a e (λ len ls. refl) (only-Address p) refl refused
 
 -- an address is a word, a name and an end
-pub address_read : (text : List ℕ) (w : Way) (p : GrammarPlace) {a b c d : List Token} {m : List ℕ} {v : Word}
+pub address_read : (text : List ℕ) (w : Direction) (p : GrammarPlace) {a b c d : List Token} {m : List ℕ} {v : Word}
     → v ≡ address_word w → DidTake text (Reserved v) a b → DidTake text (Named m) b c → DidEnd text c d
     → DidRead text (IsAddressOf w) (AfterParameters w p) p a d m
 address_read text w p {a} {b} {c} {d} {m} {v} same word address end = record {
@@ -250,12 +250,12 @@ address_read text w p {a} {b} {c} {d} {m} {v} same word address end = record {
 }
 
 -- an event behind its first word is its ident and its address
-pub signal_read : (text : List ℕ) (w : Way) (p : GrammarPlace)
+pub signal_read : (text : List ℕ) (w : Direction) (p : GrammarPlace)
     {a b c d e : List Token} {n m : List ℕ} {o : Option (List ℕ)} {ps : List (List ℕ)}
     → DidTake text (Named n) a b → DidRead text IsNumber (AfterMessage w p) (AfterNumber w p) b c o
     → DidRead text AreParameters (AfterNumber w p) (AfterParameters w p) c d ps
     → DidRead text (IsAddressOf w) (AfterParameters w p) p d e m
-    → DidRead text (IsSignalOf w) (Message w p) p a e record { way = w; name = n; number = o; parameters = ps; address = m }
+    → DidRead text (IsSignalOf w) (Message w p) p a e record { direction = w; name = n; number = o; parameters = ps; address = m }
 signal_read text w p {a} {b} {c} {d} {n = n} name number parameters address = record {
   part = (
     refl,

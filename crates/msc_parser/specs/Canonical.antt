@@ -15,7 +15,7 @@ use Rattle.msc_parser.specs.declared.tree.Statement.TheVariants.{Message, Action
 use Rattle.msc_parser.specs.declared.tree.Item.{Item}
 use Rattle.msc_parser.specs.declared.tree.Item.TheVariants.{Single, Coregion}
 use Rattle.msc_parser.specs.declared.tree.Section.{Section}
-use Rattle.msc_parser.specs.Grammar.{Tree, way_word, address_word}
+use Rattle.msc_parser.specs.Grammar.{Tree, direction_word, address_word}
 
 -- a reserved word
 abbrev pub word : Word → Piece
@@ -73,11 +73,11 @@ ident_pieces e = Run e.name ∷ number_pieces e.number ++ parameter_pieces e.par
 
 -- ` to NAME;` or ` from NAME;`
 abbrev pub address_pieces : Signal → List Piece
-address_pieces e = space ∷ word (address_word e.way) ∷ space ∷ Run e.address ∷ line_end
+address_pieces e = space ∷ word (address_word e.direction) ∷ space ∷ Run e.address ∷ line_end
 
 -- `out IDENT to NAME;` or `in IDENT from NAME;`
 abbrev pub signal_pieces : Signal → List Piece
-signal_pieces e = word (way_word e.way) ∷ space ∷ ident_pieces e ++ address_pieces e
+signal_pieces e = word (direction_word e.direction) ∷ space ∷ ident_pieces e ++ address_pieces e
 
 -- `action 'TEXT';`, where each apostrophe that the text holds is doubled
 abbrev pub action_pieces : List ℕ → List Piece

@@ -1,6 +1,6 @@
 -- The grammar of charts, one relation for each line of its table (this project's profile of MSC/PR,
--- ITU-T Z.120). `X before x after` says that the tokens `before` begin with the part x, and that the
--- tokens `after` follow it.
+-- ITU-T Z.120). `X before x after` says that the tokens `before` begin with the part x, and that
+-- the tokens `after` follow it.
 use Rattle.std.specs.Prelude.{◌≡◌, ℕ, List, [], ◌∷◌, Option, Some, None}
 use Rattle.std.specs.List.{flat_map}
 use Rattle.msc_lexer.specs.declared.word.Word.{Word}
@@ -8,8 +8,8 @@ use Rattle.msc_lexer.specs.declared.word.Word.TheVariants.{Msc, EndMsc, Inst, In
 use Rattle.msc_lexer.specs.declared.word.Word.TheVariants as words
 use Rattle.msc_lexer.specs.Lexemes.{Reserved, Named, Quoted, Semicolon, Comma, Colon, LeftParen, RightParen, Lexeme}
 use Rattle.msc_parser.specs.Forms.{IsToken, IsNamed, AreMany, IsLedBy, AreListed}
-use Rattle.msc_parser.specs.declared.tree.Way.{Way}
-use Rattle.msc_parser.specs.declared.tree.Way.TheVariants as ways
+use Rattle.msc_parser.specs.declared.tree.Direction.{Direction}
+use Rattle.msc_parser.specs.declared.tree.Direction.TheVariants as directions
 use Rattle.msc_parser.specs.declared.tree.Decl.{Decl}
 use Rattle.msc_parser.specs.declared.tree.Signal.{Signal}
 use Rattle.msc_parser.specs.declared.tree.Statement.{Statement}
@@ -48,14 +48,14 @@ IsDecl before d after =
     (kind : List Lexeme) × IsToken (Named d.name) before kind × IsKind kind d.kind after
 
 -- the first word of a message event
-abbrev pub way_word : Way → Word
-way_word ways.Output = Output
-way_word ways.Input = Input
+abbrev pub direction_word : Direction → Word
+direction_word directions.Output = Output
+direction_word directions.Input = Input
 
 -- the word before the address of a message event
-abbrev pub address_word : Way → Word
-address_word ways.Output = To
-address_word ways.Input = From
+abbrev pub address_word : Direction → Word
+address_word directions.Output = To
+address_word directions.Input = From
 
 -- no message instance name, or a comma and one
 abbrev pub IsNumber : List Lexeme → Option (List ℕ) → List Lexeme → Type 0
@@ -85,7 +85,7 @@ pub record IsSignal (before : List Lexeme) (e : Signal) (after : List Lexeme) : 
   pub address : List Lexeme
   pub close : List Lexeme
   pub is_ident : IsIdent before e word
-  pub is_word : IsToken (Reserved (address_word e.way)) word address
+  pub is_word : IsToken (Reserved (address_word e.direction)) word address
   pub is_address : IsToken (Named e.address) address close
   pub is_end : IsEnd close after
 
@@ -97,7 +97,7 @@ pub record IsAction (before : List Lexeme) (label : List ℕ) (after : List Lexe
 
 -- a message event: `out` ident `to` name end, or `in` ident `from` name end
 abbrev pub IsMessage : List Lexeme → Signal → List Lexeme → Type 0
-IsMessage before e after = IsLedBy (Reserved (way_word e.way)) IsSignal before e after
+IsMessage before e after = IsLedBy (Reserved (direction_word e.direction)) IsSignal before e after
 
 -- an event: that of a message, or `action` text end
 abbrev pub IsEvent : List Lexeme → Statement → List Lexeme → Type 0

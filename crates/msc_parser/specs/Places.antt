@@ -4,8 +4,8 @@ use Rattle.std.specs.Prelude.{List, [], ◌∷◌, Option, Some, None}
 use Rattle.std.specs.Option.{option_map_or}
 use Rattle.msc_lexer.specs.declared.word.Word.TheVariants as words
 use Rattle.msc_lexer.specs.Lexemes.{Symbol, Reserved, Named, Quoted, Semicolon, Comma, Colon, LeftParen, RightParen, Lexeme}
-use Rattle.msc_parser.specs.declared.tree.Way.{Way}
-use Rattle.msc_parser.specs.declared.tree.Way.TheVariants as ways
+use Rattle.msc_parser.specs.declared.tree.Direction.{Direction}
+use Rattle.msc_parser.specs.declared.tree.Direction.TheVariants as directions
 use Rattle.msc_parser.specs.declared.fault.What.{What}
 use Rattle.msc_parser.specs.declared.fault.What.TheVariants as whats
 
@@ -28,14 +28,14 @@ pub data GrammarPlace : Type 0 where
   KindFirst : DeclStatement → GrammarPlace  -- after the `:` of a kind
   KindSecond : DeclStatement → GrammarPlace  -- after the first name of a kind
   DeclEnd : DeclStatement → GrammarPlace  -- after the second name of a kind
-  Message : Way → GrammarPlace → GrammarPlace  -- after `out` or `in`
-  AfterMessage : Way → GrammarPlace → GrammarPlace  -- after the message name
-  Number : Way → GrammarPlace → GrammarPlace  -- after the comma behind the message name
-  AfterNumber : Way → GrammarPlace → GrammarPlace  -- after the message instance name
-  Parameters : Way → GrammarPlace → GrammarPlace  -- after `(`
-  Parameter : Way → GrammarPlace → GrammarPlace  -- after a comma between parameters
-  AfterParameter : Way → GrammarPlace → GrammarPlace  -- after a parameter
-  AfterParameters : Way → GrammarPlace → GrammarPlace  -- after `)`
+  Message : Direction → GrammarPlace → GrammarPlace  -- after `out` or `in`
+  AfterMessage : Direction → GrammarPlace → GrammarPlace  -- after the message name
+  Number : Direction → GrammarPlace → GrammarPlace  -- after the comma behind the message name
+  AfterNumber : Direction → GrammarPlace → GrammarPlace  -- after the message instance name
+  Parameters : Direction → GrammarPlace → GrammarPlace  -- after `(`
+  Parameter : Direction → GrammarPlace → GrammarPlace  -- after a comma between parameters
+  AfterParameter : Direction → GrammarPlace → GrammarPlace  -- after a parameter
+  AfterParameters : Direction → GrammarPlace → GrammarPlace  -- after `)`
   Address : GrammarPlace → GrammarPlace  -- after `to` or `from`
   ActionText : GrammarPlace → GrammarPlace  -- after `action`
   StatementEnd : GrammarPlace → GrammarPlace  -- at the end of a statement
@@ -57,13 +57,13 @@ next Header (Reserved words.Instance) = Some (DeclName InInstance)
 next Header (Reserved words.EndMsc) = Some (StatementEnd Done)
 next Sections (Reserved words.Instance) = Some (DeclName InInstance)
 next Sections (Reserved words.EndMsc) = Some (StatementEnd Done)
-next Items (Reserved words.Output) = Some (Message ways.Output Items)
-next Items (Reserved words.Input) = Some (Message ways.Input Items)
+next Items (Reserved words.Output) = Some (Message directions.Output Items)
+next Items (Reserved words.Input) = Some (Message directions.Input Items)
 next Items (Reserved words.Action) = Some (ActionText Items)
 next Items (Reserved words.Concurrent) = Some (StatementEnd Events)
 next Items (Reserved words.EndInstance) = Some (StatementEnd Sections)
-next Events (Reserved words.Output) = Some (Message ways.Output Events)
-next Events (Reserved words.Input) = Some (Message ways.Input Events)
+next Events (Reserved words.Output) = Some (Message directions.Output Events)
+next Events (Reserved words.Input) = Some (Message directions.Input Events)
 next Events (Reserved words.Action) = Some (ActionText Events)
 next Events (Reserved words.EndConcurrent) = Some (StatementEnd Items)
 next (DeclName st) (Named n) = Some (DeclKind st)
@@ -79,22 +79,22 @@ next (KindSecond st) Semicolon = Some (behind st)
 next (DeclEnd InInst) Comma = Some (DeclName InInst)
 next (DeclEnd st) (Reserved words.Comment) = Some (CommentText (behind st))
 next (DeclEnd st) Semicolon = Some (behind st)
-next (Message way p) (Named n) = Some (AfterMessage way p)
-next (AfterMessage way p) Comma = Some (Number way p)
-next (AfterMessage way p) LeftParen = Some (Parameters way p)
-next (AfterMessage ways.Output p) (Reserved words.To) = Some (Address p)
-next (AfterMessage ways.Input p) (Reserved words.From) = Some (Address p)
-next (Number way p) (Named n) = Some (AfterNumber way p)
-next (AfterNumber way p) LeftParen = Some (Parameters way p)
-next (AfterNumber ways.Output p) (Reserved words.To) = Some (Address p)
-next (AfterNumber ways.Input p) (Reserved words.From) = Some (Address p)
-next (Parameters way p) (Named n) = Some (AfterParameter way p)
-next (Parameters way p) RightParen = Some (AfterParameters way p)
-next (Parameter way p) (Named n) = Some (AfterParameter way p)
-next (AfterParameter way p) Comma = Some (Parameter way p)
-next (AfterParameter way p) RightParen = Some (AfterParameters way p)
-next (AfterParameters ways.Output p) (Reserved words.To) = Some (Address p)
-next (AfterParameters ways.Input p) (Reserved words.From) = Some (Address p)
+next (Message direction p) (Named n) = Some (AfterMessage direction p)
+next (AfterMessage direction p) Comma = Some (Number direction p)
+next (AfterMessage direction p) LeftParen = Some (Parameters direction p)
+next (AfterMessage directions.Output p) (Reserved words.To) = Some (Address p)
+next (AfterMessage directions.Input p) (Reserved words.From) = Some (Address p)
+next (Number direction p) (Named n) = Some (AfterNumber direction p)
+next (AfterNumber direction p) LeftParen = Some (Parameters direction p)
+next (AfterNumber directions.Output p) (Reserved words.To) = Some (Address p)
+next (AfterNumber directions.Input p) (Reserved words.From) = Some (Address p)
+next (Parameters direction p) (Named n) = Some (AfterParameter direction p)
+next (Parameters direction p) RightParen = Some (AfterParameters direction p)
+next (Parameter direction p) (Named n) = Some (AfterParameter direction p)
+next (AfterParameter direction p) Comma = Some (Parameter direction p)
+next (AfterParameter direction p) RightParen = Some (AfterParameters direction p)
+next (AfterParameters directions.Output p) (Reserved words.To) = Some (Address p)
+next (AfterParameters directions.Input p) (Reserved words.From) = Some (Address p)
 next (Address p) (Named n) = Some (StatementEnd p)
 next (ActionText p) (Quoted label) = Some (StatementEnd p)
 next (StatementEnd p) (Reserved words.Comment) = Some (CommentText p)
@@ -104,9 +104,9 @@ next (CommentEnd p) Semicolon = Some p
 next place symbol = None
 
 -- what is expected before the address of a message event
-abbrev pub address_what : Way → What
-address_what ways.Output = whats.To
-address_what ways.Input = whats.From
+abbrev pub address_what : Direction → What
+address_what directions.Output = whats.To
+address_what directions.Input = whats.From
 
 -- what an error at a place says was expected
 abbrev pub what : GrammarPlace → What
@@ -121,14 +121,14 @@ what (DeclKind st) = whats.End
 what (KindFirst st) = whats.Name
 what (KindSecond st) = whats.End
 what (DeclEnd st) = whats.End
-what (Message way p) = whats.Name
-what (AfterMessage way p) = address_what way
-what (Number way p) = whats.Name
-what (AfterNumber way p) = address_what way
-what (Parameters way p) = whats.Parameter
-what (Parameter way p) = whats.Name
-what (AfterParameter way p) = whats.Parameter
-what (AfterParameters way p) = address_what way
+what (Message direction p) = whats.Name
+what (AfterMessage direction p) = address_what direction
+what (Number direction p) = whats.Name
+what (AfterNumber direction p) = address_what direction
+what (Parameters direction p) = whats.Parameter
+what (Parameter direction p) = whats.Name
+what (AfterParameter direction p) = whats.Parameter
+what (AfterParameters direction p) = address_what direction
 what (Address p) = whats.Name
 what (ActionText p) = whats.Text
 what (StatementEnd p) = whats.End

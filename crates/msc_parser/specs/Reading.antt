@@ -1,5 +1,5 @@
--- What the functions answer that read a text's tokens. Each reads a part at a place, and answers the
--- part and the tokens behind it, or the first fault from that place on.
+-- What the functions answer that read a text's tokens. Each reads a part at a place, and answers
+-- the part and the tokens behind it, or the first fault from that place on.
 use Rattle.std.specs.Prelude.{◌≡◌, ◌≢◌, ℕ, ◌<◌, ◌≤◌, List, [], ◌∷◌, length, Option, Some, None, Result, Ok, Err}
 use Rattle.std.specs.Borrow.{Bor}
 use Rattle.msc_lexer.specs.declared.word.Word.{Word}
@@ -8,7 +8,7 @@ use Rattle.msc_lexer.specs.declared.token.Kind.{Kind}
 use Rattle.msc_lexer.specs.declared.token.Kind.TheVariants as kinds
 use Rattle.msc_lexer.specs.declared.token.Token.{Token}
 use Rattle.msc_lexer.specs.Lexemes.{Symbol, Reserved, Named, Quoted, Lexeme, lexemes, symbol_of, AreWithin}
-use Rattle.msc_parser.specs.declared.tree.Way.{Way}
+use Rattle.msc_parser.specs.declared.tree.Direction.{Direction}
 use Rattle.msc_parser.specs.declared.tree.Signal.{Signal}
 use Rattle.msc_parser.specs.declared.tree.Statement.{Statement}
 use Rattle.msc_parser.specs.declared.tree.Statement.TheVariants as statements
@@ -19,7 +19,7 @@ use Rattle.msc_parser.specs.declared.fault.What.TheVariants as whats
 use Rattle.msc_parser.specs.declared.fault.ParseFault.{ParseFault}
 use Rattle.msc_parser.specs.declared.fault.ParseFault.TheVariants.{Memory}
 use Rattle.msc_parser.specs.Forms.{IsToken, AreMany}
-use Rattle.msc_parser.specs.Grammar.{Tree, IsEnd, way_word, address_word, IsSignal, IsAction, IsChart}
+use Rattle.msc_parser.specs.Grammar.{Tree, IsEnd, direction_word, address_word, IsSignal, IsAction, IsChart}
 use Rattle.msc_parser.specs.Places.{GrammarPlace, Start, Message, ActionText, StatementEnd, Done, what, walk}
 use Rattle.msc_parser.specs.Parsing.{fault_at}
 
@@ -85,8 +85,8 @@ abbrev pub Ends : List ℕ → List Token → Result (Bor (List Token)) ParseFau
 Ends text before (Ok after) = DidEnd text before after.now
 Ends text before (Err e) = (p : GrammarPlace) → Stops text (StatementEnd p) before e
 
--- The part x was read at the place p, and q is the place behind it: what follows has the fault there
--- that the whole has at p.
+-- The part x was read at the place p, and q is the place behind it: what follows has the fault
+-- there that the whole has at p.
 pub record DidRead {X : Type 0} (text : List ℕ) (IsPart : List Lexeme → X → List Lexeme → Type 0) (p q : GrammarPlace) (before after : List Token) (x : X) : Type 0 where
   pub part : IsPart (lexemes text before) x (lexemes text after)
   pub within : AreWithin text after
@@ -110,30 +110,30 @@ Leaves kind (Ok x) = first_kind x.1.now ≢ Some kind
 Leaves kind (Err e) = Unit {0}
 
 -- the address of a message event of this way: a word, a name and an end
-pub record IsAddressOf (way : Way) (before : List Lexeme) (name : List ℕ) (after : List Lexeme) : Type 0 where
+pub record IsAddressOf (direction : Direction) (before : List Lexeme) (name : List ℕ) (after : List Lexeme) : Type 0 where
   pub address : List Lexeme
   pub close : List Lexeme
-  pub is_word : IsToken (Reserved (address_word way)) before address
+  pub is_word : IsToken (Reserved (address_word direction)) before address
   pub is_address : IsToken (Named name) address close
   pub is_end : IsEnd close after
 
 -- a message event of this way, behind its first word
-abbrev pub IsSignalOf : Way → List Lexeme → Signal → List Lexeme → Type 0
-IsSignalOf way before e after = (e.way ≡ way) × IsSignal before e after
+abbrev pub IsSignalOf : Direction → List Lexeme → Signal → List Lexeme → Type 0
+IsSignalOf direction before e after = (e.direction ≡ direction) × IsSignal before e after
 
 -- the first word of an event that begins so
 abbrev pub opening_word : Opening → Word
-opening_word (openings.Message way) = way_word way
+opening_word (openings.Message direction) = direction_word direction
 opening_word openings.Action = words.Action
 
 -- the place behind that word, where the event ends at a place
 abbrev pub behind_opening : Opening → GrammarPlace → GrammarPlace
-behind_opening (openings.Message way) p = Message way p
+behind_opening (openings.Message direction) p = Message direction p
 behind_opening openings.Action p = ActionText p
 
 -- an event that begins so, behind its first word
 abbrev pub IsOpened : Opening → List Lexeme → Statement → List Lexeme → Type 0
-IsOpened (openings.Message way) before (statements.Message e) after = IsSignalOf way before e after
+IsOpened (openings.Message direction) before (statements.Message e) after = IsSignalOf direction before e after
 IsOpened openings.Action before (statements.Action label) after = IsAction before label after
 IsOpened opening before statement after = ⊥
 

@@ -20,8 +20,8 @@ use msc_lexer::laws::prints_pieces;
 use std::alloc::{AllocError, Global};
 use std::marker::Model;
 
-/// The tree of names and texts of actions of a chart's text. Notes and comments leave nothing in
-/// it.
+/// The tree of names and texts of actions of a chart's text. It contains neither notes nor
+/// comments.
 #[derive(Drop)]
 pub struct Draft {
     name: Name,
@@ -34,14 +34,15 @@ impl Model for Draft {
 
     ghost view = { λ d. record { name = d.name; header = d.header; sections = d.sections } };
 
-    // Each name is one that a text can have, and there are no more parts than a text has bytes.
+    // Each name is one that a text can have, and there are at most as many parts as a text has
+    // bytes.
     ghost invariant = { λ d.
         IsDraft (record { name = d.name; header = d.header; sections = d.sections }) };
 }
 
 impl Draft {
-    /// The draft of these parts, where they are such as a text can have. It takes no memory. What
-    /// reads another language than this crate's makes its drafts so.
+    /// The draft of these parts, which must be parts that a text can have. It takes no memory. A
+    /// reader of another language than this crate's makes its drafts in this way.
     pub fn new(name: Name, header: Listed<Decl>, sections: Listed<Section>) -> Self
         requires { IsDraft (record { name = name; header = header; sections = sections }) }
         ensures { result ≡ record { name = name; header = header; sections = sections } }
@@ -53,11 +54,11 @@ impl Draft {
         }
     }
 
-    /// What every draft keeps.
+    /// The facts that hold for every draft.
     fn known(&self)
         ensures { IsDraft self.now }
     {
-        // A look at a field makes known what every draft keeps.
+        // A look at a field makes the facts on every draft known.
         let _name = &self.name;
     }
 
@@ -91,13 +92,13 @@ impl Draft {
     }
 
     /// The canonical text: one line for each statement, words in small letters, no notes and no
-    /// comments. The texts of actions may have line ends of their own. The only error is want of
-    /// memory. The text can be longer than the text that was read, and longer than a text may be;
-    /// then it is written in full and isn't read again.
+    /// comments. The texts of actions may have line ends of their own. The only error is that
+    /// memory ran out. The text can be longer than the text that was read, and longer than a text
+    /// may be; then it is written in full and can't be read again.
     pub fn write(&self, alloc: Global) -> Result<Vec<u8>, AllocError>
         ensures text { IfOk result (λ v. v.items ≡ canonical self.now) }
 
-        // Where it is short enough, it is a text of this draft.
+        // If it is short enough, it is a text of this draft.
         ensures again { IfOk result (λ v. length v.items ≤ TEXT_LIMIT → HasDraft v.items self.now) }
     {
         prints_pieces();

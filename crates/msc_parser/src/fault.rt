@@ -9,7 +9,7 @@ use std::alloc::{AllocError, AllocFailed};
 use std::fmt;
 use thiserror::Error;
 
-/// What the grammar wanted at the place of an error.
+/// The part of the grammar that was expected at the place of an error.
 #[derive(Clone, Copy, Debug, PartialEq, Eq)]
 pub enum What {
     /// `msc`, at the start of the text.
@@ -30,14 +30,14 @@ pub enum What {
     To,
     /// `from`, before the address of an input.
     From,
-    /// A parameter, or what goes on with the list of parameters or ends it.
+    /// A parameter, or the mark that continues or ends the list of parameters.
     Parameter,
     /// Nothing but the end of the text.
     Nothing,
 }
 
 impl What {
-    /// What was expected, in words.
+    /// The expected part, in words.
     fn words(self) -> &'static str
         ensures { result.now ≡ expectation self }
     {
@@ -57,7 +57,7 @@ impl What {
     }
 }
 
-/// Shows what was expected in the words of a printed fault.
+/// Prints the expected part in the words of a printed fault.
 impl fmt::Display for What {
     ghost output = { λ w. Some (expectation w) };
 
@@ -66,18 +66,19 @@ impl fmt::Display for What {
     }
 }
 
-/// The first fault of a text. Each place is a byte place from 0, that of the first byte of the
-/// token that cannot stand there, or the length of the text where it ends too early.
-/// The messages are the words of the printed lines, without number and place.
+/// The first fault of a text. Each place is a byte place from 0: that of the first byte of the
+/// unexpected token, or the length of the text if it ends too early. The messages are the words of
+/// the printed lines, without number and place.
 #[derive(Clone, Copy, Debug, PartialEq, Eq, Error)]
 pub enum ParseFault {
-    /// The text has no tokens. Comes before all faults of the grammar.
+    /// The text has no tokens. This fault precedes all faults of the grammar.
     #[error("{0}")]
     Lex(LexFault),
-    /// A reserved word that this profile of Z.120 refuses stands where no chart goes on with it.
+    /// A reserved word that this profile of Z.120 refuses is at a place at which no chart continues
+    /// with it.
     #[error("{1} is not supported")]
     Unsupported(usize, Word),
-    /// Something else was expected here than what stands here.
+    /// This part was expected here instead of the token at this place.
     #[error("expected {1}")]
     Expected(usize, What),
     /// A growth of memory was refused.

@@ -1,6 +1,7 @@
 //! The names of instances: decls with their kinds, and the `inst` statements of a chart's head.
 //!
-//! Each function reads the front of a slice of tokens, and answers the rest of the slice with it.
+//! Each function reads the front of a slice of tokens, and returns the rest of the slice with its
+//! result.
 
 ghost use Rattle.msc_lexer.specs.Lexemes.{AreWithin};
 ghost use Rattle.msc_parser.specs.Grammar.{IsKind, IsDecl, AreDecls, IsHeader};
@@ -17,7 +18,7 @@ use listed::Listed;
 use msc_lexer::{Kind, Token, Word};
 use std::alloc::Global;
 
-/// The kind behind the name of an instance, if one stands there.
+/// The kind after the name of an instance, if there is one.
 fn kind<'a>(
     alloc: Global,
     text: &[u8],
@@ -56,7 +57,7 @@ pub fn decl<'a>(
     Ok((Decl { name, kind }, rest))
 }
 
-/// An `inst` statement behind its first word.
+/// An `inst` statement after its first word.
 fn inst<'a>(
     alloc: Global,
     text: &[u8],
@@ -77,7 +78,7 @@ fn inst<'a>(
     Ok((Listed::from_vec(decls), rest))
 }
 
-/// All `inst` statements, up to what is none.
+/// All `inst` statements, up to the first other statement.
 pub fn header<'a>(
     alloc: Global,
     text: &[u8],

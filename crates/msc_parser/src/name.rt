@@ -1,4 +1,4 @@
-//! Names, which are short: most take no memory beside what holds them.
+//! Names, which are short: most take no memory besides what holds them.
 
 ghost use Rattle.std.specs.Prelude.{◌≡◌, IfOk};
 
@@ -25,7 +25,7 @@ impl Model for Name {
 }
 
 impl Name {
-    /// The name of these bytes. The only error is want of memory.
+    /// The name of these bytes. The only error is that memory ran out.
     pub fn from_slice(alloc: Global, bytes: &[u8]) -> Result<Name, AllocError>
         ensures { IfOk result (λ name. name ≡ bytes.now) }
     {

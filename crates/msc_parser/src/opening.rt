@@ -1,6 +1,7 @@
-//! Events: those of messages, and actions, told apart by their first words.
+//! Events: those of messages, and actions, distinguished by their first words.
 //!
-//! Each function reads the front of a slice of tokens, and answers the rest of the slice with it.
+//! Each function reads the front of a slice of tokens, and returns the rest of the slice with its
+//! result.
 
 ghost use Rattle.std.specs.Prelude.{◌≡◌, ◌≢◌, Some, IfSome, IfNone};
 ghost use Rattle.msc_lexer.specs.Lexemes.{AreWithin};
@@ -12,20 +13,20 @@ ghost use Rattle.msc_parser.specs.Reading.{IsOpened};
 use crate::fault::ParseFault;
 use crate::signalling::signal;
 use crate::taking::{stands, take_end, take_text};
-use crate::tree::{Label, Statement, Way};
+use crate::tree::{Direction, Label, Statement};
 use msc_lexer::{Kind, Token, Word};
 use std::alloc::Global;
 
-/// How an event begins.
+/// The beginning of an event.
 #[derive(Clone, Copy)]
 pub enum Opening {
     /// With `out` or `in`.
-    Message(Way),
+    Message(Direction),
     /// With `action`.
     Action,
 }
 
-/// How the event begins that stands here, if one does.
+/// The beginning of the event at the front, if there is one.
 pub fn first_opening(tokens: &[Token]) -> Option<Opening>
     ensures some { IfSome result (λ o.
         first_kind tokens.now ≡ Some (Kind.Word (opening_word o))) }
@@ -33,9 +34,9 @@ pub fn first_opening(tokens: &[Token]) -> Option<Opening>
         ((o : Opening) → first_kind tokens.now ≢ Some (Kind.Word (opening_word o))) }
 {
     if stands(Kind::Word(Word::Output), tokens) {
-        Some(Opening::Message(Way::Output))
+        Some(Opening::Message(Direction::Output))
     } else if stands(Kind::Word(Word::Input), tokens) {
-        Some(Opening::Message(Way::Input))
+        Some(Opening::Message(Direction::Input))
     } else if stands(Kind::Word(Word::Action), tokens) {
         Some(Opening::Action)
     } else {
@@ -43,7 +44,7 @@ pub fn first_opening(tokens: &[Token]) -> Option<Opening>
     }
 }
 
-/// An action behind its first word.
+/// An action after its first word.
 fn action<'a>(
     alloc: Global,
     text: &[u8],
@@ -57,7 +58,7 @@ fn action<'a>(
     Ok((label, rest))
 }
 
-/// An event that begins so, behind its first word.
+/// An event with this beginning, after its first word.
 pub fn opened<'a>(
     alloc: Global,
     opening: Opening,
@@ -69,8 +70,8 @@ pub fn opened<'a>(
         Reads text.now (IsOpened opening) (behind_opening opening p) p tokens.now result }
 {
     match opening {
-        Opening::Message(way) => {
-            let (signal, rest) = signal(alloc, way, text, tokens)?;
+        Opening::Message(direction) => {
+            let (signal, rest) = signal(alloc, direction, text, tokens)?;
             Ok((Statement::Message(signal), rest))
         }
         Opening::Action => {

@@ -50,16 +50,16 @@ fn whole(alloc: Global, text: &[u8]) -> Result<Draft, ParseFault>
 
 /// The draft of a text, or its first fault.
 ///
-/// The whole text is read into tokens first, so `Lex` is answered before a fault of the grammar.
-/// Otherwise the first token that no chart goes on with decides: `Unsupported` where it is a word
-/// that this profile of Z.120 refuses, and `Expected` everywhere else. `Memory` is answered where a
-/// growth of memory was refused.
+/// The whole text is read into tokens first, so `Lex` precedes every fault of the grammar.
+/// Otherwise the first token with which no chart continues decides: `Unsupported` if it is a word
+/// that this profile of Z.120 refuses, and `Expected` otherwise. `Memory` is returned if a growth
+/// of memory was refused.
 pub fn parse(alloc: Global, text: &[u8]) -> Result<Draft, ParseFault>
-    // What is answered stands in the text.
+    // The text has the returned draft, or the returned fault.
     ensures accepted { IfOk result (HasDraft text.now) }
     ensures fault { IfErr result (λ e. e ≢ ParseFault.Memory → HasParseFault text.now e) }
 
-    // What stands in the text is answered, unless memory runs out.
+    // The text's draft or its fault is returned, unless memory runs out.
     ensures only_accepted { (t : Tree) → HasDraft text.now t → IsDraftOrMemory t result }
     ensures only_fault { (f : ParseFault) → HasParseFault text.now f → IsFaultOrMemory f result }
 {

@@ -1,6 +1,7 @@
 //! The sections of a chart: events and coregions (Z.120), instance by instance.
 //!
-//! Each function reads the front of a slice of tokens, and answers the rest of the slice with it.
+//! Each function reads the front of a slice of tokens, and returns the rest of the slice with its
+//! result.
 
 ghost use Rattle.std.specs.Prelude.{◌≡◌, ◌≢◌, ◌≤◌, [], Some, length};
 ghost use Rattle.msc_lexer.specs.Lexemes.{AreWithin, Reserved};
@@ -55,7 +56,7 @@ fn events<'a>(
     Ok((Listed::from_vec(events), &rest[1..]))
 }
 
-/// A coregion behind its first word.
+/// A coregion after its first word.
 fn coregion<'a>(
     alloc: Global,
     text: &[u8],
@@ -92,8 +93,8 @@ fn item<'a>(
     Ok((Item::Single(event), rest))
 }
 
-/// How many statements end before the next `endinstance`, which are no fewer than the items of the
-/// section that these tokens begin with.
+/// The number of statement ends before the next `endinstance`, which is at least the number of
+/// items of the section with which these tokens begin.
 fn statement_ends(tokens: &[Token]) -> usize
     ensures { result ≤ length tokens.now }
 {
@@ -108,7 +109,7 @@ fn statement_ends(tokens: &[Token]) -> usize
     ends
 }
 
-/// An empty list with room for so many items. Where that room is refused, it is a list that grows.
+/// An empty list with room for `count` items. If that room is refused, it is a list that grows.
 fn room_for(alloc: Global, count: usize) -> Vec<Item>
     ensures { result.items ≡ [] }
 {
@@ -139,7 +140,7 @@ fn items<'a>(
     Ok((Listed::from_vec(items), &rest[1..]))
 }
 
-/// A section behind its first word.
+/// A section after its first word.
 fn section<'a>(
     alloc: Global,
     text: &[u8],

@@ -1,10 +1,11 @@
 //! Message events: a message's name, its message instance name and its parameters, and the address.
 //!
-//! Each function reads the front of a slice of tokens, and answers the rest of the slice with it.
+//! Each function reads the front of a slice of tokens, and returns the rest of the slice with its
+//! result.
 
 ghost use Rattle.std.specs.Prelude.{◌≡◌, ◌≢◌, Some};
 ghost use Rattle.msc_lexer.specs.Lexemes.{AreWithin};
-ghost use Rattle.msc_parser.specs.declared.tree.Way.{Way};
+ghost use Rattle.msc_parser.specs.declared.tree.Direction.{Direction};
 ghost use Rattle.msc_parser.specs.Forms.{IsNamed, AreListed};
 ghost use Rattle.msc_parser.specs.Grammar.{address_word, IsNumber, AreParameters};
 ghost use Rattle.msc_parser.specs.Places.{AfterMessage, AfterNumber, GrammarPlace, Message};
@@ -15,39 +16,39 @@ ghost use Rattle.msc_parser.specs.Reading.{first_kind, Reads, Leaves, IsAddressO
 use crate::fault::{ParseFault, What};
 use crate::name::Name;
 use crate::taking::{stands, take, take_end, take_name};
-use crate::tree::{Signal, Way};
+use crate::tree::{Direction, Signal};
 use listed::Listed;
 use msc_lexer::{Kind, Token, Word};
 use std::alloc::Global;
 
 /// The word before the address of a message event.
-pub fn address_word(way: Way) -> Word
-    ensures { result ≡ address_word way }
+pub fn address_word(direction: Direction) -> Word
+    ensures { result ≡ address_word direction }
 {
-    match way {
-        Way::Output => Word::To,
-        Way::Input => Word::From,
+    match direction {
+        Direction::Output => Word::To,
+        Direction::Input => Word::From,
     }
 }
 
-/// What is expected before the address of a message event.
-fn address_what(way: Way) -> What
-    ensures { result ≡ address_what way }
+/// The part that is expected before the address of a message event.
+fn address_what(direction: Direction) -> What
+    ensures { result ≡ address_what direction }
 {
-    match way {
-        Way::Output => What::To,
-        Way::Input => What::From,
+    match direction {
+        Direction::Output => What::To,
+        Direction::Input => What::From,
     }
 }
 
-/// The message instance name behind a message's name, if one stands there.
+/// The message instance name after a message's name, if there is one.
 fn number<'a>(
     alloc: Global,
     text: &[u8],
     tokens: &'a [Token],
 ) -> Result<(Option<Name>, &'a [Token]), ParseFault>
     requires { AreWithin text.now tokens.now }
-    ensures { (w : Way) (p : GrammarPlace) →
+    ensures { (w : Direction) (p : GrammarPlace) →
         Reads text.now IsNumber (AfterMessage w p) (AfterNumber w p) tokens.now result }
 {
     if !stands(Kind::Comma, tokens) {
@@ -57,7 +58,7 @@ fn number<'a>(
     Ok((Some(number), rest))
 }
 
-/// Names with commas between them, behind `(`.
+/// Names with commas between them, after `(`.
 fn names<'a>(
     alloc: Global,
     text: &[u8],
@@ -65,7 +66,7 @@ fn names<'a>(
 ) -> Result<(Listed<Name>, &'a [Token]), ParseFault>
     requires within { AreWithin text.now tokens.now }
     requires some { first_kind tokens.now ≢ Some Kind.RightParen }
-    ensures reads { (w : Way) (p : GrammarPlace) →
+    ensures reads { (w : Direction) (p : GrammarPlace) →
         Reads text.now (AreListed IsNamed) (Parameters w p) (AfterParameter w p) tokens.now result }
     ensures stopped { Leaves Kind.Comma result }
 {
@@ -80,14 +81,14 @@ fn names<'a>(
     Ok((Listed::from_vec(names), rest))
 }
 
-/// The parameters of a message, in parentheses, if any stand there.
+/// The parameters of a message, in parentheses, if there are any.
 fn parameters<'a>(
     alloc: Global,
     text: &[u8],
     tokens: &'a [Token],
 ) -> Result<(Listed<Name>, &'a [Token]), ParseFault>
     requires { AreWithin text.now tokens.now }
-    ensures { (w : Way) (p : GrammarPlace) →
+    ensures { (w : Direction) (p : GrammarPlace) →
         Reads text.now AreParameters (AfterNumber w p) (AfterParameters w p) tokens.now result }
 {
     if !stands(Kind::LeftParen, tokens) {
@@ -102,20 +103,21 @@ fn parameters<'a>(
     Ok((names, rest))
 }
 
-/// The address of a message event of this way, from the word before it to the end of the statement.
+/// The address of a message event of this direction, from the word before it to the end of the
+/// statement.
 fn address<'a>(
     alloc: Global,
-    way: Way,
+    direction: Direction,
     text: &[u8],
     tokens: &'a [Token],
 ) -> Result<(Name, &'a [Token]), ParseFault>
     requires { AreWithin text.now tokens.now }
     ensures { (p : GrammarPlace) →
-        Reads text.now (IsAddressOf way) (AfterParameters way p) p tokens.now result }
+        Reads text.now (IsAddressOf direction) (AfterParameters direction p) p tokens.now result }
 {
     let rest = take(
-        Kind::Word(address_word(way)),
-        address_what(way),
+        Kind::Word(address_word(direction)),
+        address_what(direction),
         text,
         tokens,
     )?;
@@ -124,23 +126,23 @@ fn address<'a>(
     Ok((address, rest))
 }
 
-/// A message event of this way, behind its first word.
+/// A message event of this direction, after its first word.
 pub fn signal<'a>(
     alloc: Global,
-    way: Way,
+    direction: Direction,
     text: &[u8],
     tokens: &'a [Token],
 ) -> Result<(Signal, &'a [Token]), ParseFault>
     requires { AreWithin text.now tokens.now }
     ensures { (p : GrammarPlace) →
-        Reads text.now (IsSignalOf way) (Message way p) p tokens.now result }
+        Reads text.now (IsSignalOf direction) (Message direction p) p tokens.now result }
 {
     let (name, rest) = take_name(alloc, What::Name, text, tokens)?;
     let (number, rest) = number(alloc, text, rest)?;
     let (parameters, rest) = parameters(alloc, text, rest)?;
-    let (address, rest) = address(alloc, way, text, rest)?;
+    let (address, rest) = address(alloc, direction, text, rest)?;
     let signal = Signal {
-        way,
+        direction,
         name,
         number,
         parameters,

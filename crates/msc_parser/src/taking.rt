@@ -1,6 +1,7 @@
 //! One token at a time, and the end of a statement.
 //!
-//! Each function reads the front of a slice of tokens, and answers the rest of the slice with it.
+//! Each function reads the front of a slice of tokens, and returns the rest of the slice with its
+//! result.
 
 ghost use Rattle.std.specs.Prelude.{◌≡◌, ◌↔◌, IsTrue, length, Some};
 ghost use Rattle.msc_lexer.specs.Lexemes.{lexemes, AreWithin};
@@ -29,7 +30,7 @@ fn is_refused(word: Word) -> bool
     }
 }
 
-/// The fault where `what` was expected and these tokens stand.
+/// The fault if `what` was expected at these tokens.
 pub fn unexpected(text: &[u8], tokens: &[Token], what: What) -> ParseFault
     ensures { result ≡ fault_at (length text.now) what (lexemes text.now tokens.now) }
 {
@@ -45,7 +46,7 @@ pub fn unexpected(text: &[u8], tokens: &[Token], what: What) -> ParseFault
     }
 }
 
-/// Whether a token of this kind stands first.
+/// Whether the first token is of this kind.
 pub fn stands(kind: Kind, tokens: &[Token]) -> bool
     ensures { IsTrue result ↔ (first_kind tokens.now ≡ Some kind) }
 {
@@ -55,7 +56,7 @@ pub fn stands(kind: Kind, tokens: &[Token]) -> bool
     }
 }
 
-/// Takes a token of this kind. `what` is told where none stands.
+/// Takes a token of this kind. Otherwise the fault has `what` as the expected part.
 pub fn take<'a>(
     kind: Kind,
     what: What,
@@ -72,7 +73,7 @@ pub fn take<'a>(
     }
 }
 
-/// Takes a name, with its bytes. `what` is told where none stands.
+/// Takes a name, with its bytes. Otherwise the fault has `what` as the expected part.
 pub fn take_name<'a>(
     alloc: Global,
     what: What,
@@ -90,7 +91,7 @@ pub fn take_name<'a>(
     Ok((name, &tokens[1..]))
 }
 
-/// Takes a text, with what it holds.
+/// Takes a text, with the bytes that it holds.
 pub fn take_text<'a>(
     alloc: Global,
     text: &[u8],
@@ -106,7 +107,7 @@ pub fn take_text<'a>(
     Ok((Label::from_vec(bytes), &tokens[1..]))
 }
 
-/// Takes the end of a statement: `;`, or a comment and `;`. Nothing is kept of the comment.
+/// Takes the end of a statement: `;`, or a comment and `;`. The comment is not kept.
 pub fn take_end<'a>(text: &[u8], tokens: &'a [Token]) -> Result<&'a [Token], ParseFault>
     requires { AreWithin text.now tokens.now }
     ensures { Ends text.now tokens.now result }

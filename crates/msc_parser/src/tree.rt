@@ -1,27 +1,26 @@
-//! The parts of a draft: names and texts of actions, and what a chart's text says of them.
+//! The parts of a draft: names and texts of actions, and the statements of a chart's text.
 //!
-//! A name is the list of its bytes as they stand in the text, since capital and small letters
-//! count. Contracts see each part as the record or the variant that it is, with lists for its
-//! lists.
+//! A name is the list of its bytes as they are in the text, since capital and small letters count.
+//! Contracts see each part as the record or the variant that it is, with lists for its lists.
 
 use crate::name::Name;
 use listed::Listed;
 
-/// The text of an action: any bytes, none included. Each doubled apostrophe of the chart's text is
+/// The text of an action: any bytes, or none. A doubled apostrophe of the chart's text is a single
 /// one here.
 pub type Label = Listed<u8>;
 
 /// Whether a message event is an output (`out`) or an input (`in`) of its message.
 #[derive(Clone, Copy, Debug, PartialEq, Eq)]
-pub enum Way {
+pub enum Direction {
     /// The message is sent.
     Output,
     /// The message is received.
     Input,
 }
 
-/// The name of an instance with its kind, the names that say of what kind the instance is (Z.120).
-/// `kind` has no name where the text gives no kind, and otherwise one name or two.
+/// The name of an instance with its kind, the names that give the kind of the instance (Z.120).
+/// `kind` has no name if the text gives no kind, and otherwise one name or two.
 #[derive(Drop)]
 pub struct Decl {
     pub name: Name,
@@ -34,7 +33,7 @@ pub struct Decl {
 /// `parameters` the names between the parentheses.
 #[derive(Drop)]
 pub struct Signal {
-    pub way: Way,
+    pub direction: Direction,
     pub name: Name,
     pub number: Option<Name>,
     pub parameters: Listed<Name>,
@@ -46,7 +45,7 @@ pub struct Signal {
 pub enum Statement {
     /// An output or an input of a message.
     Message(Signal),
-    /// An action (Z.120): something that the instance does by itself, told by a text.
+    /// An action (Z.120): something that the instance does by itself, described by a text.
     Action(Label),
 }
 

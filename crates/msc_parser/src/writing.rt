@@ -3,7 +3,7 @@
 ghost use Rattle.std.specs.Prelude.{◌≡◌, ◌++◌, OnOk, IfOk};
 ghost use Rattle.std.specs.List.{flat_map};
 ghost use Rattle.msc_lexer.specs.Pieces.{doubled, text_of};
-ghost use Rattle.msc_parser.specs.Grammar.{way_word};
+ghost use Rattle.msc_parser.specs.Grammar.{direction_word};
 ghost use Rattle.msc_parser.specs.Canonical.{second_pieces, kind_pieces, decl_pieces};
 ghost use Rattle.msc_parser.specs.Canonical.{next_decl_pieces, header_pieces, next_name_pieces};
 ghost use Rattle.msc_parser.specs.Canonical.{number_pieces, parameter_pieces, ident_pieces};
@@ -15,17 +15,17 @@ ghost use Rattle.msc_parser.specs.Canonical.{canonical};
 use crate::draft::Draft;
 use crate::name::Name;
 use crate::signalling::address_word;
-use crate::tree::{Decl, Item, Section, Signal, Statement, Way};
+use crate::tree::{Decl, Direction, Item, Section, Signal, Statement};
 use msc_lexer::Word;
 use std::alloc::{AllocError, Global};
 
 /// The first word of a message event.
-fn way_word(way: Way) -> Word
-    ensures { result ≡ way_word way }
+fn direction_word(direction: Direction) -> Word
+    ensures { result ≡ direction_word direction }
 {
-    match way {
-        Way::Output => Word::Output,
-        Way::Input => Word::Input,
+    match direction {
+        Direction::Output => Word::Output,
+        Direction::Input => Word::Input,
     }
 }
 
@@ -145,7 +145,7 @@ fn put_address(out: &mut Vec<u8>, e: &Signal) -> Result<(), AllocError>
     ensures { OnOk result (out.new.items ≡ out.old.items ++ text_of (address_pieces e.now)) }
 {
     out.push(b' ')?;
-    out.extend_from_slice(address_word(e.way).spelling())?;
+    out.extend_from_slice(address_word(e.direction).spelling())?;
     out.push(b' ')?;
     out.extend_from_slice(e.address.as_slice())?;
     out.extend_from_slice(b";\n")?;
@@ -156,7 +156,7 @@ fn put_address(out: &mut Vec<u8>, e: &Signal) -> Result<(), AllocError>
 fn put_signal(out: &mut Vec<u8>, e: &Signal) -> Result<(), AllocError>
     ensures { OnOk result (out.new.items ≡ out.old.items ++ text_of (signal_pieces e.now)) }
 {
-    out.extend_from_slice(way_word(e.way).spelling())?;
+    out.extend_from_slice(direction_word(e.direction).spelling())?;
     out.push(b' ')?;
     put_ident(out, e)?;
     put_address(out, e)

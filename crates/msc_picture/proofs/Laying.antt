@@ -15,7 +15,7 @@ use Rattle.msc_picture.specs.Courses.{event_at, IsCourse, ShareLevel}
 use Rattle.msc_picture.specs.Frames.{Frame, level, chart_frame}
 use Rattle.msc_picture.specs.RunFrames.{place_of, run_frame}
 use Rattle.msc_picture.proofs.Events.{output_quiet}
-use Rattle.msc_picture.proofs.Ranges.{drop_next}
+use Rattle.msc_chart.proofs.EndLemmas.{drop-at as drop_next}
 use Rattle.msc_picture.proofs.RunWitness.{place_here}
 
 -- a course of a frame, and of what the code holds of it

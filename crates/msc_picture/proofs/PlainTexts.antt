@@ -17,7 +17,7 @@ use Rattle.msc_picture.specs.Columns.{column, columns_of, no_head, short_text}
 use Rattle.msc_picture.specs.Pieces.{act_piece, arrow_piece, dashed, dashes_between, drawn_by, ends_of, input_piece, message_piece, output_piece, row_piece, spot_piece}
 use Rattle.msc_picture.specs.Plain.{HasPlainTexts, IsPlainAct, is_plain}
 use Rattle.msc_picture.specs.Rows.{row_passes}
-use Rattle.msc_picture.specs.Texts.{ground, head_line, in_band, is_marked, line_at, numbers_text, over, picture_text, row_line, row_lines, second_number, with_axis, with_band, with_byte, with_mark, with_name}
+use Rattle.msc_picture.specs.Texts.{ground, head_line, in_band, is_marked, line_at, numbers_text, over, picture_text, row_line, row_lines, second_number, with_axis, with_band, with_byte, with_bar, with_name}
 use Rattle.msc_picture.proofs.PlainBytes.{looks_plain, plain_at, plain_by, plain_choice, plain_decimal, plain_flat, plain_fold, plain_fold_range, plain_join, plain_replicate, plain_set, plain_take}
 
 -- an action's text, cut
@@ -123,10 +123,10 @@ module _ (s : Scene) (c : Columns) (texts : HasPlainTexts s) where
   plain_row : (r : ℕ) (row : Row) → is_plain (row_line s c r row) ≡ true
   plain_row r row =
       plain_join _ (numbers_text row)
-      (plain_fold (with_mark c row) (over (row_piece s c row) (ground s c r)) s.marks
+      (plain_fold (with_bar c row) (over (row_piece s c row) (ground s c r)) s.bars
       (plain_over (row_piece s c row) (ground s c r) (plain_piece row) (plain_ground r))
-      (λ l mark p. plain_choice (row_passes (is_marked mark) row)
-      (slice_set l (column c mark.instance) 42) l (plain_set l (column c mark.instance) 42 p refl) p))
+      (λ l bar p. plain_choice (row_passes (is_marked bar) row)
+      (slice_set l (column c bar.instance) 42) l (plain_set l (column c bar.instance) 42 p refl) p))
       (plain_join _ (codes "\n") (plain_join _ (second_number row.second)
       (plain_join (codes "  ") (decimal row.first) (plain_by (codes "  ") refl)
       (plain_decimal row.first)) (plain_second row.second)) (plain_by (codes "\n") refl))

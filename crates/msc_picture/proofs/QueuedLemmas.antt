@@ -10,7 +10,7 @@ use Rattle.msc_chart.specs.Lists.{occurs}
 use Rattle.msc_chart.specs.Orders.{WiredChart, queue}
 use Rattle.msc_chart.proofs.ListLemmas.{by_test, clash, occurs-push, occurs_other}
 use Rattle.msc_picture.specs.RunFrames.{place_of, are_queued, queued_from, queued_before}
-use Rattle.msc_picture.proofs.Ranges.{drop_next}
+use Rattle.msc_chart.proofs.EndLemmas.{drop-at as drop_next}
 
 -- a list by its items
 listed_by : {X : Type 0} (g : ℕ → X) (d : X) (xs : List X) (n : ℕ) → length xs ≡ n

@@ -6,6 +6,7 @@ use Rattle.std.proofs.lemmas.List.FromFn.{map-range_with_len_more}
 use Rattle.std.proofs.lemmas.Grind.{flat_map-append}
 use Rattle.std.proofs.lemmas.List.Elements.{filter-append}
 use Rattle.std.proofs.lemmas.List.{get_or_default}
+use Rattle.msc_chart.proofs.EndLemmas.{drop-at as drop_next}
 
 -- a range with its last number apart
 range_last : (a n j : ℕ) → a + n ≡ j → range_with_len a (suc n) ≡ range_with_len a n ++ j ∷ []
@@ -74,15 +75,6 @@ filter_next p n now next so_far more =
     more ∙ ap (λ (l : List ℕ). l ++ cond (p n) (n ∷ []) []) so_far
     ∙ sym (filter-append p (range_with_len 0 n) (n ∷ []))
     ∙ ap (filter p) (sym (range_more 0 n n (omega arith)))
-
--- what is left from an item on
-pub drop_next : {X : Type 0} (xs : List X) (k : ℕ) (x : X) → k < length xs → x ≡ get_or xs k x
-    → drop k xs ≡ x ∷ drop (k + 1) xs
-drop_next [] k x below is = absurd (omega arith)
-drop_next {X} (y ∷ ys) zero x below is = ap (λ (z : X). z ∷ ys) (sym is)
-drop_next {X} (y ∷ ys) (suc k) x below is =
-    let on : suc k + 1 ≡ suc (k + 1) = omega arith in
-    drop_next ys k x (omega arith) is ∙ ap (λ (n : ℕ). x ∷ drop n (y ∷ ys)) (sym on)
 
 -- the same, with another default
 pub drop_at : {X : Type 0} (xs : List X) (k : ℕ) (d : X) → k < length xs

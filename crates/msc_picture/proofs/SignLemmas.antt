@@ -1,4 +1,5 @@
--- Signs on the axes of a row are the same whether marks or bands put them one by one or what stands in the row does.
+-- Signs on the axes of a row are the same whether bars or bands put them one by one or what stands
+-- in the row does.
 use Rattle.std.proofs.Common.{◌≡◌, ℕ, ◌<◌, Bool, true, false, cond, ◌&&◌, ◌||◌, List, [], ◌∷◌, ◌++◌, length, get_or, map, filter, fold, nat_eq, Option, None, Some, inl, inr, refl, sym, ap, subst, ◌∙◌, Vec, Global}
 use Rattle.std.specs.Prelude.{slice_set}
 use Rattle.std.specs.List.{list_any}
@@ -10,12 +11,12 @@ use Rattle.std.proofs.lemmas.List.Folds.{list_any-append, list_any_none}
 use Rattle.std.proofs.lemmas.List.Sums.{fold-append}
 use Rattle.msc_chart.proofs.ListLemmas.{by_test, clash}
 use Rattle.msc_picture.specs.declared.columns.Columns.{Columns}
-use Rattle.msc_picture.specs.declared.scene.Mark.{Mark}
+use Rattle.msc_picture.specs.declared.scene.RaceBar.{RaceBar}
 use Rattle.msc_picture.specs.declared.scene.Row.{Row}
 use Rattle.msc_picture.specs.Columns.{column}
-use Rattle.msc_picture.specs.Signs.{instances_at, is_named, second_at, with_sign, AreMarksIn}
+use Rattle.msc_picture.specs.Signs.{instances_at, is_named, second_at, with_sign, AreBarsIn}
 use Rattle.msc_picture.specs.Rows.{row_passes, second_passes}
-use Rattle.msc_picture.specs.Texts.{is_marked, with_mark}
+use Rattle.msc_picture.specs.Texts.{is_marked, with_bar}
 
 -- what is listed and passes is one that passes
 listed_passes : (p : ℕ → Bool) (x : ℕ) (ys : List ℕ) → list_any (nat_eq x) ys ≡ true → p x ≡ true
@@ -165,30 +166,30 @@ module _ (c : Columns) (sign : ℕ) where
       ∙ sym (items_put p f line xs)
 
 -- what stands at the place of a second event
-second_has : (marks : List Mark) (signs : List (Vec ℕ Global)) (second : Option ℕ) (i : ℕ)
-    → AreMarksIn marks signs
+second_has : (bars : List RaceBar) (signs : List (Vec ℕ Global)) (second : Option ℕ) (i : ℕ)
+    → AreBarsIn bars signs
     → list_any (nat_eq i) (second_at signs second)
-    ≡ list_any (λ m. second_passes (is_marked m) second && nat_eq i m.instance) marks
-second_has marks signs None i of =
-    sym (list_any_none (λ m. second_passes (is_marked m) None && nat_eq i m.instance) marks
+    ≡ list_any (λ m. second_passes (is_marked m) second && nat_eq i m.instance) bars
+second_has bars signs None i of =
+    sym (list_any_none (λ m. second_passes (is_marked m) None && nat_eq i m.instance) bars
     (λ k d below. refl))
-second_has marks signs (Some e) i of = of e i
+second_has bars signs (Some e) i of = of e i
 
--- the stars of a row's events are those of its marks
-pub row_stars : (c : Columns) (row : Row) (line : List ℕ) (marks : List Mark)
-    (signs : List (Vec ℕ Global)) → AreMarksIn marks signs
+-- the stars of a row's events are those of its bars
+pub row_stars : (c : Columns) (row : Row) (line : List ℕ) (bars : List RaceBar)
+    (signs : List (Vec ℕ Global)) → AreBarsIn bars signs
     → fold (with_sign c 42) (fold (with_sign c 42) line (instances_at signs row.first))
     (second_at signs row.second)
-    ≡ fold (with_mark c row) line marks
-row_stars c row line marks signs of =
+    ≡ fold (with_bar c row) line bars
+row_stars c row line bars signs of =
     let first = instances_at signs row.first in
     let second = second_at signs row.second in
     sym (fold-append (with_sign c 42) line first second)
-    ∙ same_put c 42 (λ (m : Mark). row_passes (is_marked m) row) (λ m. m.instance) line
-    (first ++ second) marks
+    ∙ same_put c 42 (λ (m : RaceBar). row_passes (is_marked m) row) (λ m. m.instance) line
+    (first ++ second) bars
     (λ i.
     list_any-append (nat_eq i) first second
     ∙ ap (λ (b : Bool). b || list_any (nat_eq i) second) (of row.first i)
-    ∙ ap (λ (b : Bool). is_named marks row.first i || b) (second_has marks signs row.second i of)
-    ∙ any_of_both (λ (m : Mark). is_marked m row.first) (λ m. second_passes (is_marked m) row.second)
-    (λ m. nat_eq i m.instance) marks)
+    ∙ ap (λ (b : Bool). is_named bars row.first i || b) (second_has bars signs row.second i of)
+    ∙ any_of_both (λ (m : RaceBar). is_marked m row.first) (λ m. second_passes (is_marked m) row.second)
+    (λ m. nat_eq i m.instance) bars)

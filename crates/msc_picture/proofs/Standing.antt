@@ -1,8 +1,8 @@
 -- Items that stand in lists, and in lists that are made of ranges.
-use Rattle.std.proofs.Common.{◌≡◌, ℕ, zero, suc, ◌+◌, ◌<◌, ◌≤◌, ◌⊎◌, Bool, true, ◌||◌, List, [], ◌∷◌, ◌++◌, length, get_or, filter, Some, eqb, inl, inr, sym, ap, subst, ◌∙◌, arith}
+use Rattle.std.proofs.Common.{◌≡◌, ℕ, zero, suc, ◌+◌, ◌<◌, ◌≤◌, ◌⊎◌, Bool, true, List, [], ◌∷◌, ◌++◌, length, get_or, filter, Some, eqb, inl, inr, sym, ap, subst, ◌∙◌, arith}
 use Rattle.std.specs.Prelude.{slice_get}
 use Rattle.std.specs.List.{flat_map, list_any, range_with_len}
-use Rattle.std.proofs.lemmas.Bool.{or_left, or_right, or_cases, eqb-true, eq-eqb, cases_eq, false≢true}
+use Rattle.std.proofs.lemmas.Bool.{or_left, or_right, or_cases, eq-eqb, cases_eq, false≢true}
 use Rattle.msc_chart.specs.Lists.{occurs, Occurs}
 use Rattle.msc_chart.proofs.ListLemmas.{by_test}
 
@@ -54,18 +54,6 @@ kept p a (suc n) x low high h = elim (cases_eq a x) [
       (λ yes. rw yes (or_right (eqb a x) (occurs (filter p (range_with_len (a + 1) n)) x) on))
       (λ no. rw no on)
 ]
-
--- what is kept passes
-pub kept_passes : (p : ℕ → Bool) (xs : List ℕ) (x : ℕ) → occurs (filter p xs) x ≡ true → p x ≡ true
-unfolding occurs
-kept_passes p [] x h = absurd (false≢true h)
-kept_passes p (y ∷ ys) x h = by_test (p y)
-    (λ yes. let on : (eqb y x || occurs (filter p ys) x) ≡ true = rw yes at h in
-    elim (or_cases (eqb y x) (occurs (filter p ys) x) on) [
-      | inl same ↦ ap p (sym (eqb-true y x same)) ∙ yes
-      | inr later ↦ kept_passes p ys x later
-    ])
-    (λ no. kept_passes p ys x (rw no at h))
 
 -- some item passes
 pub any_there : {X : Type 0} (test : X → Bool) (xs : List X) (k : ℕ) (x : X) → slice_get xs k ≡ Some x

@@ -9,10 +9,10 @@ use Rattle.msc_chart.specs.Drawings.{Drawing, IsAccepted}
 use Rattle.msc_chart.specs.Orders.{wired}
 use Rattle.msc_chart.specs.Runs.{IsWhole, Run}
 use Rattle.msc_picture.specs.declared.scene.Band.{Band}
-use Rattle.msc_picture.specs.declared.scene.Mark.{Mark}
+use Rattle.msc_picture.specs.declared.scene.RaceBar.{RaceBar}
 use Rattle.msc_picture.specs.declared.scene.Row.{Row}
 use Rattle.msc_picture.specs.Frames.{IsDrawingOrder}
-use Rattle.msc_picture.specs.Marks.{AreDrawnPairs, end_of, ends_of, marks_of}
+use Rattle.msc_picture.specs.Bars.{AreDrawnPairs, bars_of}
 use Rattle.msc_picture.specs.RunFrames.{run_frame}
 use Rattle.msc_picture.specs.Rows.{answers_to, bands_of, begins_band, row_of_one, row_passes, rows_of, share_segment}
 
@@ -71,38 +71,38 @@ KeepsLinesOf events run order =
     (x y : ℕ) → x < length events → y < length events → line events x ≡ line events y
     → IsTrue (occurs (until run y) x) → IsTrue (occurs (until order y) x)
 
--- the picture of a whole run is a whole run too, in which the events of each line come as in the run
+-- the picture of a whole run is a whole run too, in which the events of each line come as in the
+-- run
 abbrev pub DrawnRunsAreRuns : Type 0
 DrawnRunsAreRuns =
     (queues : Queues) (d : Drawing) (run order : List ℕ) → IsAccepted d → Run (wired queues d) run
     → IsWhole (wired queues d) run → IsDrawingOrder (run_frame (wired queues d) run) order
     → Run (wired queues d) order × KeepsLinesOf d.events run order
 
--- a mark has the closest race at place k of a list, whose number is one more: the race leads from an
--- upper to a lower event of the mark, on its instance
-pub record MarksRace (events : List ChartEvent) (mark : Mark) (k e f : ℕ) : Type 0 where
-  pub instance : mark.instance ≡ line events e
-  pub upper : IsTrue (occurs mark.upper e)
-  pub lower : IsTrue (occurs mark.lower f)
-  pub from : mark.first ≤ k + 1
-  pub to : k + 1 ≤ mark.last
+-- a bar has the closest race at place k of a list, whose number is one more: the race leads from an
+-- upper to a lower event of the bar, on its instance
+pub record BarsRace (events : List ChartEvent) (bar : RaceBar) (k e f : ℕ) : Type 0 where
+  pub instance : bar.instance ≡ line events e
+  pub upper : IsTrue (occurs bar.upper e)
+  pub lower : IsTrue (occurs bar.lower f)
+  pub from : bar.first ≤ k + 1
+  pub to : k + 1 ≤ bar.last
 
--- each closest race has a mark
+-- each closest race has a bar
 abbrev pub EachClosestRaceIsMarked : Type 0
 EachClosestRaceIsMarked =
     (events : List ChartEvent) (closest : List (ℕ × ℕ)) (k e f : ℕ) → AreDrawnPairs events closest
     → StandsAt closest k (e, f)
-    → (mark : Mark) × Occurs (marks_of events closest) mark × MarksRace events mark k e f
+    → (bar : RaceBar) × Occurs (bars_of events closest) bar × BarsRace events bar k e f
 
--- x is the first, or the second, event of a pair
-abbrev pub IsEndOf : Bool → List (ℕ × ℕ) → ℕ → Type 0
-IsEndOf lower closest x = (k : ℕ) × (k < length closest) × (end_of lower (get_or closest k (0, 0)) ≡ x)
-
--- no other event is in a mark
-abbrev pub MarksHaveNoOther : Type 0
-MarksHaveNoOther =
-    (events : List ChartEvent) (closest : List (ℕ × ℕ)) (e x : ℕ) (lower : Bool)
-    → IsTrue (occurs (ends_of events closest e lower) x) → IsEndOf lower closest x
+-- no other event is in a bar: from each upper event leads, and to each lower one, a closest race
+-- that the bar has
+abbrev pub BarsHaveNoOther : Type 0
+BarsHaveNoOther =
+    (events : List ChartEvent) (closest : List (ℕ × ℕ)) (bar : RaceBar) (x : ℕ) → AreDrawnPairs events closest
+    → Occurs (bars_of events closest) bar
+    → (IsTrue (occurs bar.upper x) → (k : ℕ) × (f : ℕ) × StandsAt closest k (x, f) × BarsRace events bar k x f)
+    × (IsTrue (occurs bar.lower x) → (k : ℕ) × (e : ℕ) × StandsAt closest k (e, x) × BarsRace events bar k e x)
 
 -- an event of row r is in the segment of e
 abbrev pub HasOfSegment : List ChartEvent → List Row → ℕ → ℕ → Type 0
@@ -136,8 +136,8 @@ HasItsOtherEnd events rows e r x =
     (y : ℕ) × IsInRow rows r y × IsTrue (share_segment events e y)
     × (IsTrue (answers_to events x y) ⊎ IsTrue (answers_to events y x))
 
--- no other event of its line is in the rows of a band, but one whose message has its other end there, in
--- the same row
+-- no other event of its line is in the rows of a band, but one whose message has its other end
+-- there, in the same row
 abbrev pub BandsHaveNoOther : Type 0
 BandsHaveNoOther =
     (events : List ChartEvent) (order : List ℕ) (e r x : ℕ) (band : Band)

@@ -2,7 +2,7 @@
 pub mod Frames
 pub mod RunFrames
 pub mod Rows
-pub mod Marks
+pub mod Bars
 pub mod Scenes
 pub mod Columns
 pub mod Pieces

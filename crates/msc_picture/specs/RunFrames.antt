@@ -1,10 +1,10 @@
--- What a picture of a run keeps of it (this project's own): the order of each line, and for each queue
--- the order of its outputs.
+-- What a picture of a run keeps of it (this project's own): the order of each line, and for each
+-- queue the order of its outputs.
 use Rattle.std.specs.Prelude.{ℕ, ◌+◌, Bool, ◌&&◌, cond, List, [], ◌∷◌, Option, None, Some, length, map, nat_eq}
 use Rattle.std.specs.List.{range_with_len}
 use Rattle.msc_chart.specs.Charts.{line, is_output}
 use Rattle.msc_chart.specs.Orders.{WiredChart, queue}
-use Rattle.msc_picture.specs.declared.scene.Mark.{Mark}
+use Rattle.msc_picture.specs.declared.scene.RaceBar.{RaceBar}
 use Rattle.msc_picture.specs.Frames.{Frame}
 
 -- the place of an event in a list, or the length of the list
@@ -36,9 +36,9 @@ run_frame chart run = record {
   after = map (queued_before chart run) (range_with_len 0 (length chart.events));
 }
 
--- the mark of the race (e, f) that a run reverses: f is drawn above e
-abbrev pub run_mark : WiredChart → ℕ → ℕ → ℕ → Mark
-run_mark chart e f number = record {
+-- the bar of the race (e, f) that a run reverses: f is drawn above e
+abbrev pub run_bar : WiredChart → ℕ → ℕ → ℕ → RaceBar
+run_bar chart e f number = record {
   instance = line chart.events e;
   upper = f ∷ [];
   lower = e ∷ [];

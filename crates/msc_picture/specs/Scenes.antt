@@ -16,14 +16,14 @@ use Rattle.msc_picture.specs.declared.scene.Act.{Act}
 use Rattle.msc_picture.specs.declared.scene.Act.TheVariants.{Sends, Takes, Does}
 use Rattle.msc_picture.specs.declared.scene.Arrow.{Arrow}
 use Rattle.msc_picture.specs.declared.scene.Head.{Head}
-use Rattle.msc_picture.specs.declared.scene.Mark.{Mark}
+use Rattle.msc_picture.specs.declared.scene.RaceBar.{RaceBar}
 use Rattle.msc_picture.specs.declared.scene.Scene.{Scene}
 use Rattle.msc_picture.specs.declared.scene.Spot.{Spot}
 use Rattle.msc_picture.specs.Frames.{chart_frame, IsDrawingOrder}
 use Rattle.msc_picture.specs.Laws.{KeepsLinesOf}
-use Rattle.msc_picture.specs.RunFrames.{run_frame, run_mark}
+use Rattle.msc_picture.specs.RunFrames.{run_frame, run_bar}
 use Rattle.msc_picture.specs.Rows.{bands_of, rows_of}
-use Rattle.msc_picture.specs.Marks.{marks_of}
+use Rattle.msc_picture.specs.Bars.{bars_of}
 
 -- a further name of a kind
 abbrev pub next_name : List ℕ → List ℕ
@@ -57,8 +57,8 @@ arrow_of d m = record {
   label = message_text (message_at d m);
 }
 
--- what is shown of a byte of an action's text: what is no visible character of ASCII and no space is
--- a question mark
+-- what is shown of a byte of an action's text: what is no visible character of ASCII and no space
+-- is a question mark
 abbrev pub shown_byte : ℕ → ℕ
 shown_byte b = cond (nat_lt b 32 || nat_lt 126 b) 63 b
 
@@ -80,28 +80,26 @@ pub record IsPopulated (draft : Tree) (d : Drawing) (s : Scene) : Type 0 where
   pub arrows : s.arrows ≡ map (arrow_of d) (range_with_len 0 (length d.messages))
   pub spots : s.spots ≡ map (spot_of d) (range_with_len 0 (length d.events))
 
--- the rows, the bands and the marks of a chart, of which these races are closest
-pub record IsLaidOut (d : Drawing) (closest : List (ℕ × ℕ)) (s : Scene) : Type 0 where
+-- the rows, the bands and the given bars of a chart
+pub record IsLaidOut (d : Drawing) (given : List RaceBar) (s : Scene) : Type 0 where
   pub order : List ℕ
   pub drawn : IsDrawingOrder (chart_frame d.events) order
   pub linear : IsLinearOrder d.events order
   pub rows : s.rows ≡ rows_of d.events order
   pub bands : s.bands ≡ bands_of d.events s.rows
-  pub marks : s.marks ≡ marks_of d.events closest
+  pub bars : s.bars ≡ given
+
+-- the picture of the chart of a draft with these bars
+pub record IsMarkedSceneOf (draft : Tree) (d : Drawing) (given : List RaceBar) (s : Scene) : Type 0 where
+  pub shows : IsPopulated draft d s
+  pub laid_out : IsLaidOut d given s
 
 -- the picture of the chart of a draft, of which these races are closest
-pub record IsSceneOf (draft : Tree) (d : Drawing) (closest : List (ℕ × ℕ)) (s : Scene) : Type 0 where
-  pub shows : IsPopulated draft d s
-  pub laid_out : IsLaidOut d closest s
+abbrev pub IsSceneOf : Tree → Drawing → List (ℕ × ℕ) → Scene → Type 0
+IsSceneOf draft d closest s = IsMarkedSceneOf draft d (bars_of d.events closest) s
 
--- the picture of the chart of a draft with these marks: of whatever races they are the marks, it is
--- the picture with those as closest ones
-abbrev pub IsMarkedSceneOf : Tree → Drawing → List Mark → Scene → Type 0
-IsMarkedSceneOf draft d marks s =
-    (closest : List (ℕ × ℕ)) → marks ≡ marks_of d.events closest → IsSceneOf draft d closest s
-
--- the rows and the mark of a run of a chart under an architecture that reverses the race (e, f) of this
--- number; there are no bands
+-- the rows and the bar of a run of a chart under an architecture that reverses the race (e, f) of
+-- this number; there are no bands
 pub record IsRunLaidOut (chart : WiredChart) (run : List ℕ) (e f number : ℕ) (s : Scene) : Type 0 where
   pub order : List ℕ
   pub drawn : IsDrawingOrder (run_frame chart run) order
@@ -109,7 +107,7 @@ pub record IsRunLaidOut (chart : WiredChart) (run : List ℕ) (e f number : ℕ)
   pub lines : KeepsLinesOf chart.events run order
   pub rows : s.rows ≡ rows_of chart.events order
   pub bands : s.bands ≡ []
-  pub marks : s.marks ≡ run_mark chart e f number ∷ []
+  pub bars : s.bars ≡ run_bar chart e f number ∷ []
 
 -- the picture of such a run of the chart of a draft
 pub record IsRunSceneOf (draft : Tree) (w : Wiring) (run : List ℕ) (e f number : ℕ) (s : Scene)

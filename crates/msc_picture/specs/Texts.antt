@@ -5,7 +5,7 @@ use Rattle.std.specs.List.{flat_map, list_any, range_with_len}
 use Rattle.msc_picture.specs.declared.columns.Columns.{Columns}
 use Rattle.msc_picture.specs.declared.piece.Piece.{Piece}
 use Rattle.msc_picture.specs.declared.scene.Band.{Band}
-use Rattle.msc_picture.specs.declared.scene.Mark.{Mark}
+use Rattle.msc_picture.specs.declared.scene.RaceBar.{RaceBar}
 use Rattle.msc_picture.specs.declared.scene.Row.{Row}
 use Rattle.msc_picture.specs.declared.scene.Scene.{Scene}
 use Rattle.msc_picture.specs.Columns.{column, columns_of, no_head}
@@ -38,14 +38,14 @@ abbrev pub ground : Scene → Columns → ℕ → List ℕ
 ground s c r =
     fold (with_band c r) (fold with_axis (replicate c.width 32) c.columns) s.bands
 
--- e is an event of a mark
-abbrev pub is_marked : Mark → ℕ → Bool
-is_marked mark e = list_any (nat_eq e) mark.upper || list_any (nat_eq e) mark.lower
+-- e is an event of a bar
+abbrev pub is_marked : RaceBar → ℕ → Bool
+is_marked bar e = list_any (nat_eq e) bar.upper || list_any (nat_eq e) bar.lower
 
--- the line of a row with a mark over it
-abbrev pub with_mark : Columns → Row → List ℕ → Mark → List ℕ
-with_mark c row line mark =
-    cond (row_passes (is_marked mark) row) (slice_set line (column c mark.instance) 42) line
+-- the line of a row with a bar over it
+abbrev pub with_bar : Columns → Row → List ℕ → RaceBar → List ℕ
+with_bar c row line bar =
+    cond (row_passes (is_marked bar) row) (slice_set line (column c bar.instance) 42) line
 
 -- a second number of a row
 abbrev pub second_number : Option ℕ → List ℕ
@@ -59,7 +59,7 @@ numbers_text row = ((codes "  " ++ decimal row.first) ++ second_number row.secon
 -- the line of row r
 abbrev pub row_line : Scene → Columns → ℕ → Row → List ℕ
 row_line s c r row =
-    fold (with_mark c row) (over (row_piece s c row) (ground s c r)) s.marks ++ numbers_text row
+    fold (with_bar c row) (over (row_piece s c row) (ground s c r)) s.bars ++ numbers_text row
 
 -- the line of row r, if there is one
 abbrev pub line_at : Scene → Columns → ℕ → Option Row → List ℕ

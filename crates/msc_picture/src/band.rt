@@ -1,4 +1,4 @@
-//! Bands: where coregions reach from and to.
+//! Bands: the rows of coregions, from the first to the last.
 
 ghost use Rattle.std.specs.Prelude.{◌≡◌, ◌<◌, ◌++◌, [], IfOk, OnOk, cond, length};
 ghost use Rattle.msc_chart.specs.Charts.{line};
@@ -32,11 +32,11 @@ fn begins_band(chart: &Chart, e: Event) -> bool
     requires { e < length chart.now.events }
     ensures { result ≡ begins_band chart.now.events e }
 {
-    chart.accepted();
+    chart.facts();
     begins_segment(chart, e) && e + 1 < chart.events() && share_segment(chart, e, e + 1)
 }
 
-/// A range of places, with one more place.
+/// A range of places, extended to one more place.
 pub fn grow(reach: Option<(usize, usize)>, k: usize) -> (usize, usize)
     ensures { result ≡ grown reach k }
 {
@@ -46,8 +46,8 @@ pub fn grow(reach: Option<(usize, usize)>, k: usize) -> (usize, usize)
     }
 }
 
-/// Puts the band of the segment that event `e` begins behind the bands, where it has one: from the
-/// first to the last row that the segment reaches to.
+/// Appends the band of the segment that event `e` begins to the bands, if it has one: from the
+/// first to the last row of the segment.
 fn put_band(
     bands: &mut Vec<Band>,
     chart: &Chart,

@@ -1,4 +1,4 @@
-//! Where the columns of a picture in text stand.
+//! The places of the columns of a picture in text.
 
 ghost use Rattle.std.specs.Prelude.{◌≡◌, ◌<◌, ◌≤◌, ◌+◌, ◌-◌, IfOk, OnOk, fold, get_or, length, map};
 ghost use Rattle.std.specs.Prelude.{max, min, slice_set};
@@ -11,10 +11,10 @@ use crate::scene::{Act, Arrow, Scene, Spot};
 use listed::Listed;
 use std::alloc::{AllocError, Global};
 
-/// The most characters of an action's text that are shown.
+/// The greatest number of characters of an action's text that are shown.
 pub const SHOWN: usize = 40;
 
-/// The columns of the instances, and how many characters a line has.
+/// The columns of the instances, and the number of characters of a line.
 #[derive(Drop)]
 pub struct Columns {
     pub columns: Listed<usize>,
@@ -30,7 +30,7 @@ impl Columns {
     }
 }
 
-/// The sum of two lengths. A length past all numbers is past all memory too.
+/// The sum of two lengths. A length past all numbers is an error, as if memory ran out.
 pub fn plus(a: usize, b: usize) -> Result<usize, AllocError>
     ensures { IfOk result (λ sum. sum ≡ a + b) }
 {
@@ -47,7 +47,7 @@ fn gap_at(gaps: &[usize], k: usize) -> usize
     if k < gaps.len() { gaps[k] } else { 0 }
 }
 
-/// How many characters of an action's text are shown.
+/// The number of characters of an action's text that are shown.
 fn shown_length(text: &[u8]) -> usize
     ensures value { result ≡ length (short_text text.now) }
     ensures few { result ≤ SHOWN }
@@ -118,7 +118,7 @@ fn name_length(scene: &Scene, i: usize) -> usize
     }
 }
 
-/// The gap behind instance `i`, as far as names, actions and messages to oneself ask for it.
+/// The gap after instance `i` that names, actions and messages to oneself require.
 fn first_gap(scene: &Scene, i: usize) -> Result<usize, AllocError>
     requires { i < usize.MAX }
     ensures { IfOk result (λ gap. gap ≡ first_gap scene.now i) }
@@ -129,7 +129,7 @@ fn first_gap(scene: &Scene, i: usize) -> Result<usize, AllocError>
     Ok(least.max(own))
 }
 
-/// The first gaps of so many.
+/// The first `many` gaps.
 fn first_gaps(alloc: Global, scene: &Scene, many: usize) -> Result<Vec<usize>, AllocError>
     ensures { IfOk result (λ gaps.
         gaps.items ≡ map (first_gap scene.now) (range_with_len 0 many)) }
@@ -142,14 +142,14 @@ fn first_gaps(alloc: Global, scene: &Scene, many: usize) -> Result<Vec<usize>, A
     Ok(gaps)
 }
 
-/// Over how many gaps an arrow goes.
+/// The number of gaps that an arrow spans.
 fn span(arrow: &Arrow) -> usize
     ensures { result ≡ span arrow.now }
 {
     (arrow.from.max(arrow.to) - arrow.from.min(arrow.to)) as usize
 }
 
-/// What the gaps from this one on, so many, add up to.
+/// The sum of `many` gaps from this one on.
 fn added_up(gaps: &[usize], start: usize, many: usize) -> Result<usize, AllocError>
     ensures { IfOk result (λ total. total ≡ added_up gaps.now start many) }
 {
@@ -162,7 +162,7 @@ fn added_up(gaps: &[usize], start: usize, many: usize) -> Result<usize, AllocErr
     Ok(total)
 }
 
-/// The rightmost gap of an arrow grows by what its label lacks.
+/// Widens the rightmost gap of an arrow by what its label needs more.
 fn widen(gaps: &mut Vec<usize>, arrow: &Arrow, last: usize) -> Result<(), AllocError>
     ensures { OnOk result (gaps.new.items ≡ widened gaps.old.items arrow.now last) }
 {
@@ -176,7 +176,7 @@ fn widen(gaps: &mut Vec<usize>, arrow: &Arrow, last: usize) -> Result<(), AllocE
     Ok(())
 }
 
-/// The gaps grow by what the arrows over so many gaps ask for.
+/// Widens gaps by what the arrows over `many` gaps need.
 fn widen_by(gaps: &mut Vec<usize>, arrows: &[Arrow], many: usize) -> Result<(), AllocError>
     ensures { OnOk result (gaps.new.items ≡ widened_by arrows.now gaps.old.items many) }
 {
@@ -189,7 +189,7 @@ fn widen_by(gaps: &mut Vec<usize>, arrows: &[Arrow], many: usize) -> Result<(), 
     Ok(())
 }
 
-/// The gaps between so many columns and the first one.
+/// The `many` gaps between consecutive columns.
 fn gaps_of(alloc: Global, scene: &Scene, many: usize) -> Result<Vec<usize>, AllocError>
     requires { many ≡ length scene.now.heads - 1 }
     ensures { IfOk result (λ gaps. gaps.items ≡ gaps_of scene.now) }
@@ -201,7 +201,7 @@ fn gaps_of(alloc: Global, scene: &Scene, many: usize) -> Result<Vec<usize>, Allo
     Ok(gaps)
 }
 
-/// The columns after a first one, each behind a gap.
+/// The columns after a first one, each after a gap.
 fn columns_after(
     alloc: Global,
     first: usize,
@@ -220,7 +220,7 @@ fn columns_after(
     Ok(Listed::from_vec(columns))
 }
 
-/// What stands behind the last column.
+/// The room after the last column.
 fn end_room(scene: &Scene, last: usize) -> Result<usize, AllocError>
     ensures { IfOk result (λ r. r ≡ end_room scene.now last) }
 {
@@ -228,7 +228,7 @@ fn end_room(scene: &Scene, last: usize) -> Result<usize, AllocError>
     Ok(half.max(2).max(room(scene, last)?))
 }
 
-/// The columns of a picture of so many instances. An error is a growth of memory that was refused.
+/// The columns of a picture of `many` instances. An error is a growth of memory that was refused.
 pub fn columns_of(alloc: Global, scene: &Scene, many: usize) -> Result<Columns, AllocError>
     requires { many ≡ length scene.now.heads }
     ensures { IfOk result (λ c. c ≡ columns_of scene.now) }

@@ -1,7 +1,8 @@
-//! What of a picture is drawn, and how far each line is.
+//! The part of a picture that is drawn, and the progress of each line.
 //!
-//! Along the course of a frame each line is drawn about from above. So the first two places with an
-//! event of it that is left, which only grow, tell of each event whether all above it are drawn.
+//! Along the course of a frame each line is drawn mostly from above. So for each line the code
+//! keeps the first two places with an event of it that is left. They only grow, and show for each
+//! event whether all events above it are drawn.
 
 ghost use Rattle.std.specs.Prelude.{◌≡◌, ◌<◌, ◌++◌, ◌∷◌, [], ◌↔◌, IfOk, IsTrue, OnOk, ℕ, get_or};
 ghost use Rattle.std.specs.Prelude.{length};
@@ -15,8 +16,9 @@ use crate::frame::Framed;
 use msc_chart::Event;
 use std::alloc::{AllocError, Global};
 
-/// What is drawn so far: the events in their order and the last of them, for each event whether it
-/// is drawn, and for each line the first two places of the course with an event of it that is left.
+/// The part that is drawn so far: the events in their order and the last of them, for each event
+/// whether it is drawn, and for each line the first two places of the course with an event of it
+/// that is left.
 #[derive(Drop)]
 pub(crate) struct Drawn {
     pub past: Vec<Event>,
@@ -27,12 +29,12 @@ pub(crate) struct Drawn {
 }
 
 impl Drawn {
-    /// No event yet. Of no line it is known where its first events are.
+    /// No event is drawn yet, and the first events of each line are not known.
     fn blank(alloc: Global, f: &Framed) -> Result<Drawn, AllocError>
         ensures drawn { IfOk result (λ d. HoldsDrawn f.now d) }
         ensures behind { IfOk result (λ d. HoldsBehind f.now d) }
     {
-        f.chart.accepted();
+        f.chart.facts();
         let (many, lines) = (f.chart.events() as usize, f.chart.instances() as usize);
         Ok(Drawn {
             past: Vec::new(alloc),
@@ -43,7 +45,7 @@ impl Drawn {
         })
     }
 
-    /// No event yet.
+    /// No event is drawn yet.
     pub fn start(alloc: Global, f: &Framed) -> Result<Drawn, AllocError>
         requires { IsLaid f.now }
         ensures { IfOk result (λ d. Holds f.now d) }
@@ -61,7 +63,7 @@ impl Drawn {
         requires known { e < length f.now.chart.now.events }
         ensures { result ≡ occurs self.now.past.items e }
     {
-        // A look at the chart makes known what is said of its events.
+        // A look at the chart makes the facts on its events known.
         let _chart = f.chart;
         self.done[e as usize]
     }
@@ -85,7 +87,7 @@ impl Drawn {
         many
     }
 
-    /// Looks on for the first two events of line `i` that are left.
+    /// Advances to the first two events of line `i` that are left.
     fn advance(&mut self, f: &Framed, i: u32)
         requires laid { IsLaid f.now }
         requires held { HoldsDrawn f.now self.old }
@@ -105,7 +107,7 @@ impl Drawn {
         self.seconds[line] = second;
     }
 
-    /// Event `e` is drawn. How far its line is, is not looked at.
+    /// Bars event `e` as drawn, without the progress of its line.
     fn push(&mut self, f: &Framed, e: Event) -> Result<(), AllocError>
         requires held { Holds f.now self.old }
         requires next { IsDrawnNext (frame_of f.now) self.old.past.items e }
@@ -115,7 +117,7 @@ impl Drawn {
             → (j ≡ line f.now.chart.now.events e → ⊥) → HoldsLine f.now self.new j) }
         ensures past { OnOk result (self.new.past.items ≡ self.old.past.items ++ e ∷ []) }
     {
-        // What is drawn next is an event of the chart.
+        // The next event to be drawn is an event of the chart.
         let _chart = f.chart;
         self.past.push(e)?;
         self.last = Some(e);
@@ -123,7 +125,7 @@ impl Drawn {
         Ok(())
     }
 
-    /// Event `e` is drawn.
+    /// Draws event `e`.
     pub fn draw(&mut self, f: &Framed, e: Event) -> Result<(), AllocError>
         requires laid { IsLaid f.now }
         requires held { Holds f.now self.old }
@@ -131,7 +133,7 @@ impl Drawn {
         ensures held { OnOk result (Holds f.now self.new) }
         ensures past { OnOk result (self.new.past.items ≡ self.old.past.items ++ e ∷ []) }
     {
-        f.chart.accepted();
+        f.chart.facts();
         self.push(f, e)?;
         self.advance(f, f.chart.instance_of(e));
         Ok(())
@@ -153,7 +155,7 @@ impl Drawn {
         requires known { e < length f.now.chart.now.events }
         ensures { IsFirstOther (frame_of f.now) f.now.course.items self.now.past.items e result }
     {
-        f.chart.accepted();
+        f.chart.facts();
         let line = f.chart.instance_of(e) as usize;
         let first = self.firsts[line];
         if first >= f.course.len() {
@@ -165,7 +167,7 @@ impl Drawn {
         first
     }
 
-    /// Whether all events over event `e` are drawn.
+    /// Whether all events above event `e` are drawn.
     pub fn is_open(&self, f: &Framed, e: Event) -> bool
         requires laid { IsLaid f.now }
         requires held { Holds f.now self.now }

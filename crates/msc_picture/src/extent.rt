@@ -1,4 +1,4 @@
-//! From which row to which the segments of a chart reach, in one pass over the rows.
+//! The rows of a chart's segments, from the first to the last, in one pass over all rows.
 
 ghost use Rattle.std.specs.Prelude.{◌≡◌, ◌<◌, ◌-◌, None, Some, IfOk, IsTrue, cond, get_or, length};
 ghost use Rattle.std.specs.Prelude.{slice_set, ℕ};
@@ -12,7 +12,7 @@ use crate::scene::Row;
 use msc_chart::{Chart, Event};
 use std::alloc::{AllocError, Global};
 
-/// The first event of the segment of event `e`, where that of the event above is `begun`.
+/// The first event of the segment of event `e`, if `begun` is that of the event above.
 fn begin_at(chart: &Chart, begun: Event, e: Event) -> Event
     requires known { e < length chart.now.events }
     requires begun { 0 < e → IsBeginOf chart.now.events begun (e - 1) }
@@ -24,7 +24,7 @@ fn begin_at(chart: &Chart, begun: Event, e: Event) -> Event
     begun
 }
 
-/// Of each event the first event of its segment.
+/// For each event, the first event of its segment.
 fn begins_of(alloc: Global, chart: &Chart) -> Result<Vec<Event>, AllocError>
     ensures { IfOk result (λ begins. AreBegins chart.now.events begins.items) }
 {
@@ -37,7 +37,7 @@ fn begins_of(alloc: Global, chart: &Chart) -> Result<Vec<Event>, AllocError>
     Ok(begins)
 }
 
-/// The segment that event `b` begins reaches to row `k`.
+/// Extends the segment that event `b` begins to row `k`.
 fn widen(reaches: &mut Vec<Option<(usize, usize)>>, b: Event, k: usize)
     requires { b < length reaches.old.items }
     ensures { reaches.new.items
@@ -46,7 +46,7 @@ fn widen(reaches: &mut Vec<Option<(usize, usize)>>, b: Event, k: usize)
     reaches[b as usize] = Some(grow(reaches[b as usize], k));
 }
 
-/// The segments of the events of row `k` reach to it.
+/// Extends the segments of the events of row `k` to that row.
 fn widen_to(reaches: &mut Vec<Option<(usize, usize)>>, begins: &[Event], row: Row, k: usize)
     requires row { IsKnownRow (length begins.now) row }
     requires begins { All (λ b. b < length reaches.old.items) begins.now }
@@ -61,7 +61,7 @@ fn widen_to(reaches: &mut Vec<Option<(usize, usize)>>, begins: &[Event], row: Ro
     }
 }
 
-/// For the first event of each segment the first and the last row with an event of the segment.
+/// For the first event of each segment, the first and the last row with an event of the segment.
 pub fn reaches_of(
     alloc: Global,
     chart: &Chart,
@@ -73,7 +73,7 @@ pub fn reaches_of(
         → IsTrue (begins_segment chart.now.events e) → get_or reaches.items e None
         ≡ reach_of (row_passes (share_segment chart.now.events e)) rows.now) }
 {
-    chart.accepted();
+    chart.facts();
     let begins = begins_of(alloc, chart)?;
     let mut reaches = vec![in alloc; None; chart.events() as usize]?;
     for k in 0..rows.len() {

@@ -1,4 +1,4 @@
-//! Which event may follow what is drawn.
+//! The event that may follow what is drawn.
 
 ghost use Rattle.std.specs.Prelude.{◌≡◌, ◌<◌, ◌++◌, ◌∷◌, [], ◌↔◌, IsTrue, length};
 ghost use Rattle.msc_chart.specs.Charts.{is_output, partner};
@@ -47,7 +47,7 @@ impl Drawn {
         f.is_sent_as(other, e) && !self.is_done(f, other)
     }
 
-    /// Whether nothing blocks event `e` that is not drawn.
+    /// Whether each event that blocks event `e` is drawn.
     fn is_clear(&self, f: &Framed, e: Event) -> bool
         requires laid { IsLaid f.now }
         requires held { Holds f.now self.now }
@@ -60,15 +60,15 @@ impl Drawn {
         self.is_open(f, e)
     }
 
-    /// Whether event `e` may follow: it is not drawn, its output is, if it has one, and nothing else
-    /// blocks it.
+    /// Whether event `e` may follow: it is not drawn, its output is drawn, if it has one, and
+    /// nothing else blocks it.
     fn may_follow(&self, f: &Framed, e: Event) -> bool
         requires laid { IsLaid f.now }
         requires held { Holds f.now self.now }
         requires known { e < length f.now.chart.now.events }
         ensures { IsTrue result ↔ MayFollow (frame_of f.now) self.now.past.items e }
     {
-        f.chart.accepted();
+        f.chart.facts();
         if self.is_done(f, e) {
             return false;
         }
@@ -78,7 +78,7 @@ impl Drawn {
         self.is_clear(f, e)
     }
 
-    /// Whether the input of output `s` may follow right behind it.
+    /// Whether the input of output `s` may come directly after it.
     fn may_be_taken(&self, f: &Framed, s: Event) -> bool
         requires laid { IsLaid f.now }
         requires held { Holds f.now self.now }
@@ -87,7 +87,7 @@ impl Drawn {
         ensures { IsTrue result ↔ MayFollow (frame_of f.now) (self.now.past.items ++ s ∷ [])
             (partner f.now.chart.now.events s) }
     {
-        f.chart.accepted();
+        f.chart.facts();
         let other = f.chart.other_end(s);
         if self.is_done(f, other) {
             return false;
@@ -113,7 +113,7 @@ impl Drawn {
         }
     }
 
-    /// Whether event `e` is left, and all events over it are drawn.
+    /// Whether event `e` is left, and all events above it are drawn.
     fn is_free(&self, f: &Framed, e: Event) -> bool
         requires laid { IsLaid f.now }
         requires held { Holds f.now self.now }
@@ -126,8 +126,8 @@ impl Drawn {
         self.is_open(f, e)
     }
 
-    /// Whether event `e` is an input or an action that is left, with all events over it and its
-    /// output drawn.
+    /// Whether event `e` is an input or an action that is left, and all events above it and its
+    /// output are drawn.
     pub fn may_rest(&self, f: &Framed, e: Event) -> bool
         requires laid { IsLaid f.now }
         requires held { Holds f.now self.now }
@@ -143,7 +143,7 @@ impl Drawn {
         self.is_free(f, e)
     }
 
-    /// Whether event `e` is an output that is left, with all events over it drawn.
+    /// Whether event `e` is an output that is left, and all events above it are drawn.
     pub fn may_send(&self, f: &Framed, e: Event) -> bool
         requires laid { IsLaid f.now }
         requires held { Holds f.now self.now }
@@ -156,7 +156,7 @@ impl Drawn {
         self.is_free(f, e)
     }
 
-    /// Whether event `e` is such an output, and all events over its input are drawn too.
+    /// Whether event `e` is such an output, and all events above its input are drawn too.
     pub fn may_level(&self, f: &Framed, e: Event) -> bool
         requires laid { IsLaid f.now }
         requires held { Holds f.now self.now }

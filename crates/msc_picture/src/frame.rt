@@ -1,4 +1,4 @@
-//! What is drawn, and what of it has to be drawn before what.
+//! A chart as it is drawn: which of its events have to be drawn before which.
 
 ghost use Rattle.std.specs.Prelude.{◌≡◌, ◌<◌, ◌↔◌, IfOk, IsTrue, length, map, vec_len};
 ghost use Rattle.std.specs.List.{range_with_len};
@@ -11,8 +11,8 @@ use msc_chart::{Chart, Event};
 use std::alloc::{AllocError, Global};
 
 /// A chart with the level of each event on its line, and for some outputs the output of the same
-/// queue that is drawn before it. The course has all events, those of a line by their levels. Its
-/// calls take no memory.
+/// queue that is drawn before it. The course has all events, the events of a line by their levels.
+/// Its calls take no memory.
 #[derive(Drop)]
 pub struct Framed<'a> {
     pub chart: &'a Chart,
@@ -85,7 +85,7 @@ fn segments_of(alloc: Global, chart: &Chart) -> Result<Vec<usize>, AllocError>
     Ok(levels)
 }
 
-/// The numbers of so many events, ascending.
+/// The numbers of `many` events, ascending.
 fn numbers_to(alloc: Global, many: u32) -> Result<Vec<Event>, AllocError>
     ensures { IfOk result (λ numbers. numbers.items ≡ range_with_len 0 many) }
 {
@@ -96,13 +96,13 @@ fn numbers_to(alloc: Global, many: u32) -> Result<Vec<Event>, AllocError>
     Ok(numbers)
 }
 
-/// A chart as it is drawn: an event stands below all events of the segments above its own. An error
-/// is a growth of memory that was refused.
+/// A chart as it is drawn: an event is below all events of the segments above its own. An error is
+/// a growth of memory that was refused.
 pub fn frame_chart(alloc: Global, chart: &Chart) -> Result<Framed, AllocError>
     ensures frame { IfOk result (λ f. frame_of f ≡ chart_frame chart.now.events) }
     ensures laid { IfOk result (λ f. IsLaid f) }
 {
-    chart.accepted();
+    chart.facts();
     let many = chart.events();
     Ok(Framed {
         chart,

@@ -1,9 +1,9 @@
-//! Laws of pictures, over their definitions alone. The functions have no code: a caller calls one
-//! to rest its own proof on the law.
+//! Laws of pictures, over their definitions only. The functions have no code: a caller that needs a
+//! law calls its function.
 
 ghost use Rattle.msc_picture.specs.Laws.{BandsAreOfCoregions, BandsHaveNoOther, DrawnRunsAreRuns};
 ghost use Rattle.msc_picture.specs.Laws.{EachClosestRaceIsMarked, EachCoregionHasABand};
-ghost use Rattle.msc_picture.specs.Laws.{MarksHaveNoOther, OneLabelInARow, RowsAreFull};
+ghost use Rattle.msc_picture.specs.Laws.{BarsHaveNoOther, OneLabelInARow, RowsAreFull};
 ghost use Rattle.msc_picture.specs.Laws.{RowsKeepTheVisualOrder, RowsReadBack};
 ghost use Rattle.msc_picture.specs.Plain.{PicturesArePlain, TextsOfPicturesArePlain};
 
@@ -15,19 +15,19 @@ pub fn numbers_read_back()
 {}
 
 /// A row has the events of one message or one action, and an output and its input share a row
-/// wherever nothing is drawn between them.
+/// whenever nothing is drawn between them.
 pub fn one_label_in_a_row()
     ensures one { OneLabelInARow }
     ensures full { RowsAreFull }
 {}
 
-/// What precedes an event visibly is in a row above it, or is its output in the same row.
+/// An event that visibly precedes another is in a row above it, or is its output in the same row.
 pub fn rows_keep_the_visual_order()
     ensures { RowsKeepTheVisualOrder }
 {}
 
-/// The picture of a whole run is a whole run of the architecture too, in which the events of each
-/// line come as in the run. So it reverses each race that the run reverses.
+/// The picture of a whole run is a whole run of the architecture too, and the events of each line
+/// come in the same order as in the run; so it reverses each race that the run reverses.
 pub fn drawn_runs_are_runs()
     ensures { DrawnRunsAreRuns }
 {
@@ -35,25 +35,25 @@ pub fn drawn_runs_are_runs()
     inputs_share_lines();
 }
 
-/// Each band is that of a coregion of several events, from the first to the last row with an event
-/// of it, and each such coregion has one. No other event of its line is in these rows, but one that
-/// shares its row with the other end of its message to oneself.
+/// Each band belongs to a coregion of several events, and goes from the first to the last row with
+/// an event of it. Each such coregion has one band. Another event of its line is in these rows only
+/// if it shares its row with the other end of its message to oneself.
 pub fn each_coregion_has_a_band()
     ensures bands { BandsAreOfCoregions }
     ensures each { EachCoregionHasABand }
     ensures other { BandsHaveNoOther }
 {}
 
-/// Each closest race joins an upper and a lower event of a mark, which has its number, and no event
-/// of a mark is in no closest race.
+/// Each closest race joins an upper and a lower event of a bar that has the number of the race,
+/// and each event of a bar is in a closest race.
 pub fn each_closest_race_is_marked()
     ensures each { EachClosestRaceIsMarked }
-    ensures other { MarksHaveNoOther }
+    ensures other { BarsHaveNoOther }
 {}
 
-/// Where the names of a chart are of the bytes 32 to 126, as the grammar has them, all texts of its
-/// pictures are, since those of actions are masked; and then the picture in text is of these bytes
-/// and line ends.
+/// If the names of a chart consist of the bytes 32 to 126, as the grammar requires, all texts of
+/// its pictures do, since the texts of actions are masked. The picture in text then consists of
+/// these bytes and line ends.
 pub fn plain_bytes()
     ensures texts { TextsOfPicturesArePlain }
     ensures picture { PicturesArePlain }

@@ -1,7 +1,7 @@
 //! The order in which events are drawn.
 //!
-//! Which event comes next is found among those that are listed, and each event is listed once. So
-//! the work for an event does not grow with their number.
+//! The next event is searched among the listed events, and each event is listed once. So the work
+//! for an event does not grow with the number of events.
 
 ghost use Rattle.std.specs.Prelude.{◌≡◌, ℕ, ◌++◌, ◌∷◌, [], IfNone, IfOk, IfSome, OnOk};
 ghost use Rattle.msc_chart.specs.Charts.{IsLinearOrder};
@@ -21,7 +21,7 @@ use crate::searching::least;
 use msc_chart::{Chart, Event};
 use std::alloc::{AllocError, Global};
 
-/// What is drawn so far, and what may come next.
+/// The events that are drawn so far, and those that may come next.
 #[derive(Drop)]
 pub(crate) struct Drawing {
     pub drawn: Drawn,
@@ -29,7 +29,7 @@ pub(crate) struct Drawing {
 }
 
 impl Drawing {
-    /// No event yet.
+    /// No event is drawn yet.
     fn start(alloc: Global, f: &Framed) -> Result<Drawing, AllocError>
         requires { IsLaid f.now }
         ensures { IfOk result (λ d. HoldsDrawing f.now d) }
@@ -39,7 +39,7 @@ impl Drawing {
         Ok(Drawing { drawn, ready })
     }
 
-    /// The input of the last event, where it may follow.
+    /// The input of the last event, if it may follow.
     fn answer(&self, f: &Framed) -> Option<Event>
         requires laid { IsLaid f.now }
         requires held { HoldsDrawing f.now self.now }
@@ -48,7 +48,7 @@ impl Drawing {
         ensures none { IfNone result
             (HasNone (frame_of f.now) self.now.drawn.past.items Answer) }
     {
-        f.chart.accepted();
+        f.chart.facts();
         let s = self.drawn.last()?;
         let e = f.chart.other_end(s);
         if self.drawn.fits(f, Rule::Answer, e) {
@@ -66,7 +66,7 @@ impl Drawing {
         ensures none { IfNone result
             ((e : ℕ) → MayFollow (frame_of f.now) self.now.drawn.past.items e → ⊥) }
     {
-        f.chart.accepted();
+        f.chart.facts();
         if let Some(e) = self.answer(f) {
             return Some(e);
         }
@@ -79,7 +79,7 @@ impl Drawing {
         least(&self.drawn, f, Rule::Send, self.ready.sends())
     }
 
-    /// Event `e` is drawn.
+    /// Draws event `e`.
     fn draw(&mut self, f: &Framed, e: Event) -> Result<(), AllocError>
         requires laid { IsLaid f.now }
         requires held { HoldsDrawing f.now self.old }
@@ -88,7 +88,7 @@ impl Drawing {
         ensures past { OnOk result
             (self.new.drawn.past.items ≡ self.old.drawn.past.items ++ e ∷ []) }
     {
-        // What is drawn next is an event of the chart.
+        // The next event to be drawn is an event of the chart.
         let _chart = f.chart;
         self.drawn.draw(f, e)?;
         self.ready.go_on(&self.drawn, f, e);
@@ -96,7 +96,7 @@ impl Drawing {
     }
 }
 
-/// The drawing order of a frame: each next event by the rules, until none may follow.
+/// The drawing order of a frame: the rules choose each next event, until none may follow.
 pub(crate) fn draw_all(alloc: Global, f: &Framed) -> Result<Drawn, AllocError>
     requires { IsLaid f.now }
     ensures held { IfOk result (λ d. HoldsDrawn f.now d) }
@@ -113,7 +113,7 @@ pub(crate) fn draw_all(alloc: Global, f: &Framed) -> Result<Drawn, AllocError>
 pub fn drawing_order(alloc: Global, chart: &Chart) -> Result<Vec<Event>, AllocError>
     ensures rules { IfOk result (λ order. IsDrawingOrder (chart_frame chart.now.events) order.items) }
 
-    // What precedes an event visibly is drawn before it.
+    // All that visibly precedes an event is drawn before it.
     ensures linear { IfOk result (λ order. IsLinearOrder chart.now.events order.items) }
 {
     // A chart's linear order has all its events, so the drawing order has them too.

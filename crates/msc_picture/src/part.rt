@@ -13,7 +13,7 @@ use msc_chart::{Chart, Event};
 use msc_parser::{Decl, Draft, Label, Name};
 use std::alloc::{AllocError, Global};
 
-/// The names of a kind with a space between.
+/// The names of a kind, with a space between them.
 fn kind_of(alloc: Global, names: &[Name]) -> Result<Label, AllocError>
     ensures { IfOk result (λ text. text ≡ kind_text names.now) }
 {
@@ -53,7 +53,7 @@ pub fn heads_of(alloc: Global, draft: &Draft) -> Result<Listed<Head>, AllocError
     Ok(Listed::from_vec(heads))
 }
 
-/// What message `m` is called.
+/// The label of message `m`.
 fn label_of(alloc: Global, chart: &Chart, m: u32) -> Result<Label, AllocError>
     requires { m < length chart.now.messages }
     ensures { IfOk result (λ text. text ≡ message_text (message_at chart.now m)) }
@@ -93,14 +93,14 @@ pub fn arrows_of(alloc: Global, chart: &Chart) -> Result<Listed<Arrow>, AllocErr
     Ok(Listed::from_vec(arrows))
 }
 
-/// What is shown of a byte of an action's text.
+/// The byte that is shown for a byte of an action's text.
 fn show_byte(byte: u8) -> u8
     ensures { result ≡ shown_byte byte }
 {
     if byte < 32 || byte > 126 { b'?' } else { byte }
 }
 
-/// What is shown of an action's text.
+/// The text that is shown for an action.
 fn shown(alloc: Global, text: &[u8]) -> Result<Label, AllocError>
     ensures { IfOk result (λ shown. shown ≡ map shown_byte text.now) }
 {
@@ -108,7 +108,7 @@ fn shown(alloc: Global, text: &[u8]) -> Result<Label, AllocError>
     Ok(Listed::from_vec(bytes))
 }
 
-/// What event `e` does, an output or an input.
+/// The act of event `e`, an output or an input.
 fn message_act(chart: &Chart, e: Event) -> Act
     requires known { e < length chart.now.events }
     requires message { is_local chart.now.events e ≡ false }
@@ -121,7 +121,7 @@ fn message_act(chart: &Chart, e: Event) -> Act
     Act::Takes(m)
 }
 
-/// What event `e` does.
+/// The act of event `e`.
 fn act(alloc: Global, chart: &Chart, e: Event) -> Result<Act, AllocError>
     requires { e < length chart.now.events }
     ensures { IfOk result (λ act. act ≡ act_by chart.now e (kind chart.now.events e)) }

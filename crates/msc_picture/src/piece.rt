@@ -1,4 +1,4 @@
-//! What a row of a picture in text shows, and where it begins.
+//! The text of a row of a picture in text, and the column at which it begins.
 
 ghost use Rattle.std.specs.Prelude.{◌≡◌, ◌<◌, ◌≤◌, ◌+◌, ◌-◌, ◌++◌, IfOk, codes, length, replicate};
 ghost use Rattle.std.specs.Prelude.{slice_get};
@@ -12,7 +12,7 @@ use listed::Listed;
 use msc_chart::Event;
 use std::alloc::{AllocError, Global};
 
-/// What of a message stands in a row.
+/// The part of a message that a row shows.
 #[derive(Clone, Copy)]
 pub enum Ends {
     Output,
@@ -20,7 +20,7 @@ pub enum Ends {
     Both,
 }
 
-/// A text, and the column where it begins.
+/// A text, and the column at which it begins.
 #[derive(Drop)]
 pub struct Piece {
     pub start: usize,
@@ -47,7 +47,7 @@ fn joined(alloc: Global, before: &[u8], text: &[u8], after: &[u8]) -> Result<Vec
     Ok(all)
 }
 
-/// A text between two others, that begins behind a column.
+/// A text between two others that begins after a column.
 fn from_column(
     alloc: Global,
     column: usize,
@@ -92,7 +92,7 @@ fn action_piece(alloc: Global, column: usize, text: &[u8]) -> Result<Piece, Allo
     from_column(alloc, column, b"[", text, b"]")
 }
 
-/// So many dashes between two texts.
+/// `many` dashes between two texts.
 fn dashed(alloc: Global, before: &[u8], many: usize, after: &[u8]) -> Result<Vec<u8>, AllocError>
     ensures { IfOk result (λ v. v.items ≡ dashed before.now many after.now) }
 {
@@ -100,7 +100,7 @@ fn dashed(alloc: Global, before: &[u8], many: usize, after: &[u8]) -> Result<Vec
     joined(alloc, before, &row, after)
 }
 
-/// The arrow of a message from the column `a` to the column `b`, with so many dashes.
+/// The arrow of a message from column `a` to column `b`, with `many` dashes.
 fn arrow_piece(
     alloc: Global,
     a: usize,
@@ -122,7 +122,7 @@ fn arrow_piece(
     from_column(alloc, b, &before, label, &after)
 }
 
-/// An output in the column `a`, whose input in the column `b` is in another row.
+/// An output in column `a`, whose input in column `b` is in another row.
 fn output_piece(alloc: Global, a: usize, b: usize, label: &[u8]) -> Result<Piece, AllocError>
     ensures { IfOk result (λ p. p ≡ output_piece a b label.now) }
 {
@@ -132,7 +132,7 @@ fn output_piece(alloc: Global, a: usize, b: usize, label: &[u8]) -> Result<Piece
     from_column(alloc, a, b"-- ", label, b" ..")
 }
 
-/// An input in the column `b`, whose output in the column `a` is in another row.
+/// An input in column `b`, whose output in column `a` is in another row.
 fn input_piece(alloc: Global, a: usize, b: usize, label: &[u8]) -> Result<Piece, AllocError>
     ensures { IfOk result (λ p. p ≡ input_piece a b label.now) }
 {
@@ -142,7 +142,7 @@ fn input_piece(alloc: Global, a: usize, b: usize, label: &[u8]) -> Result<Piece,
     from_column(alloc, b, b"<- ", label, b" ..")
 }
 
-/// Both ends of a message, in the columns `a` and `b`.
+/// Both ends of a message, in columns `a` and `b`.
 fn both_piece(alloc: Global, a: usize, b: usize, arrow: &Arrow) -> Result<Piece, AllocError>
     ensures { IfOk result (λ p. p ≡ both_piece a b arrow.now) }
 {
@@ -155,7 +155,7 @@ fn both_piece(alloc: Global, a: usize, b: usize, arrow: &Arrow) -> Result<Piece,
     arrow_piece(alloc, a, b, many, label)
 }
 
-/// What of a message stands in the row of its output: this, or its input too.
+/// The part of a message in the row of its output: the output only, or its input too.
 fn ends_of(second: Option<Event>) -> Ends
     ensures { result ≡ ends_of second }
 {
@@ -165,7 +165,7 @@ fn ends_of(second: Option<Event>) -> Ends
     }
 }
 
-/// What is drawn of message `m`: its output, its input, or both.
+/// The text of message `m`: its output, its input, or both.
 fn message_piece(
     alloc: Global,
     scene: &Scene,
@@ -188,7 +188,7 @@ fn message_piece(
     }
 }
 
-/// What a row shows.
+/// The text of a row.
 pub fn row_piece(alloc: Global, scene: &Scene, c: &Columns, row: Row) -> Result<Piece, AllocError>
     ensures { IfOk result (λ p. p ≡ row_piece scene.now c.now row) }
 {

@@ -1,7 +1,7 @@
-//! The events that are looked at as the next one.
+//! The candidates for the next event.
 //!
-//! An event is listed once all above it on its line are drawn, so each is listed once, and the next
-//! event is found without a look at the others.
+//! An event is listed once all events above it on its line are drawn. So each event is listed once,
+//! and the search for the next event visits listed events only.
 
 ghost use Rattle.std.specs.Prelude.{◌≡◌, ◌*◌, ◌<◌, ℕ, IfOk, length};
 ghost use Rattle.bit_rows.specs.Rows.{IsWith};
@@ -17,8 +17,8 @@ use bit_rows::row;
 use msc_chart::Event;
 use std::alloc::{AllocError, Global};
 
-/// Rows of bits: the inputs and actions that may come next as far as their lines tell, the outputs
-/// that may, and of these the ones whose inputs may come right behind them.
+/// Rows of bits: the inputs and actions that may come next by the progress of their lines, the
+/// outputs that may, and the outputs among them whose inputs may come directly after them.
 #[derive(Drop)]
 pub(crate) struct Ready {
     rests: Vec<u64>,
@@ -26,7 +26,7 @@ pub(crate) struct Ready {
     levels: Vec<u64>,
 }
 
-/// Puts event `e` into a row, where it is wanted.
+/// Puts event `e` into a row, if `wanted`.
 fn put_where(row: &mut Vec<u64>, e: Event, wanted: bool)
     requires { e < 64 * length row.old.items }
     ensures put { IsWith row.old.items row.new.items wanted e }
@@ -49,7 +49,7 @@ impl Ready {
         })
     }
 
-    /// Lists event `e` wherever it may come next.
+    /// Lists event `e` in each row in which it may come next.
     fn list(&mut self, d: &Drawn, f: &Framed, e: Event)
         requires laid { IsLaid f.now }
         requires held { Holds f.now d.now }
@@ -101,7 +101,7 @@ impl Ready {
         }
     }
 
-    /// Lists the event at place `p` of the course, and where event `e` is above it its whole level.
+    /// Lists the event at place `p` of the course, and its whole level if event `e` is above it.
     fn list_from(&mut self, d: &Drawn, f: &Framed, e: Event, p: usize)
         requires laid { IsLaid f.now }
         requires held { Holds f.now d.now }
@@ -135,7 +135,7 @@ impl Ready {
         row::clear(&mut self.levels, e);
     }
 
-    /// All that may come next before any event is drawn.
+    /// All events that may come next before any event is drawn.
     pub fn start(alloc: Global, d: &Drawn, f: &Framed) -> Result<Ready, AllocError>
         requires laid { IsLaid f.now }
         requires held { Holds f.now d.now }
@@ -150,7 +150,7 @@ impl Ready {
         Ok(ready)
     }
 
-    /// What may come next once event `e` is drawn, the last one.
+    /// Updates the candidates after event `e`, the last one that was drawn.
     pub fn go_on(&mut self, d: &Drawn, f: &Framed, e: Event)
         requires laid { IsLaid f.now }
         requires held { Holds f.now d.now }
@@ -160,27 +160,27 @@ impl Ready {
         ensures room { HasRoom (length f.now.chart.now.events) self.new }
         ensures listed { AreListed (frame_of f.now) d.now.past.items self.new }
     {
-        f.chart.accepted();
+        f.chart.facts();
         self.take_out(e);
         self.list_other(d, f, e);
         self.list_from(d, f, e, d.first(f.chart.instance_of(e)));
     }
 
-    /// The inputs and actions that may come next as far as their lines tell.
+    /// The inputs and actions that may come next by the progress of their lines.
     pub fn rests(&self) -> &[u64]
         ensures { result.now ≡ self.now.rests.items }
     {
         &self.rests
     }
 
-    /// The outputs that may come next as far as their lines tell.
+    /// The outputs that may come next by the progress of their lines.
     pub fn sends(&self) -> &[u64]
         ensures { result.now ≡ self.now.sends.items }
     {
         &self.sends
     }
 
-    /// Those of them whose inputs may come right behind them.
+    /// The outputs among them whose inputs may come directly after them.
     pub fn levels(&self) -> &[u64]
         ensures { result.now ≡ self.now.levels.items }
     {

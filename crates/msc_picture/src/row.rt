@@ -1,4 +1,4 @@
-//! Rows: which events stand beside one another.
+//! Rows: which events are drawn next to one another.
 
 ghost use Rattle.std.specs.Prelude.{◌≡◌, ◌<◌, IfOk, length};
 ghost use Rattle.std.specs.List.{All};

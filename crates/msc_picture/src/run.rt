@@ -1,4 +1,4 @@
-//! What a picture of a run keeps of the run.
+//! The part of a run that its picture keeps.
 
 ghost use Rattle.std.specs.Prelude.{◌≡◌, ◌<◌, IfOk, length, map};
 ghost use Rattle.std.specs.List.{All, range_with_len};
@@ -15,7 +15,7 @@ use crate::ordering::draw_all;
 use msc_chart::{Event, Wiring};
 use std::alloc::{AllocError, Global};
 
-/// The place of each of so many events in a list, or the length of the list.
+/// The place of each of `many` events in a list, or the length of the list.
 fn places_of(alloc: Global, run: &[Event], many: u32) -> Result<Vec<usize>, AllocError>
     requires { All (λ e. e < many) run.now }
     ensures { IfOk result (λ places.
@@ -30,14 +30,14 @@ fn places_of(alloc: Global, run: &[Event], many: u32) -> Result<Vec<usize>, Allo
     Ok(places)
 }
 
-/// For each output the output before it in its queue, in the order of a run.
+/// For each output, the output before it in its queue, in the order of a run.
 fn queued_of(alloc: Global, w: &Wiring, run: &[Event]) -> Result<Vec<Option<Event>>, AllocError>
     requires run { Run (wired_by w.now) run.now }
     requires whole { IsWhole (wired_by w.now) run.now }
     ensures { IfOk result (λ after.
         after.items ≡ map (queued_before (wired_by w.now) run.now) (range_with_len 0 (size w.now))) }
 {
-    w.chart.accepted();
+    w.chart.facts();
     let mut after = vec![in alloc; None; w.chart.events() as usize]?;
     let mut lasts = vec![in alloc; None; w.queue_count() as usize]?;
     for x in run {
@@ -66,21 +66,21 @@ fn frame_run<'a>(alloc: Global, w: &Wiring<'a>, run: &[Event]) -> Result<Framed<
     })
 }
 
-/// The order in which a run is drawn: that of each line, and of the outputs of each queue, is the
-/// run's. An error is a growth of memory that was refused.
+/// The order in which a run is drawn: on each line, and among the outputs of each queue, the order
+/// is that of the run. An error is a growth of memory that was refused.
 pub fn run_order(alloc: Global, w: &Wiring, run: &[Event]) -> Result<Vec<Event>, AllocError>
     requires run { Run (wired_by w.now) run.now }
     requires whole { IsWhole (wired_by w.now) run.now }
     ensures rules { IfOk result (λ order.
         IsDrawingOrder (run_frame (wired_by w.now) run.now) order.items) }
 
-    // It is a run too, and has the lines of the run.
+    // It is also a run, and has the lines of the run.
     ensures run { IfOk result (λ order. Run (wired_by w.now) order.items) }
     ensures lines { IfOk result (λ order.
         KeepsLinesOf w.now.chart.now.events run.now order.items) }
 {
     drawn_runs_are_runs();
-    w.chart.accepted();
+    w.chart.facts();
     let f = frame_run(alloc, w, run)?;
     let drawn = draw_all(alloc, &f)?;
     Ok(drawn.past)

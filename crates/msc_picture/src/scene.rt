@@ -1,9 +1,9 @@
-//! A picture as plain data: what stands where, before it takes a form.
+//! A picture as plain data: its parts and their places, without a format.
 
 ghost use Rattle.std.specs.Prelude.{◌≡◌, ◌<◌, IfOk};
 ghost use Rattle.msc_chart.specs.Runs.{IsWhole, Run};
 ghost use Rattle.msc_chart.specs.Wirings.{size, wired_by};
-ghost use Rattle.msc_picture.specs.RunFrames.{run_mark};
+ghost use Rattle.msc_picture.specs.RunFrames.{run_bar};
 ghost use Rattle.msc_chart.specs.Drawings.{chart_of};
 ghost use Rattle.msc_picture.specs.Scenes.{IsMarkedSceneOf, IsRunSceneOf};
 
@@ -24,7 +24,7 @@ pub struct Head {
     pub kind: Label,
 }
 
-/// The arrow of a message: its output and its input, the instances of these, and what it is called.
+/// The arrow of a message: its output and its input, their instances, and its label.
 #[derive(Drop)]
 pub struct Arrow {
     pub output: Event,
@@ -34,7 +34,7 @@ pub struct Arrow {
     pub label: Label,
 }
 
-/// What an event does: it is the output of a message or its input, or an action with this text.
+/// The act of an event: it is the output of a message or its input, or an action with this text.
 #[derive(Drop)]
 pub enum Act {
     Sends(u32),
@@ -64,11 +64,11 @@ pub struct Band {
     pub last: usize,
 }
 
-/// The mark of closest races between two segments of an instance that follow one another: the
-/// events of the upper one and of the lower one, ascending, and the numbers of the first and the
-/// last of the races, from 1.
+/// The bar of closest races between two consecutive segments of an instance: the events of the
+/// upper one and of the lower one, ascending, and the numbers of the first and the last of the
+/// races, from 1.
 #[derive(Drop)]
-pub struct Mark {
+pub struct RaceBar {
     pub instance: u32,
     pub upper: Listed<Event>,
     pub lower: Listed<Event>,
@@ -77,7 +77,7 @@ pub struct Mark {
 }
 
 /// A picture as plain data: instances, messages and events by number, rows from above, bands by
-/// instance and from above, marks by their numbers.
+/// instance and from above, bars by their numbers.
 #[derive(Drop)]
 pub struct Scene {
     pub name: Label,
@@ -86,21 +86,19 @@ pub struct Scene {
     pub spots: Listed<Spot>,
     pub rows: Listed<Row>,
     pub bands: Listed<Band>,
-    pub marks: Listed<Mark>,
+    pub bars: Listed<RaceBar>,
 }
 
-/// The picture of a chart, with the marks of its closest races. An error is a growth of memory that
+/// The picture of a chart, with the bars of its closest races. An error is a growth of memory that
 /// was refused.
 pub fn chart_scene(
     alloc: Global,
     draft: &Draft,
     chart: &Chart,
-    marks: Listed<Mark>,
+    bars: Listed<RaceBar>,
 ) -> Result<Scene, AllocError>
     requires { chart.now ≡ chart_of draft.now }
-
-    // The marks tell the races that they are made of.
-    ensures { IfOk result (IsMarkedSceneOf draft.now chart.now marks) }
+    ensures { IfOk result (IsMarkedSceneOf draft.now chart.now bars) }
 {
     let order = drawing_order(alloc, chart)?;
     let rows = rows_of(alloc, chart, &order)?;
@@ -112,12 +110,12 @@ pub fn chart_scene(
         spots: spots_of(alloc, chart)?,
         rows: Listed::from_vec(rows),
         bands: Listed::from_vec(bands),
-        marks,
+        bars,
     })
 }
 
-/// What a run reverses: event `second` comes before event `first` of the race, whose number is
-/// shown where it is not 0.
+/// The race that a run reverses: event `second` comes before event `first`. Its number is shown
+/// unless it is 0.
 #[derive(Clone, Copy)]
 pub struct Reversed {
     pub first: Event,
@@ -125,13 +123,13 @@ pub struct Reversed {
     pub number: usize,
 }
 
-/// The mark of a race that is reversed.
-fn mark_of(alloc: Global, w: &Wiring, race: Reversed) -> Result<Mark, AllocError>
+/// The bar of a race that is reversed.
+fn bar_of(alloc: Global, w: &Wiring, race: Reversed) -> Result<RaceBar, AllocError>
     requires { race.first < size w.now }
-    ensures { IfOk result (λ mark.
-        mark ≡ run_mark (wired_by w.now) race.first race.second race.number) }
+    ensures { IfOk result (λ bar.
+        bar ≡ run_bar (wired_by w.now) race.first race.second race.number) }
 {
-    Ok(Mark {
+    Ok(RaceBar {
         instance: w.chart.instance_of(race.first),
         upper: Listed::from_vec(vec![in alloc; race.second]?),
         lower: Listed::from_vec(vec![in alloc; race.first]?),
@@ -158,7 +156,7 @@ pub fn run_scene(
 {
     let order = run_order(alloc, w, run)?;
     let rows = rows_of(alloc, w.chart, &order)?;
-    let mark = mark_of(alloc, w, race)?;
+    let bar = bar_of(alloc, w, race)?;
     Ok(Scene {
         name: Listed::from_vec(Vec::from_slice(alloc, w.chart.name())?),
         heads: heads_of(alloc, draft)?,
@@ -166,6 +164,6 @@ pub fn run_scene(
         spots: spots_of(alloc, w.chart)?,
         rows: Listed::from_vec(rows),
         bands: Listed::from_vec(Vec::new(alloc)),
-        marks: Listed::from_vec(vec![in alloc; mark]?),
+        bars: Listed::from_vec(vec![in alloc; bar]?),
     })
 }

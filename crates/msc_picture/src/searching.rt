@@ -14,7 +14,8 @@ use crate::rule::Rule;
 use bit_rows::row::{has, lowest_in, word_count};
 use msc_chart::Event;
 
-/// The least event of a row from `start` up to `end` that fits a rule, where none below fits it.
+/// The least event of a row from `start` up to `end` that fits a rule, given that no event below
+/// fits it.
 fn least_between(
     d: &Drawn,
     f: &Framed,
@@ -40,7 +41,8 @@ fn least_between(
     None
 }
 
-/// The least event of word `k` of a row that fits a rule, where none of the words below fits it.
+/// The least event of word `k` of a row that fits a rule, given that no event of the words below
+/// fits it.
 fn least_in(d: &Drawn, f: &Framed, rule: Rule, row: &[u64], k: u32) -> Option<Event>
     requires laid { IsLaid f.now }
     requires held { Holds f.now d.now }
@@ -51,7 +53,7 @@ fn least_in(d: &Drawn, f: &Framed, rule: Rule, row: &[u64], k: u32) -> Option<Ev
     ensures none { IfNone result
         (HasNoneTo (frame_of f.now) d.now.past.items rule (64 * k + 64)) }
 {
-    f.chart.accepted();
+    f.chart.facts();
     let many = f.chart.events();
     let word = row[k as usize];
     if word == 0 {
@@ -64,7 +66,7 @@ fn least_in(d: &Drawn, f: &Framed, rule: Rule, row: &[u64], k: u32) -> Option<Ev
     least_between(d, f, rule, row, start, many.min(64 * k + 64))
 }
 
-/// The least event that fits a rule, which stands in this row.
+/// The least event that fits a rule. It is in this row.
 pub(crate) fn least(d: &Drawn, f: &Framed, rule: Rule, row: &[u64]) -> Option<Event>
     requires laid { IsLaid f.now }
     requires held { Holds f.now d.now }
@@ -72,7 +74,7 @@ pub(crate) fn least(d: &Drawn, f: &Framed, rule: Rule, row: &[u64]) -> Option<Ev
     ensures some { IfSome result (IsLeast (Fits (frame_of f.now) d.now.past.items rule)) }
     ensures none { IfNone result (HasNone (frame_of f.now) d.now.past.items rule) }
 {
-    f.chart.accepted();
+    f.chart.facts();
     for k in 0..word_count(f.chart.events()) as u32 {
         if let Some(e) = least_in(d, f, rule, row, k) {
             return Some(e);

@@ -1,17 +1,17 @@
-//! Which signs stand in a row: the marks and the bands are gone through once for all rows, so that a
-//! row asks for no others than its own.
+//! The signs in each row. One pass over the bars and the bands serves all rows, so each row looks
+//! up its own signs only.
 
 ghost use Rattle.std.specs.Prelude.{◌≡◌, ◌<◌, ◌&&◌, ◌||◌, ◌+◌, IfOk, OnOk, ℕ, length, min};
 ghost use Rattle.std.specs.Prelude.{nat_eq};
 ghost use Rattle.std.specs.List.{list_any};
-ghost use Rattle.msc_picture.specs.Signs.{AreBandsIn, AreMarksIn, has_at, instances_at};
+ghost use Rattle.msc_picture.specs.Signs.{AreBandsIn, AreBarsIn, has_at, instances_at};
 ghost use Rattle.msc_picture.specs.Texts.{in_band};
 
-use crate::scene::{Band, Mark};
+use crate::scene::{Band, RaceBar};
 use msc_chart::Event;
 use std::alloc::{AllocError, Global};
 
-/// The row behind the last one of a band, where there are so many rows.
+/// The row after the last one of a band, if there are `many` rows.
 fn end_of(band: Band, many: usize) -> usize
     ensures { result ≡ min (band.last + 1) many }
 {
@@ -22,29 +22,29 @@ fn end_of(band: Band, many: usize) -> usize
     }
 }
 
-/// At each place the instances on whose axes a sign stands there. An instance stands there as often
-/// as it was put. Behind the greatest place with an instance there are no places.
+/// For each place, the instances on whose axes there is a sign. An instance occurs there as often
+/// as it was put. No places follow the greatest place with an instance.
 #[derive(Drop)]
 pub struct Signs {
     instances: Vec<Vec<u32>>,
 }
 
 impl Signs {
-    /// The signs of marks: at the place of each event the instances of the marks that name it.
-    pub fn of_marks(alloc: Global, marks: &[Mark]) -> Result<Signs, AllocError>
-        ensures { IfOk result (λ signs. AreMarksIn marks.now signs.instances.items) }
+    /// The signs of bars: for the place of each event, the instances of the bars that name it.
+    pub fn of_bars(alloc: Global, bars: &[RaceBar]) -> Result<Signs, AllocError>
+        ensures { IfOk result (λ signs. AreBarsIn bars.now signs.instances.items) }
     {
         let mut signs = Signs {
             instances: Vec::new(alloc),
         };
-        for mark in marks {
-            signs.put_all(alloc, mark.upper.as_slice(), mark.instance)?;
-            signs.put_all(alloc, mark.lower.as_slice(), mark.instance)?;
+        for bar in bars {
+            signs.put_all(alloc, bar.upper.as_slice(), bar.instance)?;
+            signs.put_all(alloc, bar.lower.as_slice(), bar.instance)?;
         }
         Ok(signs)
     }
 
-    /// The signs of bands: at the place of each of so many rows the instances of the bands over it.
+    /// The signs of bands: for each of `many` rows, the instances of the bands over it.
     pub fn of_bands(alloc: Global, bands: &[Band], many: usize) -> Result<Signs, AllocError>
         ensures { IfOk result (λ signs. AreBandsIn bands.now many signs.instances.items) }
     {
@@ -57,7 +57,7 @@ impl Signs {
         Ok(signs)
     }
 
-    /// Puts the instance of a band to each of its rows below this number.
+    /// Puts the instance of a band at each of its rows below this number.
     fn put_band(&mut self, alloc: Global, band: Band, many: usize) -> Result<(), AllocError>
         ensures { OnOk result ((r i : ℕ) → r < many → has_at self.new.instances.items r i
             ≡ (has_at self.old.instances.items r i || (in_band r band && nat_eq i band.instance))) }
@@ -69,7 +69,7 @@ impl Signs {
         Ok(())
     }
 
-    /// Puts an instance to the places of these events.
+    /// Puts an instance at the places of these events.
     fn put_all(&mut self, alloc: Global, events: &[Event], instance: u32) -> Result<(), AllocError>
         ensures { OnOk result ((x i : ℕ) → has_at self.new.instances.items x i
             ≡ (has_at self.old.instances.items x i
@@ -81,7 +81,7 @@ impl Signs {
         Ok(())
     }
 
-    /// Puts an instance to a place.
+    /// Puts an instance at a place.
     fn put(&mut self, alloc: Global, place: usize, instance: u32) -> Result<(), AllocError>
         requires { place < usize.MAX }
         ensures { OnOk result ((x i : ℕ) → has_at self.new.instances.items x i
@@ -92,7 +92,7 @@ impl Signs {
         Ok(())
     }
 
-    /// Makes places up to this one, where they lack.
+    /// Makes places up to this one, if they are missing.
     fn reach(&mut self, alloc: Global, place: usize) -> Result<(), AllocError>
         requires { place < usize.MAX }
         ensures within { OnOk result (place < length self.new.instances.items) }

@@ -3,7 +3,7 @@
 ghost use Rattle.std.specs.Prelude.{◌≡◌, ◌<◌, ◌+◌, ◌++◌, IfOk, OnOk, fold};
 ghost use Rattle.std.specs.Prelude.{length, slice_set};
 ghost use Rattle.std.specs.Fmt.{decimal};
-ghost use Rattle.msc_picture.specs.Signs.{AreBandsIn, AreMarksIn, PutsBands, PutsMarks, with_sign};
+ghost use Rattle.msc_picture.specs.Signs.{AreBandsIn, AreBarsIn, PutsBands, PutsBars, with_sign};
 ghost use Rattle.msc_picture.specs.Texts.{head_line, numbers_text, over, picture_text};
 ghost use Rattle.msc_picture.specs.Texts.{row_line, row_lines, with_axis, with_name};
 
@@ -15,7 +15,7 @@ use itoa::Buffer;
 use msc_chart::Event;
 use std::alloc::{AllocError, Global};
 
-/// Puts a byte into a line. A place behind the line takes none.
+/// Puts a byte into a line. A place past the line takes none.
 fn put(line: &mut Vec<u8>, at: usize, byte: u8)
     ensures { line.new.items ≡ slice_set line.old.items at byte }
 {
@@ -24,7 +24,7 @@ fn put(line: &mut Vec<u8>, at: usize, byte: u8)
     }
 }
 
-/// Puts a piece over a line.
+/// Puts a piece on a line.
 fn put_piece(line: &mut Vec<u8>, piece: &Piece) -> Result<(), AllocError>
     ensures { OnOk result (line.new.items ≡ over piece.now line.old.items) }
 {
@@ -36,7 +36,7 @@ fn put_piece(line: &mut Vec<u8>, piece: &Piece) -> Result<(), AllocError>
     Ok(())
 }
 
-/// Puts the axes over a line.
+/// Puts the axes on a line.
 fn put_axes(line: &mut Vec<u8>, columns: &[usize])
     ensures { line.new.items ≡ fold with_axis line.old.items columns.now }
 {
@@ -45,7 +45,7 @@ fn put_axes(line: &mut Vec<u8>, columns: &[usize])
     }
 }
 
-/// Puts a sign over a line, on the axes of these instances.
+/// Puts a sign on a line, on the axes of these instances.
 fn put_signs(line: &mut Vec<u8>, c: &Columns, instances: &[u32], sign: u8)
     ensures { line.new.items ≡ fold (with_sign c.now sign) line.old.items instances.now }
 {
@@ -54,24 +54,24 @@ fn put_signs(line: &mut Vec<u8>, c: &Columns, instances: &[u32], sign: u8)
     }
 }
 
-/// Puts the bands over row `r` over a line, whose signs these are.
+/// Puts the signs of the bands over row `r` on a line.
 fn put_bands(line: &mut Vec<u8>, c: &Columns, bands: &Signs, r: usize)
     ensures { PutsBands c.now r bands.now.instances.items line.old.items line.new.items }
 {
     put_signs(line, c, bands.at(r), b':');
 }
 
-/// Puts the marks of a row over a line, whose signs these are.
-fn put_marks(line: &mut Vec<u8>, c: &Columns, marks: &Signs, row: Row)
-    ensures { PutsMarks c.now row marks.now.instances.items line.old.items line.new.items }
+/// Puts the signs of the bars of a row on a line.
+fn put_bars(line: &mut Vec<u8>, c: &Columns, bars: &Signs, row: Row)
+    ensures { PutsBars c.now row bars.now.instances.items line.old.items line.new.items }
 {
-    put_signs(line, c, marks.at(row.first as usize), b'*');
+    put_signs(line, c, bars.at(row.first as usize), b'*');
     if let Some(second) = row.second {
-        put_signs(line, c, marks.at(second as usize), b'*');
+        put_signs(line, c, bars.at(second as usize), b'*');
     }
 }
 
-/// Puts the number of an event behind a text.
+/// Appends the number of an event to a text.
 fn put_number(text: &mut Vec<u8>, e: Event) -> Result<(), AllocError>
     ensures { OnOk result (text.new.items ≡ text.old.items ++ decimal e) }
 {
@@ -79,7 +79,7 @@ fn put_number(text: &mut Vec<u8>, e: Event) -> Result<(), AllocError>
     text.extend_from_slice(buffer.format(e).as_bytes())
 }
 
-/// Puts the numbers of the events of a row behind a line, and ends it.
+/// Appends the numbers of the events of a row to a line, and ends it.
 fn put_numbers(line: &mut Vec<u8>, row: Row) -> Result<(), AllocError>
     ensures { OnOk result (line.new.items ≡ line.old.items ++ numbers_text row) }
 {
@@ -98,13 +98,13 @@ fn row_line(
     scene: &Scene,
     c: &Columns,
     bands: &Signs,
-    marks: &Signs,
+    bars: &Signs,
     r: usize,
     row: Row,
 ) -> Result<Vec<u8>, AllocError>
     requires known { r < length scene.now.rows }
     requires bands { AreBandsIn scene.now.bands (length scene.now.rows) bands.now.instances.items }
-    requires marks { AreMarksIn scene.now.marks marks.now.instances.items }
+    requires bars { AreBarsIn scene.now.bars bars.now.instances.items }
     ensures { IfOk result (λ line. line.items ≡ row_line scene.now c.now r row) }
 {
     let piece = row_piece(alloc, scene, c, row)?;
@@ -112,12 +112,12 @@ fn row_line(
     put_axes(&mut line, c.columns.as_slice());
     put_bands(&mut line, c, bands, r);
     put_piece(&mut line, &piece)?;
-    put_marks(&mut line, c, marks, row);
+    put_bars(&mut line, c, bars, row);
     put_numbers(&mut line, row)?;
     Ok(line)
 }
 
-/// Puts the name of instance `i` behind a line, half its length left of its column.
+/// Appends the name of instance `i` to a line, with half its length left of its column.
 fn put_name(
     alloc: Global,
     line: &mut Vec<u8>,
@@ -149,23 +149,23 @@ fn head_line(alloc: Global, scene: &Scene, c: &Columns, many: usize) -> Result<V
     Ok(line)
 }
 
-/// Puts the lines of the rows behind a page.
+/// Appends the lines of the rows to a page.
 fn put_rows(alloc: Global, page: &mut Vec<u8>, scene: &Scene, c: &Columns) -> Result<(), AllocError>
     ensures { OnOk result (page.new.items ≡ page.old.items ++ row_lines scene.now c.now) }
 {
     let rows = scene.rows.as_slice();
     let bands = Signs::of_bands(alloc, scene.bands.as_slice(), rows.len())?;
-    let marks = Signs::of_marks(alloc, scene.marks.as_slice())?;
+    let bars = Signs::of_bars(alloc, scene.bars.as_slice())?;
     for r in 0..rows.len() {
         let row = rows[r];
-        let line = row_line(alloc, scene, c, &bands, &marks, r, row)?;
+        let line = row_line(alloc, scene, c, &bands, &bars, r, row)?;
         page.extend_from_slice(&line)?;
     }
     Ok(())
 }
 
-/// Puts the picture in text behind a page. An error is a growth of memory that was refused; what
-/// stands in the page is not said then.
+/// Appends the picture in text to a page. An error is a growth of memory that was refused; the page
+/// then has any bytes.
 pub fn put_text(alloc: Global, page: &mut Vec<u8>, scene: &Scene) -> Result<(), AllocError>
     ensures { OnOk result (page.new.items ≡ page.old.items ++ picture_text scene.now) }
 {

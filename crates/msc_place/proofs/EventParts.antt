@@ -1,15 +1,16 @@
--- The parts of an event's statement: its first word, its address behind `to` or `from`, and its `;`.
+-- The parts of an event's statement: its first word, its address behind `to` or `from`, and its
+-- `;`.
 use Rattle.std.proofs.Common.{◌≡◌, ℕ, ◌+◌, Bool, true, false, ◌||◌, List, [], ◌∷◌, ◌++◌, Option, Some, None, refl, sym, ap, ◌∙◌}
 use Rattle.std.specs.List.{AllByRecursion}
 use Rattle.std.proofs.lemmas.List.{append_assoc}
 use Rattle.msc_lexer.specs.declared.word.Word.TheVariants as words
 use Rattle.msc_lexer.specs.Lexemes.{Symbol, Reserved, Named, Quoted, Semicolon, Lexeme}
-use Rattle.msc_parser.specs.declared.tree.Way.{Way}
-use Rattle.msc_parser.specs.declared.tree.Way.TheVariants as ways
+use Rattle.msc_parser.specs.declared.tree.Direction.{Direction}
+use Rattle.msc_parser.specs.declared.tree.Direction.TheVariants as directions
 use Rattle.msc_parser.specs.declared.tree.Signal.{Signal}
 use Rattle.msc_parser.specs.declared.tree.Statement.{Statement}
 use Rattle.msc_parser.specs.declared.tree.Statement.TheVariants.{Message, Action}
-use Rattle.msc_parser.specs.Grammar.{IsEnd, Plain, Commented, IsEvent, IsMessage, way_word, address_word}
+use Rattle.msc_parser.specs.Grammar.{IsEnd, Plain, Commented, IsEvent, IsMessage, direction_word, address_word}
 use Rattle.msc_place.specs.Collecting.{is_semicolon, leads_address, first_place, end_of, address_of}
 use Rattle.msc_place.proofs.Collected.{end_here, end_later, address_none, address_here, address_later}
 use Rattle.msc_place.proofs.Walks.{Passes, passes_on, weaker_all, neither}
@@ -55,7 +56,7 @@ end_parts b a (Commented bytes text close h k l) = (
 -- where the address of an event stands among its tokens
 abbrev pub HasAddress : Statement → List Lexeme → Option ℕ → Type 0
 HasAddress (Message e) own o =
-    (lead : List Lexeme) × (word : ℕ) × (at : ℕ) × (close : List Lexeme) × (own ≡ lead ++ record { symbol = Reserved (address_word e.way); place = word } ∷ record { symbol = Named e.address; place = at } ∷ close) × (o ≡ Some at)
+    (lead : List Lexeme) × (word : ℕ) × (at : ℕ) × (close : List Lexeme) × (own ≡ lead ++ record { symbol = Reserved (address_word e.direction); place = word } ∷ record { symbol = Named e.address; place = at } ∷ close) × (o ≡ Some at)
 HasAddress (Action l) own o = o ≡ None
 
 -- the tokens of an event's statement, of which `a` follows
@@ -69,17 +70,17 @@ pub record EventParts (b : List Lexeme) (e : Statement) (a : List Lexeme) : Type
   pub address : HasAddress e (first ∷ inner ++ semicolon_at last ∷ []) (address_of b)
 
 -- the words of message events
-way_apart : (w : Way) → closes (Reserved (way_word w)) ≡ false
-way_apart ways.Output = refl
-way_apart ways.Input = refl
+direction_apart : (w : Direction) → closes (Reserved (direction_word w)) ≡ false
+direction_apart directions.Output = refl
+direction_apart directions.Input = refl
 
-word_apart : (w : Way) → is_semicolon (Reserved (address_word w)) ≡ false
-word_apart ways.Output = refl
-word_apart ways.Input = refl
+word_apart : (w : Direction) → is_semicolon (Reserved (address_word w)) ≡ false
+word_apart directions.Output = refl
+word_apart directions.Input = refl
 
-word_leads : (w : Way) → leads_address (Reserved (address_word w)) ≡ true
-word_leads ways.Output = refl
-word_leads ways.Input = refl
+word_leads : (w : Direction) → leads_address (Reserved (address_word w)) ≡ true
+word_leads directions.Output = refl
+word_leads directions.Input = refl
 
 -- the end of a statement is where its `;` is
 ended : (b a : List Lexeme) (h : (last : ℕ) × Passes closes b (semicolon_at last ∷ a))
@@ -97,8 +98,8 @@ regrouped x g a w n s = simp append_assoc
 message_parts : (b a : List Lexeme) (e : Signal) → IsMessage b e a → EventParts b (Message e) a
 message_parts b a e h =
     let k = h.2 in
-    let first : Lexeme = record { symbol = Reserved (way_word e.way); place = h.1.0 } in
-    let word : Lexeme = record { symbol = Reserved (address_word e.way); place = k.is_word.0 } in
+    let first : Lexeme = record { symbol = Reserved (direction_word e.direction); place = h.1.0 } in
+    let word : Lexeme = record { symbol = Reserved (address_word e.direction); place = k.is_word.0 } in
     let name : Lexeme = record { symbol = Named e.address; place = k.is_address.0 } in
     let end = end_parts k.close a k.is_end in
     let semi = semicolon_at end.0 in
@@ -107,7 +108,7 @@ message_parts b a e h =
     let tail : k.word ≡ word ∷ name ∷ k.close = k.is_word.1 ∙ ap (λ ls. word ∷ ls) k.is_address.1 in
     let front : b ≡ first ∷ (id ++ word ∷ name ∷ k.close) =
     h.1.1 ∙ ap (λ ls. first ∷ ls) (ident.whole ∙ ap (λ ls. id ++ ls) tail) in
-    let apart = neither (is_semicolon first.symbol) (leads_address first.symbol) (way_apart e.way) in
+    let apart = neither (is_semicolon first.symbol) (leads_address first.symbol) (direction_apart e.direction) in
     let no_end = weaker_all closes is_semicolon not_semicolon id ident.fails in
     let close = end.1.gap in
     record {
@@ -118,7 +119,7 @@ message_parts b a e h =
       start_is = ap first_place h.1.1;
       end_is =
           ap end_of front ∙ end_later first (id ++ word ∷ name ∷ k.close) apart.0
-          ∙ end_behind id (word ∷ name ∷ k.close) no_end ∙ end_later word (name ∷ k.close) (word_apart e.way)
+          ∙ end_behind id (word ∷ name ∷ k.close) no_end ∙ end_later word (name ∷ k.close) (word_apart e.direction)
           ∙ end_later name k.close refl ∙ ended k.close a end;
       address = (
         first ∷ id,
@@ -127,7 +128,7 @@ message_parts b a e h =
         close ++ semi ∷ [],
         ap (λ ls. first ∷ ls) (append_assoc id (word ∷ name ∷ close) (semi ∷ [])),
         ap address_of front ∙ address_later first (id ++ word ∷ name ∷ k.close) apart.0 apart.1
-            ∙ address_behind id (word ∷ name ∷ k.close) ident.fails ∙ address_here word (name ∷ k.close) (word_apart e.way) (word_leads e.way),
+            ∙ address_behind id (word ∷ name ∷ k.close) ident.fails ∙ address_here word (name ∷ k.close) (word_apart e.direction) (word_leads e.direction),
       );
     }
 

@@ -3,15 +3,15 @@ use Rattle.std.proofs.Common.{◌≡◌, true, false, ◌||◌, List, [], ◌∷
 use Rattle.std.specs.List.{flat_map}
 use Rattle.msc_lexer.specs.declared.word.Word.TheVariants as words
 use Rattle.msc_lexer.specs.Lexemes.{Symbol, Reserved, Lexeme}
-use Rattle.msc_parser.specs.declared.tree.Way.{Way}
-use Rattle.msc_parser.specs.declared.tree.Way.TheVariants as ways
+use Rattle.msc_parser.specs.declared.tree.Direction.{Direction}
+use Rattle.msc_parser.specs.declared.tree.Direction.TheVariants as directions
 use Rattle.msc_parser.specs.declared.tree.Statement.{Statement}
 use Rattle.msc_parser.specs.declared.tree.Statement.TheVariants.{Message, Action}
 use Rattle.msc_parser.specs.declared.tree.Item.{Item}
 use Rattle.msc_parser.specs.declared.tree.Item.TheVariants.{Single, Coregion}
 use Rattle.msc_parser.specs.declared.tree.Section.{Section}
 use Rattle.msc_parser.specs.Forms.{AreMany}
-use Rattle.msc_parser.specs.Grammar.{Tree, way_word, IsEvent, IsCoregion, IsItem, IsSection, IsChart}
+use Rattle.msc_parser.specs.Grammar.{Tree, direction_word, IsEvent, IsCoregion, IsItem, IsSection, IsChart}
 use Rattle.msc_parser.specs.Drafts.{statements_in, statements_of}
 use Rattle.msc_place.specs.Standing.{begins_event, begins_section}
 use Rattle.msc_place.specs.Collecting.{event_place, never}
@@ -35,17 +35,17 @@ event_gap : (b a : List Lexeme) → Passes begins_part b a
 event_gap b a h = passes_weaker begins_part (λ s. begins_event s || never s) no_event b a h
 
 -- the first word of a message event begins an event
-pub way_begins : (w : Way) → begins_event (Reserved (way_word w)) ≡ true
-way_begins ways.Output = refl
-way_begins ways.Input = refl
+pub way_begins : (w : Direction) → begins_event (Reserved (direction_word w)) ≡ true
+way_begins directions.Output = refl
+way_begins directions.Input = refl
 
 -- an event is one event
 event_walk : (b a : List Lexeme) (e : Statement) → IsEvent b e a → EventWalk b a (e ∷ [])
 event_walk b a (Message e) h = (
-  record { symbol = Reserved (way_word e.way); place = h.1.0 },
+  record { symbol = Reserved (direction_word e.direction); place = h.1.0 },
   h.0,
   record { gap = []; whole = h.1.1; fails = tt },
-  way_begins e.way,
+  way_begins e.direction,
   refl,
   (a, (h.0, (h.1.0, refl), h.2)),
   event_gap h.0 a (pass_signal e h.0 a h.2),

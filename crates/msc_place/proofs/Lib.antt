@@ -16,5 +16,5 @@ pub mod StandingLemmas
 pub mod InsideLemmas
 pub mod OneBeginning
 pub mod OnLines
-pub mod SiteLemmas
+pub mod EventPositionLemmas
 pub mod SpotLemmas

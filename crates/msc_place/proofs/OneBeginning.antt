@@ -6,7 +6,7 @@ use Rattle.msc_lexer.specs.Lexemes.{Symbol, Reserved, Lexeme, lexemes}
 use Rattle.msc_lexer.specs.Lexing.{OneReading}
 use Rattle.msc_parser.specs.declared.tree.Statement.{Statement}
 use Rattle.msc_parser.specs.declared.tree.Statement.TheVariants.{Message, Action}
-use Rattle.msc_parser.specs.Grammar.{IsEvent, way_word}
+use Rattle.msc_parser.specs.Grammar.{IsEvent, direction_word}
 use Rattle.msc_place.specs.Standing.{begins_event, tokens_with, EachEventBeginsOnce}
 use Rattle.msc_place.proofs.EventWalks.{way_begins}
 
@@ -45,9 +45,9 @@ same_first test (l ∷ f) (m ∷ g) r s x y e n p q =
 event_begins : (b rest a : List Lexeme) (first : Lexeme) (e : Statement) → b ≡ first ∷ rest
     → IsEvent b e a → begins_event first.symbol ≡ true
 event_begins b rest a first (Message e) is h =
-    let all : first ∷ rest ≡ record { symbol = Reserved (way_word e.way); place = h.1.0 } ∷ h.0 = sym is ∙ h.1.1 in
-    let same : first ≡ record { symbol = Reserved (way_word e.way); place = h.1.0 } = cc all in
-    ap (λ l. begins_event l.symbol) same ∙ way_begins e.way
+    let all : first ∷ rest ≡ record { symbol = Reserved (direction_word e.direction); place = h.1.0 } ∷ h.0 = sym is ∙ h.1.1 in
+    let same : first ≡ record { symbol = Reserved (direction_word e.direction); place = h.1.0 } = cc all in
+    ap (λ l. begins_event l.symbol) same ∙ way_begins e.direction
 event_begins b rest a first (Action l) is h =
     let all : first ∷ rest ≡ record { symbol = Reserved words.Action; place = h.1.0 } ∷ h.0 = sym is ∙ h.1.1 in
     let same : first ≡ record { symbol = Reserved words.Action; place = h.1.0 } = cc all in

@@ -1,10 +1,10 @@
--- Which tokens the parts of the grammar pass over: no part but an event has a token that begins one, and
--- no part but a section has one that begins a section.
+-- Which tokens the parts of the grammar pass over: no part but an event has a token that begins
+-- one, and no part but a section has one that begins a section.
 use Rattle.std.proofs.Common.{◌≡◌, ℕ, Bool, false, ◌||◌, List, [], ◌∷◌, Option, Some, None, refl}
 use Rattle.msc_lexer.specs.declared.word.Word.TheVariants as words
 use Rattle.msc_lexer.specs.Lexemes.{Symbol, Reserved, Named, Quoted, Semicolon, Comma, Colon, LeftParen, RightParen, Lexeme}
-use Rattle.msc_parser.specs.declared.tree.Way.{Way}
-use Rattle.msc_parser.specs.declared.tree.Way.TheVariants as ways
+use Rattle.msc_parser.specs.declared.tree.Direction.{Direction}
+use Rattle.msc_parser.specs.declared.tree.Direction.TheVariants as directions
 use Rattle.msc_parser.specs.declared.tree.Decl.{Decl}
 use Rattle.msc_parser.specs.declared.tree.Signal.{Signal}
 use Rattle.msc_parser.specs.Forms.{IsToken, IsNamed, AreMany, IsLedBy}
@@ -122,15 +122,15 @@ pub part_free : IsFree begins_part
 part_free = record { named = λ n. refl; comma = refl; left = refl; right = refl }
 
 -- an address word
-way_passes : (w : Way) → begins_part (Reserved (address_word w)) ≡ false
-way_passes ways.Output = refl
-way_passes ways.Input = refl
+way_passes : (w : Direction) → begins_part (Reserved (address_word w)) ≡ false
+way_passes directions.Output = refl
+way_passes directions.Input = refl
 
 -- a message event behind its first word
 pub pass_signal : (e : Signal) (b a : List Lexeme) → IsSignal b e a → Passes begins_part b a
 pass_signal e b a k =
     passes_on begins_part b k.word a (pass_ident begins_part part_free e b k.word k.is_ident)
-    (passes_on begins_part k.word k.address a (pass_token begins_part _ k.word k.address k.is_word (way_passes e.way))
+    (passes_on begins_part k.word k.address a (pass_token begins_part _ k.word k.address k.is_word (way_passes e.direction))
     (passes_on begins_part k.address k.close a (pass_token begins_part _ k.address k.close k.is_address refl) (pass_end begins_part part_plain k.close a k.is_end)))
 
 -- an action behind its first word

@@ -2,15 +2,15 @@
 use Rattle.std.proofs.Common.{◌≡◌, Bool, false, ◌||◌, List, [], ◌∷◌, refl}
 use Rattle.msc_lexer.specs.declared.word.Word.TheVariants as words
 use Rattle.msc_lexer.specs.Lexemes.{Symbol, Reserved, Lexeme}
-use Rattle.msc_parser.specs.declared.tree.Way.{Way}
-use Rattle.msc_parser.specs.declared.tree.Way.TheVariants as ways
+use Rattle.msc_parser.specs.declared.tree.Direction.{Direction}
+use Rattle.msc_parser.specs.declared.tree.Direction.TheVariants as directions
 use Rattle.msc_parser.specs.declared.tree.Statement.{Statement}
 use Rattle.msc_parser.specs.declared.tree.Statement.TheVariants.{Message, Action}
 use Rattle.msc_parser.specs.declared.tree.Item.{Item}
 use Rattle.msc_parser.specs.declared.tree.Item.TheVariants.{Single, Coregion}
 use Rattle.msc_parser.specs.declared.tree.Section.{Section}
 use Rattle.msc_parser.specs.Forms.{AreMany}
-use Rattle.msc_parser.specs.Grammar.{Tree, way_word, IsEvent, IsCoregion, IsItem, IsSection, IsChart}
+use Rattle.msc_parser.specs.Grammar.{Tree, direction_word, IsEvent, IsCoregion, IsItem, IsSection, IsChart}
 use Rattle.msc_place.specs.Standing.{begins_event, begins_section}
 use Rattle.msc_place.specs.Collecting.{never, second_place}
 use Rattle.msc_place.proofs.Walks.{neither, Passes, passes_on, passes_weaker, Walks, walks_behind, walks_on, walks_past}
@@ -36,14 +36,14 @@ section_gap : (b a : List Lexeme) → Passes begins_part b a → Passes skips b 
 section_gap b a h = passes_weaker begins_part skips no_section b a h
 
 -- the first word of a message event begins no section
-way_skipped : (w : Way) → skips (Reserved (way_word w)) ≡ false
-way_skipped ways.Output = refl
-way_skipped ways.Input = refl
+way_skipped : (w : Direction) → skips (Reserved (direction_word w)) ≡ false
+way_skipped directions.Output = refl
+way_skipped directions.Input = refl
 
 -- an event has no section
 skip_event : (b a : List Lexeme) (e : Statement) → IsEvent b e a → Passes skips b a
 skip_event b a (Message e) h =
-    passes_on skips b h.0 a (pass_token skips _ b h.0 h.1 (way_skipped e.way)) (section_gap h.0 a (pass_signal e h.0 a h.2))
+    passes_on skips b h.0 a (pass_token skips _ b h.0 h.1 (way_skipped e.direction)) (section_gap h.0 a (pass_signal e h.0 a h.2))
 skip_event b a (Action l) h =
     passes_on skips b h.0 a (pass_token skips _ b h.0 h.1 refl) (section_gap h.0 a (pass_action l h.0 a h.2))
 

@@ -4,8 +4,8 @@ use Rattle.std.proofs.Math.Seq.{get_or-append_seam}
 use Rattle.std.proofs.lemmas.List.{append_assoc}
 use Rattle.msc_lexer.specs.declared.token.Token.{Token}
 use Rattle.msc_lexer.specs.Lexemes.{IsWithin, AreWithin}
-use Rattle.msc_place.specs.declared.spots.Spot.{Spot}
-use Rattle.msc_place.specs.Spots.{IsSpot, IsFound, IsBehind}
+use Rattle.msc_place.specs.declared.tokens_at.TokenAt.{TokenAt}
+use Rattle.msc_place.specs.TokensAt.{IsTokenAt, IsFound, IsBehind}
 use Rattle.msc_place.proofs.Collected.{no_token}
 
 -- a token among those of a text stands in it
@@ -37,8 +37,8 @@ behind_within text tokens front rest (Some b) within whole behind =
     let own = among text tokens behind.0 rest t within cut in
     omega (arith, own.inside, behind.3)
 
-pub spot_within : (text : List ℕ) (tokens : List Token) (at : ℕ) (spot : Spot)
-    → AreWithin text tokens → IsSpot tokens at spot
+pub spot_within : (text : List ℕ) (tokens : List Token) (at : ℕ) (spot : TokenAt)
+    → AreWithin text tokens → IsTokenAt tokens at spot
     → IfSome spot.token (IsWithin text) × IfSome spot.behind (λ b. b ≤ length text)
 spot_within text tokens at spot within h = (
   found_within text tokens h.front h.rest at spot.token within h.whole h.found,

@@ -22,7 +22,7 @@ pub passes_none : (test : Symbol → Bool) (a : List Lexeme) → Passes test a a
 passes_none test a = record { gap = []; whole = refl; fails = tt }
 
 -- each of two lists passes, so both do
-AllByRecursion-append : {X : Type 0} (P : X → Type 0) (xs ys : List X) → AllByRecursion P xs
+pub AllByRecursion-append : {X : Type 0} (P : X → Type 0) (xs ys : List X) → AllByRecursion P xs
     → AllByRecursion P ys → AllByRecursion P (xs ++ ys)
 AllByRecursion-append P [] ys h k = k
 AllByRecursion-append P (x ∷ xs) ys h k = (h.0, AllByRecursion-append P xs ys h.1 k)

@@ -2,9 +2,9 @@
 pub mod Positions
 pub mod Excerpts
 pub mod Standing
-pub mod Spots
+pub mod TokensAt
 pub mod Texts
-pub mod Sites
+pub mod EventPositions
 -- what the code keeps
 pub mod Collecting
 pub mod Marks

@@ -43,8 +43,8 @@ pub record AreTokensOf (text : List ℕ) (ls : List Lexeme) : Type 0 where
   pub have : HasTokens text tokens
   pub seen : lexemes text tokens ≡ ls
 
--- The tokens `own` are the statement of event e, up to its `;`: those before it begin e statements of
--- events, and the e-th event of the draft is read from it.
+-- The tokens `own` are the statement of event e, up to its `;`: those before it begin e statements
+-- of events, and the e-th event of the draft is read from it.
 pub record IsStatement (text : List ℕ) (t : Tree) (e : ℕ) (event : Statement) (front own after : List Lexeme) : Type 0 where
   pub whole : AreTokensOf text (front ++ (own ++ after))
   pub earlier : tokens_with begins_event front ≡ e
@@ -79,7 +79,7 @@ pub record NamesAddress (text : List ℕ) (t : Tree) (e at : ℕ) : Type 0 where
   pub word : ℕ
   pub close : List Lexeme
   pub after : List Lexeme
-  pub statement : IsStatement text t e (Message event) front (lead ++ record { symbol = Reserved (address_word event.way); place = word } ∷ record { symbol = Named event.address; place = at } ∷ close) after
+  pub statement : IsStatement text t e (Message event) front (lead ++ record { symbol = Reserved (address_word event.direction); place = word } ∷ record { symbol = Named event.address; place = at } ∷ close) after
 
 -- event e is an action, which has no address
 pub record HasNoAddress (t : Tree) (e : ℕ) : Type 0 where
@@ -108,8 +108,8 @@ pub record NamesSection (text : List ℕ) (t : Tree) (i at : ℕ) : Type 0 where
   pub listed : slice_get t.sections i ≡ Some section
   pub is_section : IsSection own section after
 
--- The name of decl k of the header stands at this place: behind an `inst` or a comma, before which k
--- others and no section stand, and the k-th decl of the header is read from it on.
+-- The name of decl k of the header stands at this place: behind an `inst` or a comma, before which
+-- k others and no section stand, and the k-th decl of the header is read from it on.
 pub record NamesDecl (text : List ℕ) (t : Tree) (k at : ℕ) : Type 0 where
   pub decl : Decl
   pub front : List Lexeme

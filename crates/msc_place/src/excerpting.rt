@@ -17,7 +17,8 @@ const SHOWN: usize = 100;
 /// The greatest number of columns that are shown before the place.
 const BEFORE: usize = 49;
 
-/// What is shown for a byte: itself, a blank for a tab, and `?` for a byte that can't be printed.
+/// The byte that is shown for a byte: itself, a blank for a tab, and `?` for a byte that can't be
+/// printed.
 fn shown(byte: u8) -> u8
     ensures { result ≡ shown byte }
 {
@@ -28,7 +29,7 @@ fn shown(byte: u8) -> u8
     }
 }
 
-/// Where the line of a place ends, before its LF.
+/// The place of the end of a line, before its LF.
 fn line_end(text: &[u8], at: usize) -> usize
     requires { at ≤ length text.now }
     ensures end { result ≡ at + position_or_len (is_line_end) (drop at text.now) }
@@ -62,7 +63,7 @@ fn window(alloc: Global, line: &[u8], first: usize) -> Result<Vec<u8>, AllocErro
         .collect(alloc)
 }
 
-/// So many blanks.
+/// `count` blanks.
 fn blanks(alloc: Global, count: usize) -> Result<Vec<u8>, AllocError>
     ensures { IfOk result (λ bytes. bytes.items ≡ replicate count 32) }
 {
@@ -83,7 +84,7 @@ fn marked(alloc: Global, line: &[u8], before: usize) -> Result<Vec<u8>, AllocErr
     Ok(lines)
 }
 
-/// The line of a place behind two blanks, and a line with `^` below the place, each with its LF.
+/// The line of a place after two blanks, and a line with `^` below the place, each with its LF.
 ///
 /// Each byte is one of 32 to 126, or LF: a tab is a blank, and any other byte is `?`. A
 /// continuation byte of UTF-8 is left out, and so is a CR at the line's end. Of a long line 100

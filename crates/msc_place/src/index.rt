@@ -8,7 +8,7 @@ use crate::position::Position;
 use std::alloc::{AllocError, Global};
 use std::marker::Model;
 
-/// Between two places whose positions are kept there are so many bytes.
+/// The distance of two neighbouring places whose positions are kept, in bytes.
 pub(crate) const STEP: usize = 256;
 
 /// A text with the positions of some of its places, so that no position is counted from the text's

@@ -1,5 +1,5 @@
-//! A law of places, over the definitions alone. The function has no code: a caller calls it to rest
-//! its own proof on the law.
+//! A law of places, over the definitions alone. The function has no code: a caller calls it for the
+//! law.
 
 ghost use Rattle.msc_place.specs.Standing.{EachEventBeginsOnce};
 

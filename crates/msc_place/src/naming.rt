@@ -11,13 +11,13 @@ use std::alloc::{AllocError, Global};
 /// A part of a chart that has names of instances.
 #[derive(Clone, Copy)]
 pub(crate) enum Part {
-    /// What stands before the first section.
+    /// The part before the first section.
     Header,
     /// The sections.
     Sections,
 }
 
-/// Whether a name of the part stands behind the token.
+/// Whether a name of the part follows the token.
 fn leads_name(part: Part, token: &Token) -> bool
     ensures { (text : List ℕ) → result ≡ leads_name part (lexeme_of text token.now).symbol }
 {

@@ -1,4 +1,4 @@
-//! Where the parts of a draft stand in its text.
+//! The places of the parts of a draft in its text.
 
 ghost use Rattle.std.specs.Prelude.{◌≡◌, ◌≤◌, List, length, IfOk, IfSome, MatchOption};
 ghost use Rattle.std.specs.Prelude.{slice_get};
@@ -8,7 +8,7 @@ ghost use Rattle.msc_lexer.specs.Lexing.{HasTokens};
 ghost use Rattle.msc_parser.specs.Drafts.{statements_of};
 ghost use Rattle.msc_parser.specs.Grammar.{Tree};
 ghost use Rattle.msc_parser.specs.Parsing.{HasDraft};
-ghost use Rattle.msc_place.specs.Sites.{AreSites};
+ghost use Rattle.msc_place.specs.EventPositions.{AreEventPositions};
 ghost use Rattle.msc_place.specs.Standing.{ArePlaces, IsInside, IsEventPlace};
 ghost use Rattle.msc_place.specs.Standing.{NamesDecl, NamesSection};
 ghost use Rattle.msc_place.specs.Standing.{HasNoneOnLine, IsFirstOnLine};
@@ -22,8 +22,8 @@ use msc_lexer::{LexFault, Token, lex};
 use std::alloc::{AllocError, Global};
 use std::marker::Model;
 
-/// Where the statement of an event stands: the place of its first byte, the place behind its `;`,
-/// and the place of its address, which an action does not have.
+/// The places of the statement of an event: of its first byte, after its `;`, and of its address,
+/// which an action does not have.
 #[derive(Clone, Copy, Debug, PartialEq, Eq)]
 pub struct EventPlace {
     pub start: usize,
@@ -34,8 +34,8 @@ pub struct EventPlace {
 /// The places of the parts of a text: of the statements of its events, of the names of its
 /// sections, and of the names in its header, each numbered from 0 in the order of the text.
 ///
-/// Contracts see the text and the lists of the places. Of a text that has no draft the places have
-/// no meaning.
+/// Contracts see the text and the lists of the places. If a text has no draft, its places have no
+/// meaning.
 #[derive(Drop)]
 pub struct Places<'t> {
     text: &'t [u8],
@@ -55,7 +55,7 @@ impl<'t> Model for Places<'t> {
         ArePlaces (text_places p.text.now p.events.items p.sections.items p.header.items) };
 }
 
-/// The tokens of a text, or none where it has a lexical fault.
+/// The tokens of a text, or none if it has a lexical fault.
 pub(crate) fn tokens_of(alloc: Global, text: &[u8]) -> Result<Vec<Token>, AllocError>
     ensures tokens { IfOk result (λ v. (ts : List Token) → HasTokens text.now ts → v.items ≡ ts) }
     ensures within { IfOk result (λ v. AreWithin text.now v.items) }
@@ -100,15 +100,14 @@ impl<'t> Places<'t> {
         self.text
     }
 
-    /// What the places of every text keep. It does nothing; a caller calls it to rest its own proof
-    /// on that.
+    /// The facts that hold for the places of every text. It does nothing.
     pub fn known(&self)
         ensures { ArePlaces self.now }
     {
         let _text = self.text;
     }
 
-    /// Where the statement of event `e` stands, if there is such an event. It takes no memory.
+    /// The places of the statement of event `e`, if there is such an event. It takes no memory.
     pub fn event(&self, e: usize) -> Option<EventPlace>
         ensures value { result ≡ slice_get self.now.stand.events e }
         ensures inside { IfSome result (IsInside (length self.now.text)) }
@@ -120,7 +119,7 @@ impl<'t> Places<'t> {
         nth(&self.events, e)
     }
 
-    /// Where the name of section `i` stands, if there is such a section. It takes no memory.
+    /// The place of the name of section `i`, if there is such a section. It takes no memory.
     pub fn section(&self, i: usize) -> Option<usize>
         ensures value { result ≡ slice_get self.now.stand.sections i }
         ensures inside { IfSome result (λ at. at ≤ length self.now.text) }
@@ -131,7 +130,7 @@ impl<'t> Places<'t> {
         nth(&self.sections, i)
     }
 
-    /// Where name `k` of the header stands, if there is such a name. It takes no memory.
+    /// The place of name `k` of the header, if there is such a name. It takes no memory.
     pub fn header(&self, k: usize) -> Option<usize>
         ensures value { result ≡ slice_get self.now.stand.header k }
         ensures inside { IfSome result (λ at. at ≤ length self.now.text) }
@@ -147,7 +146,7 @@ impl<'t> Places<'t> {
     pub fn positions(&self, alloc: Global, lines: &Lines) -> Result<Vec<Position>, AllocError>
         requires { lines.now ≡ self.now.text }
         ensures { IfOk result (λ positions. (t : Tree) → HasDraft self.now.text t
-            → AreSites self.now.text t positions.items) }
+            → AreEventPositions self.now.text t positions.items) }
     {
         self.known();
         let mut positions = Vec::new(alloc);

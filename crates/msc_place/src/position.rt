@@ -20,7 +20,7 @@ pub(crate) fn begins_character(byte: u8) -> bool
     byte < 128 || 191 < byte
 }
 
-/// Where the last line of the bytes begins.
+/// The place of the last line of the bytes.
 pub(crate) fn line_start(before: &[u8]) -> usize
     ensures { BeginsLine before.now result }
 {
@@ -30,7 +30,7 @@ pub(crate) fn line_start(before: &[u8]) -> usize
     }
 }
 
-/// How many lines end in the bytes.
+/// The number of lines that end in the bytes.
 fn line_ends(above: &[u8]) -> usize
     ensures count { result ≡ count_by (is_line_end) above.now }
     ensures within { result ≤ length above.now }
@@ -38,7 +38,7 @@ fn line_ends(above: &[u8]) -> usize
     above.iter().filter(|byte| **byte == b'\n').count()
 }
 
-/// How many columns the bytes of a line take.
+/// The number of columns of the bytes of a line.
 pub(crate) fn columns(line: &[u8]) -> usize
     ensures count { result ≡ count_by begins_character line.now }
     ensures within { result ≤ length line.now }
@@ -47,8 +47,8 @@ pub(crate) fn columns(line: &[u8]) -> usize
 }
 
 impl Position {
-    /// The line and the column of a place, both from 1. LF alone ends a line, and a column is a
-    /// byte that is no continuation byte of UTF-8. It takes no memory.
+    /// The line and the column of a place, both from 1. Only LF ends a line, and a column is a byte
+    /// that is no continuation byte of UTF-8. It takes no memory.
     pub fn of(text: &[u8], at: usize) -> Position
         requires { at ≤ length text.now }
         ensures { IsPosition text.now at result.line result.column }
@@ -61,7 +61,7 @@ impl Position {
         }
     }
 
-    /// The position behind these bytes, which begin at this one.
+    /// The position after these bytes, which begin at this one.
     pub(crate) fn moved(self, bytes: &[u8]) -> Position
         requires line { self.line + length bytes.now ≤ usize.MAX }
         requires column { self.column + length bytes.now ≤ usize.MAX }

@@ -28,14 +28,14 @@ fn is_semicolon(token: &Token) -> bool
     token.kind == Kind::Semicolon
 }
 
-/// Whether an address stands behind the token.
+/// Whether an address follows the token.
 fn leads_address(token: &Token) -> bool
     ensures { (text : List ℕ) → result ≡ leads_address (lexeme_of text token.now).symbol }
 {
     matches!(token.kind, Kind::Word(Word::To | Word::From))
 }
 
-/// Where the first token stands.
+/// The place of the first token.
 pub(crate) fn first_place(tokens: &[Token]) -> usize
     ensures { (text : List ℕ) → result ≡ first_place (lexemes text tokens.now) }
 {
@@ -45,7 +45,7 @@ pub(crate) fn first_place(tokens: &[Token]) -> usize
     }
 }
 
-/// The place behind the first `;`.
+/// The place after the first `;`.
 fn end_of(tokens: &[Token]) -> usize
     ensures { (text : List ℕ) → result ≡ end_of (lexemes text tokens.now) }
 {
@@ -72,7 +72,7 @@ fn address_of(tokens: &[Token]) -> Option<usize>
     None
 }
 
-/// The place of the statement that these tokens begin with.
+/// The places of the statement that these tokens begin with.
 fn event_place(tokens: &[Token]) -> EventPlace
     ensures { (text : List ℕ) → result ≡ event_place (lexemes text tokens.now) }
 {

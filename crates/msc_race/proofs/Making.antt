@@ -1,4 +1,4 @@
--- How a chosen run is made: what the code keeps, step by step.
+-- How a witness is made: what the code keeps, step by step.
 pub mod ChoiceLemmas
 pub mod RowLemmas
 pub mod StateLemmas

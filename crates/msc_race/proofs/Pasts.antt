@@ -1,7 +1,7 @@
--- Short runs: what they show, and how they are made.
+-- Short witnesses: what they show, and how they are made.
 pub mod Pigeons
 pub mod SameSteps
-pub mod ShortRuns
+pub mod ShortWitnesses
 pub mod PlaceLemmas
 pub mod TurnLemmas
 pub mod ShortSteps

@@ -3,6 +3,7 @@ pub mod Standing
 pub mod EventLemmas
 pub mod Respects
 pub mod EnforcedPairs
+pub mod Needed
 pub mod Inside
 pub mod Progress
 pub mod Growing
@@ -12,8 +13,8 @@ pub mod FreeFirst
 pub mod Tables
 pub mod Reversal
 pub mod RaceLaws
-pub mod ChosenRuns
+pub mod Witnesses
 pub mod Deciding
 pub mod FreeRuns
-pub mod ChosenExists
+pub mod WitnessExists
 pub mod RunEvents

@@ -1,7 +1,7 @@
--- What is kept while a chosen run is made.
+-- What is kept while a witness is made.
 use Rattle.std.specs.Prelude.{◌≡◌, ℕ, ◌<◌, false, ◌↔◌, List, [], IsTrue}
 use Rattle.msc_chart.specs.Lists.{occurs, Steps}
-use Rattle.msc_chart.specs.Chosen.{IsChosenNext}
+use Rattle.msc_chart.specs.Witness.{IsWitnessNext}
 use Rattle.msc_race.specs.declared.choosing.Choice.{Choice}
 use Rattle.msc_race.specs.declared.beginning.Beginning.{Beginning}
 use Rattle.bit_rows.specs.Rows.{has}
@@ -22,9 +22,9 @@ HoldsLeft row P past = (y : ℕ) → IsTrue (has row y) ↔ (P y × (occurs past
 abbrev pub run_of : Beginning → List ℕ
 run_of f = f.queued.run.items
 
--- the beginning of a chosen run, and what is known of the events that it has not got
+-- the beginning of a witness, and what is known of the events that it has not got
 pub record IsBeginning (c : Choice) (f : Beginning) : Type 0 where
-  pub steps : Steps (IsChosenNext (wired_chart c) c.e) [] (run_of f)
+  pub steps : Steps (IsWitnessNext (wired_chart c) c.e) [] (run_of f)
   pub lines : HoldsLines c.wiring.chart.now f.lines
   pub queues : HoldsQueues (wired_chart c) (run_of f) f.queued
   pub rows : AreRows (event_count c) f.remaining
@@ -32,7 +32,7 @@ pub record IsBeginning (c : Choice) (f : Beginning) : Type 0 where
   pub first : HasFirstWords f.remaining f.lines.left.items
   pub left : HoldsLeft f.lines.left.items (λ y. y < event_count c) (run_of f)
 
--- the beginning of the chosen run of the choice's event
-pub record IsChosenSoFar (c : Choice) (f : Beginning) : Type 0 where
+-- the beginning of the witness of the choice's event
+pub record IsWitnessSoFar (c : Choice) (f : Beginning) : Type 0 where
   pub settled : IsChoice c
   pub kept : IsBeginning c f

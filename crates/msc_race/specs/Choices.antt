@@ -1,4 +1,4 @@
--- What a chosen run is made from, as the code holds it.
+-- What a witness is made from, as the code holds it.
 use Rattle.std.specs.Prelude.{◌≡◌, ℕ, ◌<◌, length}
 use Rattle.msc_chart.specs.Drawings.{IsAccepted}
 use Rattle.msc_chart.specs.Orders.{WiredChart, IsEnforcedOrder}

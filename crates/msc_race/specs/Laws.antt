@@ -6,7 +6,7 @@ use Rattle.msc_chart.specs.Charts.{before}
 use Rattle.msc_chart.specs.Drawings.{Drawing, IsAccepted}
 use Rattle.msc_chart.specs.Orders.{WiredChart, wired, Enforced, IsRace}
 use Rattle.msc_chart.specs.Runs.{Run, MayCome, IsWhole, KeepsDrawnOrder, Reverses}
-use Rattle.msc_chart.specs.Chosen.{IsFree, MayComeFree, SomeFreeLeft, IsChosenNext, IsChosenRun}
+use Rattle.msc_chart.specs.Witness.{IsFree, MayComeFree, SomeFreeLeft, IsWitnessNext, IsWitness}
 
 -- what is enforced before an event of a run occurs in it earlier
 abbrev pub EveryRunKeepsTheEnforcedOrder : Type 0
@@ -83,50 +83,50 @@ RunsKeepTheDrawnOrder =
     → HasNoRace (wired queues d)
     ↔ ((events : List ℕ) → Run (wired queues d) events → KeepsDrawnOrder (wired queues d) events)
 
--- each event has a chosen run
-abbrev pub AChosenRunExists : Type 0
-AChosenRunExists =
+-- each event has a witness
+abbrev pub AWitnessExists : Type 0
+AWitnessExists =
     (queues : Queues) (d : Drawing) → IsAccepted d → (e : ℕ) → e < length d.events
-    → (events : List ℕ) × IsChosenRun (wired queues d) e events
+    → (events : List ℕ) × IsWitness (wired queues d) e events
 
 -- and no other one
-abbrev pub ChosenRunsAreUnique : Type 0
-ChosenRunsAreUnique =
+abbrev pub WitnessesAreUnique : Type 0
+WitnessesAreUnique =
     (queues : Queues) (d : Drawing) (e : ℕ) (xs ys : List ℕ)
-    → IsChosenRun (wired queues d) e xs → IsChosenRun (wired queues d) e ys → xs ≡ ys
+    → IsWitness (wired queues d) e xs → IsWitness (wired queues d) e ys → xs ≡ ys
 
--- a chosen run is a whole run
-abbrev pub ChosenRunsAreWhole : Type 0
-ChosenRunsAreWhole =
+-- a witness is a whole run
+abbrev pub WitnessesAreWhole : Type 0
+WitnessesAreWhole =
     (queues : Queues) (d : Drawing) (e : ℕ) (events : List ℕ)
-    → IsChosenRun (wired queues d) e events
+    → IsWitness (wired queues d) e events
     → Run (wired queues d) events × IsWhole (wired queues d) events
 
--- each other event that is not enforced after e occurs in the chosen run of e, and before e
-abbrev pub ChosenRunsReverse : Type 0
-ChosenRunsReverse =
+-- each other event that is not enforced after e occurs in the witness of e, and before e
+abbrev pub WitnessesReverse : Type 0
+WitnessesReverse =
     (queues : Queues) (d : Drawing) (e : ℕ) (events : List ℕ)
-    → IsChosenRun (wired queues d) e events
+    → IsWitness (wired queues d) e events
     → (f : ℕ) → IsFree (wired queues d) e f
     → Reverses events e f × IsTrue (occurs (until events e) f)
 
--- so the chosen run of e reverses each race of e
-abbrev pub ChosenRunsReverseRaces : Type 0
-ChosenRunsReverseRaces =
+-- so the witness of e reverses each race of e
+abbrev pub WitnessesReverseRaces : Type 0
+WitnessesReverseRaces =
     (queues : Queues) (d : Drawing) (e : ℕ) (events : List ℕ)
-    → IsChosenRun (wired queues d) e events
+    → IsWitness (wired queues d) e events
     → (f : ℕ) → IsRace (wired queues d) e f → Reverses events e f
 
--- the beginning of a chosen run is a run
-abbrev pub ChosenStepsAreARun : Type 0
-ChosenStepsAreARun =
+-- the beginning of a witness is a run
+abbrev pub WitnessStepsAreARun : Type 0
+WitnessStepsAreARun =
     (queues : Queues) (d : Drawing) (e : ℕ) (past : List ℕ)
-    → Steps (IsChosenNext (wired queues d) e) [] past → Run (wired queues d) past
+    → Steps (IsWitnessNext (wired queues d) e) [] past → Run (wired queues d) past
 
--- while a free event is left, the beginning of a chosen run goes on to a free event that does not
+-- while a free event is left, the beginning of a witness goes on to a free event that does not
 -- wait
-abbrev pub ChosenRunsGoOn : Type 0
-ChosenRunsGoOn =
+abbrev pub WitnessesGoOn : Type 0
+WitnessesGoOn =
     (queues : Queues) (d : Drawing) → IsAccepted d → (e : ℕ) → e < length d.events
-    → (past : List ℕ) → Steps (IsChosenNext (wired queues d) e) [] past
+    → (past : List ℕ) → Steps (IsWitnessNext (wired queues d) e) [] past
     → SomeFreeLeft (wired queues d) e past → (x : ℕ) × MayComeFree (wired queues d) e past x

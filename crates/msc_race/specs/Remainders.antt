@@ -2,7 +2,7 @@
 use Rattle.std.specs.Prelude.{◌≡◌, ℕ, ◌<◌, ◌↔◌, List, IsTrue}
 use Rattle.msc_chart.specs.Charts.{is_input, is_output}
 use Rattle.msc_chart.specs.Orders.{WiredChart, queue}
-use Rattle.msc_chart.specs.Chosen.{IsFree, IsHeld, IsPassedOn}
+use Rattle.msc_chart.specs.Witness.{IsFree, IsHeld, IsPassedOn}
 use Rattle.msc_race.specs.declared.choosing.Choice.{Choice}
 use Rattle.msc_race.specs.declared.remaining.Remaining.{Remaining}
 use Rattle.bit_rows.specs.Rows.{has, AreApartTo, IsFirstCommon}
@@ -36,14 +36,15 @@ IsFreeWith chart e x =
 abbrev pub HoldsOthers : List ℕ → (ℕ → Type 0) → (ℕ → Type 0) → ℕ → Type 0
 HoldsOthers row P Q k = (y : ℕ) → IsTrue (has row y) ↔ (P y × (y < k → Q y → ⊥))
 
--- The rows hold the free events, those of them that are not held as far as that is told of the events
--- below k, and of these those that are passed on with e.
+-- The rows hold the free events, those of them that are not held as far as that is told of the
+-- events below k, and of these those that are passed on with e.
 pub record AreToldBelow (c : Choice) (r : Remaining) (k : ℕ) : Type 0 where
   pub free : (y : ℕ) → IsTrue (has r.free.items y) ↔ IsFree (wired_chart c) c.e y
   pub unheld : HoldsOthers r.unheld.items (IsFree (wired_chart c) c.e) (IsHeld (wired_chart c) c.e) k
   pub passed : HoldsBelow r.passed.items (IsPassedOnWith (wired_chart c) c.e) k
 
--- the rows hold the free events, those of them that are not held, and those that are passed on with e
+-- the rows hold the free events, those of them that are not held, and those that are passed on with
+-- e
 pub record AreTold (c : Choice) (r : Remaining) : Type 0 where
   pub free : HoldsExactly r.free.items (IsFree (wired_chart c) c.e)
   pub unheld : HoldsExactly r.unheld.items (IsUnheld (wired_chart c) c.e)

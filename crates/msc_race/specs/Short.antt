@@ -1,10 +1,10 @@
--- The short run of two events: it ends with the second, and does not have the first.
+-- The short witness of two events: it ends with the second, and does not have the first.
 use Rattle.std.specs.Prelude.{◌≡◌, ℕ, ◌≤◌, ◌⊎◌, ◌↔◌, false, List, [], ◌∷◌, ◌++◌, length, IsTrue}
 use Rattle.msc_chart.specs.Lists.{occurs, until, IsLeast, Steps}
 use Rattle.msc_chart.specs.Charts.{partner, is_output}
 use Rattle.msc_chart.specs.Orders.{WiredChart, queue, Enforced}
 use Rattle.msc_chart.specs.Runs.{Run, MayCome}
-use Rattle.msc_chart.specs.Chosen.{IsChosenRun}
+use Rattle.msc_chart.specs.Witness.{IsWitness}
 use Rattle.msc_race.specs.Reversals.{ComesFirst}
 
 -- x is of the past of f: it is f, or enforced before f
@@ -46,15 +46,15 @@ IsNeededRun chart f events = Steps (IsShortNext chart f) [] events × HasNeeded 
 abbrev pub HasNoNeededRun : WiredChart → ℕ → Type 0
 HasNoNeededRun chart f = (events : List ℕ) → IsNeededRun chart f events → ⊥
 
--- the chosen run of e, up to f and with it
-abbrev pub IsChosenUpTo : WiredChart → ℕ → ℕ → List ℕ → Type 0
-IsChosenUpTo chart e f events = (run : List ℕ) × IsChosenRun chart e run × (events ≡ until run f ++ f ∷ [])
+-- the witness of e, up to f and with it
+abbrev pub IsWitnessUpTo : WiredChart → ℕ → ℕ → List ℕ → Type 0
+IsWitnessUpTo chart e f events = (run : List ℕ) × IsWitness chart e run × (events ≡ until run f ++ f ∷ [])
 
--- The short run of e and f: the past of f as it comes so, where it all comes, and else the chosen run
--- of e up to f.
-abbrev pub IsShortRun : WiredChart → ℕ → ℕ → List ℕ → Type 0
-IsShortRun chart e f events =
-    IsNeededRun chart f events ⊎ (HasNoNeededRun chart f × IsChosenUpTo chart e f events)
+-- The short witness of e and f: the past of f as it comes so, where it all comes, and else the
+-- witness of e up to f.
+abbrev pub IsShortWitness : WiredChart → ℕ → ℕ → List ℕ → Type 0
+IsShortWitness chart e f events =
+    IsNeededRun chart f events ⊎ (HasNoNeededRun chart f × IsWitnessUpTo chart e f events)
 
 -- a run whose last event is f, which has f once and does not have e
 pub record ShowsWithout (chart : WiredChart) (e f : ℕ) (events : List ℕ) : Type 0 where
@@ -67,10 +67,11 @@ pub record IsLeastRun (chart : WiredChart) (f : ℕ) (events : List ℕ) : Type 
   pub exactly : (x : ℕ) → IsTrue (occurs events x) ↔ IsNeeded chart f x
   pub fewest : (other : List ℕ) → Run chart other → IsTrue (occurs other f) → length events ≤ length other
 
--- The short run of e and f, and what it shows: it is a run, f is its last event, and e is not in it. It
--- has the past of f and nothing else, where that can be, and then no run that has f is shorter.
+-- The short witness of e and f, and what it shows: it is a run, f is its last event, and e is not
+-- in it. It has the past of f and nothing else, where that can be, and then no run that has f is
+-- shorter.
 pub record IsShortAnswer (chart : WiredChart) (e f : ℕ) (events : List ℕ) : Type 0 where
-  pub short : IsShortRun chart e f events
+  pub short : IsShortWitness chart e f events
   pub shows : ShowsWithout chart e f events
-  pub least : IsLeastRun chart f events ⊎ IsChosenUpTo chart e f events
+  pub least : IsLeastRun chart f events ⊎ IsWitnessUpTo chart e f events
   pub apart : ComesFirst chart e f → ⊥

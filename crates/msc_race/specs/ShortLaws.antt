@@ -1,4 +1,4 @@
--- Laws of the short runs of an accepted chart, under each architecture.
+-- Laws of the short witnesses of an accepted chart, under each architecture.
 use Rattle.std.specs.Prelude.{◌≡◌, ℕ, ◌<◌, List, [], length, IsTrue}
 use Rattle.msc_chart.specs.declared.queue.Queues.{Queues}
 use Rattle.msc_chart.specs.Lists.{occurs, Steps}
@@ -6,7 +6,7 @@ use Rattle.msc_chart.specs.Drawings.{Drawing, IsAccepted}
 use Rattle.msc_chart.specs.Orders.{wired}
 use Rattle.msc_chart.specs.Runs.{Run}
 use Rattle.msc_race.specs.Reversals.{ComesFirst}
-use Rattle.msc_race.specs.Short.{HasNeeded, IsLeastRun, IsNeededRun, IsShortNext, IsShortRun, ShowsWithout}
+use Rattle.msc_race.specs.Short.{HasNeeded, IsLeastRun, IsNeededRun, IsShortNext, IsShortWitness, ShowsWithout}
 
 -- each run that has f has all of the past of f
 abbrev pub WhatIsEnforcedIsNeeded : Type 0
@@ -14,32 +14,33 @@ WhatIsEnforcedIsNeeded =
     (queues : Queues) (d : Drawing) → IsAccepted d → (events : List ℕ) → Run (wired queues d) events
     → (f : ℕ) → IsTrue (occurs events f) → HasNeeded (wired queues d) f events
 
--- the short run of two events is a run that has the second as its last event, and not the first
-abbrev pub ShortRunsShow : Type 0
-ShortRunsShow =
+-- the short witness of two events is a run that has the second as its last event, and not the first
+abbrev pub ShortWitnessesShow : Type 0
+ShortWitnessesShow =
     (queues : Queues) (d : Drawing) → IsAccepted d → (e f : ℕ) → f < length d.events
-    → (ComesFirst (wired queues d) e f → ⊥) → (events : List ℕ) → IsShortRun (wired queues d) e f events
+    → (ComesFirst (wired queues d) e f → ⊥) → (events : List ℕ) → IsShortWitness (wired queues d) e f events
     → ShowsWithout (wired queues d) e f events
 
--- where the past of f all comes, the short run has exactly that, and no run that has f is shorter
+-- where the past of f all comes, the short witness has exactly that, and no run that has f is
+-- shorter
 abbrev pub NeededRunsAreLeast : Type 0
 NeededRunsAreLeast =
     (queues : Queues) (d : Drawing) → IsAccepted d → (f : ℕ) (events : List ℕ)
     → IsNeededRun (wired queues d) f events → IsLeastRun (wired queues d) f events
 
--- two events have a short run
-abbrev pub AShortRunExists : Type 0
-AShortRunExists =
+-- two events have a short witness
+abbrev pub AShortWitnessExists : Type 0
+AShortWitnessExists =
     (queues : Queues) (d : Drawing) → IsAccepted d → (e f : ℕ) → e < length d.events → f < length d.events
-    → (events : List ℕ) × IsShortRun (wired queues d) e f events
+    → (events : List ℕ) × IsShortWitness (wired queues d) e f events
 
 -- and no other one
-abbrev pub ShortRunsAreUnique : Type 0
-ShortRunsAreUnique =
+abbrev pub ShortWitnessesAreUnique : Type 0
+ShortWitnessesAreUnique =
     (queues : Queues) (d : Drawing) (e f : ℕ) (xs ys : List ℕ)
-    → IsShortRun (wired queues d) e f xs → IsShortRun (wired queues d) e f ys → xs ≡ ys
+    → IsShortWitness (wired queues d) e f xs → IsShortWitness (wired queues d) e f ys → xs ≡ ys
 
--- the beginning of a short run is a run
+-- the beginning of a short witness is a run
 abbrev pub ShortStepsAreARun : Type 0
 ShortStepsAreARun =
     (queues : Queues) (d : Drawing) (f : ℕ) (past : List ℕ)

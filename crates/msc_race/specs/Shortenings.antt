@@ -14,7 +14,7 @@ use Rattle.msc_race.specs.Short.{IsShortNext}
 abbrev pub events_of : Shortening → List ℕ
 events_of s = s.queued.run.items
 
--- events of the past that came as they come in the short run, and what is known of the others
+-- events of the past that came as they come in the short witness, and what is known of the others
 pub record IsShortening (c : Choice) (s : Shortening) : Type 0 where
   pub steps : Steps (IsShortNext (wired_chart c) c.e) [] (events_of s)
   pub lines : HoldsLines c.wiring.chart.now s.lines

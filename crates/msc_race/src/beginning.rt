@@ -1,18 +1,18 @@
-//! The beginning of a chosen run, and the event that comes next in it.
+//! The beginning of a witness, and the event that comes next in it.
 //!
 //! Sets of events are rows of bits, so that the least event of a set is found in a few steps.
 
 ghost use Rattle.std.specs.Prelude.{◌≡◌, ◌<◌, ◌↔◌, [], ◌∷◌, ◌++◌, IfOk, IfSome, IfNone, IsTrue};
 ghost use Rattle.std.specs.Prelude.{OnOk};
 ghost use Rattle.msc_chart.specs.Runs.{IsWhole};
-ghost use Rattle.msc_chart.specs.Chosen.{IsChosenNext};
+ghost use Rattle.msc_chart.specs.Witness.{IsWitnessNext};
 ghost use Rattle.msc_race.specs.Choices.{wired_chart, IsChoice};
-ghost use Rattle.msc_race.specs.Beginnings.{HaveCommon, IsBeginning, IsChosenSoFar};
+ghost use Rattle.msc_race.specs.Beginnings.{HaveCommon, IsBeginning, IsWitnessSoFar};
 ghost use Rattle.msc_race.specs.Beginnings.{run_of};
 ghost use Rattle.msc_race.specs.Remainders.{HasFirstWords};
 
 use crate::choosing::Choice;
-use crate::laws::{a_chosen_run_goes_on, no_run_is_stuck};
+use crate::laws::{a_witness_goes_on, no_run_is_stuck};
 use crate::lines::Lines;
 use crate::queued_run::QueuedRun;
 use crate::remaining::Remaining;
@@ -21,7 +21,7 @@ use msc_chart::Event;
 use msc_chart::laws::ends_share_queues;
 use std::alloc::{AllocError, Global};
 
-/// The beginning of a chosen run, and what is known of the events that it has not got.
+/// The beginning of a witness, and the facts on the events that it does not have.
 #[derive(Drop)]
 pub struct Beginning {
     pub remaining: Remaining,
@@ -68,15 +68,15 @@ impl Beginning {
         self.remaining.passed_from < self.remaining.passed.len()
     }
 
-    /// The next event of the chosen run, or none where it is whole.
+    /// The next event of the witness, or none if the run is whole.
     pub fn next(&self) -> Option<Event>
-        requires { (choice : Choice) × IsChosenSoFar choice self.now }
-        ensures some { (choice : Choice) → IsChosenSoFar choice self.now → IfSome result
-            (λ x. IsChosenNext (wired_chart choice) choice.e (run_of self.now) x) }
-        ensures none { (choice : Choice) → IsChosenSoFar choice self.now → IfNone result
+        requires { (choice : Choice) × IsWitnessSoFar choice self.now }
+        ensures some { (choice : Choice) → IsWitnessSoFar choice self.now → IfSome result
+            (λ x. IsWitnessNext (wired_chart choice) choice.e (run_of self.now) x) }
+        ensures none { (choice : Choice) → IsWitnessSoFar choice self.now → IfNone result
             (IsWhole (wired_chart choice) (run_of self.now)) }
     {
-        a_chosen_run_goes_on();
+        a_witness_goes_on();
         no_run_is_stuck();
         ends_share_queues();
         let controlled = &self.lines.controlled;
@@ -94,11 +94,11 @@ impl Beginning {
     pub fn occur(&mut self, choice: &Choice, x: Event) -> Result<(), AllocError>
         requires settled { IsChoice choice.now }
         requires kept { IsBeginning choice.now self.old }
-        requires next { IsChosenNext (wired_chart choice.now) choice.now.e (run_of self.old) x }
+        requires next { IsWitnessNext (wired_chart choice.now) choice.now.e (run_of self.old) x }
         ensures kept { OnOk result (IsBeginning choice.now self.new) }
         ensures run { OnOk result (run_of self.new ≡ run_of self.old ++ x ∷ []) }
     {
-        a_chosen_run_goes_on();
+        a_witness_goes_on();
         self.lines.occur(choice, x);
         self.remaining.seek(&self.lines.left);
         self.queued.occur(choice, x)

@@ -1,10 +1,10 @@
-//! What a chosen run is made from, and what each event is in it.
+//! The source of a witness, and the role of each event in it.
 
 ghost use Rattle.std.specs.Prelude.{◌≡◌, ℕ, ◌<◌, IsTrue, IfOk, ◌↔◌};
 ghost use Rattle.bit_rows.specs.Rows.{has};
 ghost use Rattle.msc_chart.specs.Charts.{is_input};
 ghost use Rattle.msc_chart.specs.Orders.{queue};
-ghost use Rattle.msc_chart.specs.Chosen.{IsFree};
+ghost use Rattle.msc_chart.specs.Witness.{IsFree};
 ghost use Rattle.msc_race.specs.Choices.{wired_chart, event_count, IsChoice};
 ghost use Rattle.msc_race.specs.Remainders.{IsFreeWith};
 ghost use Rattle.msc_race.specs.Rows.{IsRow};
@@ -14,8 +14,8 @@ use msc_chart::{Event, Wiring};
 use msc_order::Order;
 use std::alloc::{AllocError, Global};
 
-/// What the chosen run of an event is made from: a chart under an architecture, its enforced order,
-/// and the event.
+/// The source of the witness of an event: a chart under an architecture, its enforced order, and
+/// the event.
 #[derive(Clone, Copy)]
 pub struct Choice<'a> {
     pub wiring: Wiring<'a>,
@@ -49,7 +49,7 @@ impl Choice<'_> {
         Ok(row)
     }
 
-    /// Whether `x` is a free output to queue `q`, that of `e`, an input.
+    /// Whether `x` is a free output to queue `q`, the queue of `e`, an input.
     pub fn is_free_with(&self, q: u32, x: Event) -> bool
         requires settled { IsChoice self.now }
         requires known { x < event_count self.now }

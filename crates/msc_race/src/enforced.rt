@@ -89,32 +89,32 @@ impl<'a> Enforced<'a> {
         self.order.holds(e, f)
     }
 
-    /// What every such chart keeps. It does nothing; a caller calls it to rest its own proof on
-    /// that.
-    pub fn enforced(&self)
+    /// The facts that hold for every such chart. It does nothing when it runs; a caller that needs
+    /// these facts calls it.
+    pub fn facts(&self)
         ensures order { HasEnforcedOrder self.now }
         ensures chart { IsAccepted self.now.chart }
     {
         let chart = self.chart;
-        chart.accepted();
+        chart.facts();
     }
 
-    /// How many races the chart has. It takes no memory.
+    /// The number of races of the chart. It takes no memory.
     pub fn count_races(&self) -> u32
         ensures { result ≡ length (races_of self.now) }
     {
         count_races(self.chart, &self.order)
     }
 
-    /// How many events the chart has.
+    /// The number of events of the chart.
     pub fn events(&self) -> u32
         ensures { result ≡ length self.now.chart.events }
     {
         self.chart.events()
     }
 
-    /// Goes on to event `e` of a walk: the list has its races then, ascending. An error is a growth
-    /// of memory that was refused.
+    /// Proceeds to event `e` of a walk: the list then has its races, ascending. An error is a
+    /// growth of memory that was refused.
     pub fn next_races(
         &self,
         walk: &mut Walk,

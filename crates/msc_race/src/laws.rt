@@ -1,15 +1,15 @@
-//! Laws of the runs of a chart, over the definitions alone. The functions do nothing when they run:
-//! a caller calls one to rest its own proof on the law. Each law holds of every accepted chart
-//! under each architecture.
+//! Laws of the runs of a chart, over the definitions only. The functions do nothing when they run:
+//! a caller that needs a law calls its function. Each law holds of every accepted chart under each
+//! architecture.
 
 ghost use Rattle.std.specs.Prelude.{[], ◌∷◌};
 ghost use Rattle.msc_chart.specs.declared.queue.Queues.{Queues};
 ghost use Rattle.msc_chart.specs.declared.queue.Queues.TheVariants.{Mailbox, Pair, Single};
 ghost use Rattle.msc_chart.specs.Orders.{Enforced};
 ghost use Rattle.msc_chart.specs.Runs.{Run};
-ghost use Rattle.msc_race.specs.Laws.{AChosenRunExists, ChosenRunsAreUnique, ChosenRunsAreWhole};
-ghost use Rattle.msc_race.specs.Laws.{ChosenRunsGoOn, ChosenRunsReverse, ChosenRunsReverseRaces};
-ghost use Rattle.msc_race.specs.Laws.{ChosenStepsAreARun, EveryRunGoesOnToAWholeOne};
+ghost use Rattle.msc_race.specs.Laws.{AWitnessExists, WitnessesAreUnique, WitnessesAreWhole};
+ghost use Rattle.msc_race.specs.Laws.{WitnessesGoOn, WitnessesReverse, WitnessesReverseRaces};
+ghost use Rattle.msc_race.specs.Laws.{WitnessStepsAreARun, EveryRunGoesOnToAWholeOne};
 ghost use Rattle.msc_race.specs.Laws.{EveryRunKeepsTheEnforcedOrder, NoRunIsStuck};
 ghost use Rattle.msc_race.specs.Laws.{RacesAreWhatRunsReverse, RunsKeepTheDrawnOrder};
 ghost use Rattle.msc_race.specs.Laws.{TheEnforcedOrderHasNoCycle, TheEnforcedOrderIsExact};
@@ -18,13 +18,14 @@ ghost use Rattle.msc_race.specs.Laws.{WhatMayComeMakesALongerRun};
 ghost use Rattle.msc_race.specs.Samples.{IsReversal, NoRunReversesBoth, crossed, mailboxes};
 ghost use Rattle.msc_race.specs.Samples.{overtaken, relayed, senders, unordered};
 ghost use Rattle.msc_race.specs.Races.{AreRaces, EnforcedOrdersTellVerdicts};
-ghost use Rattle.msc_race.specs.ShortLaws.{AShortRunExists, NeededRunsAreLeast, ShortRunsAreUnique};
-ghost use Rattle.msc_race.specs.ShortLaws.{ShortRunsShow, ShortStepsAreARun};
+ghost use Rattle.msc_race.specs.ShortLaws.{AShortWitnessExists, NeededRunsAreLeast};
+ghost use Rattle.msc_race.specs.ShortLaws.{ShortWitnessesAreUnique};
+ghost use Rattle.msc_race.specs.ShortLaws.{ShortWitnessesShow, ShortStepsAreARun};
 ghost use Rattle.msc_race.specs.ShortLaws.{WhatIsEnforcedIsNeeded};
 
 use msc_chart::laws::ends_share_queues;
 
-/// What is enforced before an event of a run occurs in the run, earlier than the event.
+/// All that is enforced before an event of a run occurs in the run, earlier than the event.
 pub fn every_run_keeps_the_enforced_order()
     ensures { EveryRunKeepsTheEnforcedOrder }
 {
@@ -38,8 +39,8 @@ pub fn what_is_enforced_is_never_reversed()
     ends_share_queues();
 }
 
-/// A run is whole, or some event may come next, and makes it longer; so each run goes on to a
-/// whole one.
+/// A run is whole, or some event may come next and makes it longer; so each run can be continued to
+/// a whole one.
 pub fn no_run_is_stuck()
     ensures longer { NoRunIsStuck }
     ensures grows { WhatMayComeMakesALongerRun }
@@ -55,15 +56,15 @@ pub fn the_enforced_order_has_no_cycle()
     ends_share_queues();
 }
 
-/// For two events that are not enforced in an order, some whole run has the second without the
-/// first before it.
+/// If two events are not enforced in an order, some whole run has the second without the first
+/// before it.
 pub fn what_is_not_enforced_is_reversed()
     ensures { WhatIsNotEnforcedIsReversed }
 {
     ends_share_queues();
 }
 
-/// Two different events are enforced in an order exactly where no run has the later without the
+/// Two different events are enforced in an order if and only if no run has the later without the
 /// earlier before it.
 pub fn the_enforced_order_is_exact()
     ensures { TheEnforcedOrderIsExact }
@@ -71,7 +72,7 @@ pub fn the_enforced_order_is_exact()
     ends_share_queues();
 }
 
-/// A race is a drawn pair that some run reverses; there is none exactly where every run keeps the
+/// A race is a drawn pair that some run reverses; there is none if and only if every run keeps the
 /// drawn order.
 pub fn races_are_what_runs_reverse()
     ensures race { RacesAreWhatRunsReverse }
@@ -80,31 +81,31 @@ pub fn races_are_what_runs_reverse()
     ends_share_queues();
 }
 
-/// What the enforced order of an architecture does not hold of the drawn pairs makes a verdict: the
-/// drawn pairs that some run reverses, or `pass` where there are none.
+/// The drawn pairs that the enforced order of an architecture does not hold make a verdict: the
+/// drawn pairs that some run reverses, or `pass` if there are none.
 pub fn enforced_orders_tell_verdicts()
     ensures { EnforcedOrdersTellVerdicts }
 {
     races_are_what_runs_reverse();
 }
 
-/// Each event has exactly one chosen run. It is whole, and each other event that is not enforced
-/// after e stands before e in it: so it reverses every race of e.
-pub fn the_chosen_run_reverses()
-    ensures exists { AChosenRunExists }
-    ensures unique { ChosenRunsAreUnique }
-    ensures whole { ChosenRunsAreWhole }
-    ensures reverses { ChosenRunsReverse }
-    ensures races { ChosenRunsReverseRaces }
+/// Each event has exactly one witness. It is whole, and has each other event that is not
+/// enforced after the event before it. So it reverses every race of the event.
+pub fn the_witness_reverses()
+    ensures exists { AWitnessExists }
+    ensures unique { WitnessesAreUnique }
+    ensures whole { WitnessesAreWhole }
+    ensures reverses { WitnessesReverse }
+    ensures races { WitnessesReverseRaces }
 {
     ends_share_queues();
 }
 
-/// The beginning of a chosen run is a run, and while a free event is left it goes on to a free
-/// event that does not wait.
-pub fn a_chosen_run_goes_on()
-    ensures run { ChosenStepsAreARun }
-    ensures next { ChosenRunsGoOn }
+/// The beginning of a witness is a run, and while a free event is left, it can be continued to a
+/// free event that does not wait.
+pub fn a_witness_goes_on()
+    ensures run { WitnessStepsAreARun }
+    ensures next { WitnessesGoOn }
 {
     ends_share_queues();
 }
@@ -116,24 +117,24 @@ pub fn what_is_enforced_is_needed()
     ends_share_queues();
 }
 
-/// The beginning of a short run is a run.
+/// The beginning of a short witness is a run.
 pub fn short_steps_are_a_run()
     ensures { ShortStepsAreARun }
 {}
 
-/// Two events have exactly one short run. Where they are not enforced in an order it is a run, the
-/// second event is its last one, and the first is not in it. Where it has just the past of the
+/// Two events have exactly one short witness. If they are not enforced in an order it is a run, the
+/// second event is its last one, and the first is not in it. If it has exactly the past of the
 /// second event, no run that has that event is shorter.
-pub fn short_runs_show()
-    ensures exists { AShortRunExists }
-    ensures unique { ShortRunsAreUnique }
-    ensures shows { ShortRunsShow }
+pub fn short_witnesses_show()
+    ensures exists { AShortWitnessExists }
+    ensures unique { ShortWitnessesAreUnique }
+    ensures shows { ShortWitnessesShow }
     ensures least { NeededRunsAreLeast }
 {
     ends_share_queues();
 }
 
-/// What the definitions say of small charts: all their races, and where they have none.
+/// The definitions applied to small charts: all their races, and charts without races.
 pub fn worked_races()
     ensures two_senders_pair { AreRaces (senders Pair) ((1, 2) ∷ []) }
     ensures two_senders_mailbox { AreRaces (senders Mailbox) ((1, 2) ∷ []) }
@@ -148,7 +149,7 @@ pub fn worked_races()
     ensures mailboxes { AreRaces mailboxes ((4, 5) ∷ (6, 7) ∷ []) }
 {}
 
-/// What the definitions say of small charts: runs that reverse their races, a list that is no run,
+/// The definitions applied to small charts: runs that reverse their races, a list that is no run,
 /// and races that no run reverses together.
 pub fn worked_runs()
     ensures two_senders_pair { IsReversal (senders Pair) (0 ∷ 3 ∷ 2 ∷ 1 ∷ []) 1 2 }

@@ -1,4 +1,4 @@
-//! How far the lines of a chart have come in a run, and so which controlled events may come next.
+//! The progress of the lines of a chart in a run, and so the controlled events that may come next.
 
 ghost use Rattle.std.specs.Prelude.{◌≡◌, ℕ, ◌+◌, ◌<◌, ◌≤◌, ◌↔◌, ◌⊎◌, false, length, IfOk, IsTrue};
 ghost use Rattle.msc_chart.specs.Charts.{before, is_controlled, line};
@@ -16,7 +16,7 @@ use msc_chart::Event;
 use std::alloc::{AllocError, Global};
 
 /// The events that have not occurred, the first of them on each line, and the controlled events
-/// that may come next: those before which nothing that has not occurred is drawn.
+/// that may come next: those before which all drawn events have occurred.
 #[derive(Drop)]
 pub struct Lines {
     pub left: Vec<u64>,
@@ -24,7 +24,7 @@ pub struct Lines {
     pub controlled: Set,
 }
 
-/// Whether event `f` is there, and on line `i`.
+/// Whether event `f` exists, and is on line `i`.
 fn is_on(choice: &Choice, f: Event, i: u32) -> bool
     ensures { IsTrue result ↔ ((f < event_count choice.now)
         × (line choice.now.wiring.chart.now.events f ≡ i)) }
@@ -53,7 +53,7 @@ fn next_left(choice: &Choice, left: &[u64], i: u32, start: Event) -> Event
     events
 }
 
-/// Opens the controlled that are left from `f` up to `end`.
+/// Opens the controlled events that are left from `f` up to `end`.
 fn open_controlled(set: &mut Set, choice: &Choice, left: &[u64], f: Event, end: Event)
     requires row { IsRow (event_count choice.now) set.old }
     requires left_row { IsRow (event_count choice.now) left.now }
@@ -68,8 +68,8 @@ fn open_controlled(set: &mut Set, choice: &Choice, left: &[u64], f: Event, end: 
     }
 }
 
-/// Where the events end that are opened on line `i`, whose front goes from `start` to `front`: with
-/// the segment of `front`, where that is drawn after `start`, and else before any.
+/// The end of the events that are opened on line `i`, whose front moves from `start` to `front`:
+/// the end of the segment of `front` if that is drawn after `start`, otherwise none is opened.
 fn opened_end(choice: &Choice, i: u32, start: Event, front: Event) -> Event
     requires later { start ≤ front }
     requires within { front ≤ event_count choice.now }
@@ -86,7 +86,7 @@ fn opened_end(choice: &Choice, i: u32, start: Event, front: Event) -> Event
     choice.wiring.chart.segment_end(front)
 }
 
-/// The first event of each line; of a line without events the number of all events.
+/// The first event of each line, or the number of all events for a line without events.
 fn first_events(alloc: Global, choice: &Choice) -> Result<Vec<Event>, AllocError>
     requires { IsChoice choice.now }
     ensures lines { IfOk result
@@ -103,7 +103,7 @@ fn first_events(alloc: Global, choice: &Choice) -> Result<Vec<Event>, AllocError
 }
 
 impl Lines {
-    /// The lines while nothing is open yet.
+    /// The lines before any event is open.
     fn closed(alloc: Global, choice: &Choice) -> Result<Lines, AllocError>
         requires { IsChoice choice.now }
         ensures { IfOk result (λ l. HoldsLinesTo choice.now.wiring.chart.now l 0) }
@@ -147,7 +147,7 @@ impl Lines {
     }
 
     /// `x` occurs.
-    // Called for each event of a run, from two loops: as a call it costs more than a tenth of a run.
+    // Called for each event of a run, from two loops: as a call it costs over a tenth of a run.
     #[inline(always)]
     pub fn occur(&mut self, choice: &Choice, x: Event)
         requires settled { IsChoice choice.now }

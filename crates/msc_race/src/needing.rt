@@ -1,4 +1,5 @@
-//! The past of an event: the event, and what is enforced before it; and which outputs of it wait.
+//! The past of an event: the event, and all that is enforced before it; and which outputs of it
+//! wait.
 
 ghost use Rattle.std.specs.Prelude.{◌≡◌, ℕ, ◌+◌, ◌<◌, ◌≤◌, ◌↔◌, ◌⊎◌, length, IfOk, IsTrue};
 ghost use Rattle.bit_rows.specs.Rows.{has};
@@ -19,8 +20,9 @@ use msc_chart::Event;
 use msc_chart::laws::ends_share_queues;
 use std::alloc::{AllocError, Global};
 
-/// The past of the choice's event; those events of it that do not wait; and of each queue where its
-/// outputs stand, and a number below which none is left whose input is of the past too.
+/// The past of the choice's event; the events of the past that do not wait; and for each queue the
+/// place of its outputs, and a number below which no output is left whose input is also of the
+/// past.
 #[derive(Drop)]
 pub struct Needs {
     pub needed: Set,
@@ -57,7 +59,7 @@ fn needed_set(alloc: Global, choice: &Choice) -> Result<Set, AllocError>
     Ok(set)
 }
 
-/// Whether `x` is an output of the past whose input is of the past too.
+/// Whether `x` is an output of the past whose input is also of the past.
 fn is_taken(choice: &Choice, needed: &[u64], x: Event) -> bool
     requires settled { IsChoice choice.now }
     requires known { x < event_count choice.now }
@@ -99,7 +101,7 @@ fn is_sent(choice: &Choice, needed: &[u64], q: u32, x: Event) -> bool
     choice.wiring.queue(x) == q && has(needed, x)
 }
 
-/// The events of the past that are no held outputs.
+/// The events of the past without its held outputs.
 fn unheld_set(alloc: Global, choice: &Choice, needed: &[u64]) -> Result<Set, AllocError>
     requires settled { IsChoice choice.now }
     requires row { IsRow (event_count choice.now) needed.now }
@@ -133,7 +135,7 @@ impl Needs {
         })
     }
 
-    /// Whether `y` is an output of queue `q` that is left, and whose input is of the past too.
+    /// Whether `y` is an output of queue `q` that is left, and whose input is also of the past.
     fn is_taken_left(&self, choice: &Choice, left: &[u64], q: u32, y: Event) -> bool
         requires settled { IsChoice choice.now }
         requires known { y < event_count choice.now }
@@ -147,7 +149,7 @@ impl Needs {
         choice.wiring.queue(y) == q && has(left, y)
     }
 
-    /// The least output of queue `q` that is left, and whose input is of the past too, or the
+    /// The least output of queue `q` that is left, and whose input is also of the past, or the
     /// number of events.
     fn next_taken(&self, choice: &Choice, left: &[u64], q: u32) -> Event
         requires settled { IsChoice choice.now }
@@ -166,7 +168,7 @@ impl Needs {
         choice.wiring.chart.events()
     }
 
-    /// The outputs of queue `q` do not wait.
+    /// Lets the outputs of queue `q` come.
     fn release(&mut self, choice: &Choice, q: u32)
         requires settled { IsChoice choice.now }
         requires holds { HoldsNeeds choice.now self.old }
@@ -183,8 +185,8 @@ impl Needs {
         }
     }
 
-    /// It is queue `q`'s turn: where none of its outputs is left whose inputs are of the past too,
-    /// its outputs do not wait.
+    /// Turns to queue `q`: if no output of it is left whose input is also of the past, its outputs
+    /// no longer wait.
     fn turn(&mut self, choice: &Choice, left: &[u64], q: u32)
         requires settled { IsChoice choice.now }
         requires row { IsRow (event_count choice.now) left.now }
@@ -206,7 +208,7 @@ impl Needs {
         }
     }
 
-    /// The past, while these events are left.
+    /// The past, if these events are left.
     pub fn start(alloc: Global, choice: &Choice, left: &[u64]) -> Result<Needs, AllocError>
         requires settled { IsChoice choice.now }
         requires row { IsRow (event_count choice.now) left.now }

@@ -1,5 +1,6 @@
-//! A run, and what is in its queues, so that it is known which inputs may come next. What is done for
-//! each event is inlined: chosen and short runs both ask for it, and it would be a call in each.
+//! A run, and the contents of its queues, so that the inputs that may come next are known. The code
+//! for each event is inlined: both chosen and short witnesses use it, and it would be a call in
+//! each.
 
 ghost use Rattle.std.specs.Prelude.{◌≡◌, ℕ, ◌<◌, ◌≤◌, [], ◌∷◌, ◌++◌, IfOk, OnOk};
 ghost use Rattle.std.specs.Prelude.{IsTrue};
@@ -17,8 +18,8 @@ use msc_chart::laws::ends_share_queues;
 use std::alloc::{AllocError, Global};
 
 /// A run, and its queues as linked lists: the first and the last output of each queue, and for an
-/// output the next one of its queue. Where a queue is empty, its head is the number of events. Then
-/// the inputs whose messages are the first of their queues.
+/// output the next one of its queue. If a queue is empty, its head is the number of events. The
+/// last part is the inputs whose messages are the first of their queues.
 #[derive(Drop)]
 pub struct QueuedRun {
     pub run: Vec<Event>,
@@ -99,7 +100,8 @@ impl QueuedRun {
         }
     }
 
-    /// The queues change with `x`: an output's message is put, an input's is taken.
+    /// Updates the queues for `x`: puts the message of an output, and takes the message of an
+    /// input.
     #[inline(always)]
     fn change(&mut self, choice: &Choice, x: Event)
         requires settled { IsChoice choice.now }

@@ -1,8 +1,8 @@
 //! Races: drawn pairs that an order does not hold.
 //!
-//! After an event of a line come the rest of its segment and then, up to the end of the line, what
-//! is drawn after it. Of these the zeros of the event's row are its races, so whole words of ones
-//! are passed over at once.
+//! The rest of its segment follows an event on its line and then, up to the end of the line, all
+//! events drawn after it. The zeros of the event's row among them are its races, so whole words of
+//! ones are skipped at once.
 
 ghost use Rattle.std.specs.Prelude.{◌≡◌, ℕ, ◌+◌, ◌*◌, ◌/◌, ◌%◌, ◌<◌, ◌≤◌, ◌++◌, ◌&&◌, not, nat_le};
 ghost use Rattle.std.specs.Prelude.{nat_lt, length, List, IfOk, OnOk};
@@ -59,7 +59,7 @@ fn push_gaps(
 }
 
 /// Appends the pairs of `e` with those events from `start` up to `end` before which `order` does
-/// not have it, where `order` is one of the chart. An error is a growth of memory that was refused.
+/// not put it, where `order` is one of the chart. An error is a growth of memory that was refused.
 fn push_open(
     list: &mut Vec<(Event, Event)>,
     chart: &Chart,
@@ -74,11 +74,11 @@ fn push_open(
     ensures { OnOk result
         (list.new.items ≡ list.old.items ++ pairs_to (is_open order.now start) e end) }
 {
-    chart.accepted();
+    chart.facts();
     push_gaps(list, order.row(e), e, start, end)
 }
 
-/// The number past the segment of `e`, which `known` is if it is past `e`.
+/// The number past the segment of `e`. It is `known` if `known` is past `e`.
 fn segment_end(chart: &Chart, e: Event, known: Event) -> Event
     requires e { e < length chart.now.events }
     requires known { e < known → IsSegmentEnd chart.now.events e known }
@@ -91,7 +91,7 @@ fn segment_end(chart: &Chart, e: Event, known: Event) -> Event
     }
 }
 
-/// The number past the line of `e`, which `known` is if it is past `e`.
+/// The number past the line of `e`. It is `known` if `known` is past `e`.
 fn line_end(chart: &Chart, e: Event, known: Event) -> Event
     requires e { e < length chart.now.events }
     requires known { e < known → IsLineEnd chart.now.events e known }
@@ -100,7 +100,7 @@ fn line_end(chart: &Chart, e: Event, known: Event) -> Event
     if e < known { known } else { chart.line_end(e) }
 }
 
-/// How many numbers from `start` up to `end` have a 0 as their bit in a row ([`bit_rows`]).
+/// The number of numbers from `start` up to `end` whose bit in a row is 0 ([`bit_rows`]).
 fn count_gaps(row: &[u64], start: u32, end: u32) -> u32
     requires reach { end ≤ 64 * length row.now }
     requires few { HasNumbersOf32Bits (length row.now) }
@@ -116,15 +116,15 @@ fn count_gaps(row: &[u64], start: u32, end: u32) -> u32
     count
 }
 
-/// How many of the events from `start` up to `end` `order` does not have `e` before, where `order`
-/// is one of the chart.
+/// The number of events from `start` up to `end` before which `order` does not put `e`, where
+/// `order` is one of the chart.
 fn count_open(chart: &Chart, order: &Order, e: Event, start: Event, end: Event) -> u32
     requires events { length order.now ≡ length chart.now.events }
     requires known { e < length chart.now.events }
     requires within { end ≤ length chart.now.events }
     ensures { result ≡ length (pairs_to (is_open order.now start) e end) }
 {
-    chart.accepted();
+    chart.facts();
     count_gaps(order.row(e), start, end)
 }
 
@@ -148,7 +148,7 @@ impl Walk {
         }
     }
 
-    /// Goes on to event `e`.
+    /// Proceeds to event `e`.
     fn reach(&mut self, chart: &Chart, e: Event)
         requires known { e < length chart.now.events }
         requires reached { HasReached chart.now.events e self.now }
@@ -159,10 +159,10 @@ impl Walk {
         self.line_end = line_end(chart, e, self.line_end);
     }
 
-    /// Goes on to event `e` and appends its pairs with the events that it is drawn before and that
-    /// `order` does not have it before, ascending. With the enforced order of an architecture these
-    /// are its races. The order was made of a chart with as many events. An error is a growth of
-    /// memory that was refused.
+    /// Proceeds to event `e` and appends its pairs with the events that it is drawn before and
+    /// before which `order` does not put it, ascending. With the enforced order of an architecture
+    /// these are its races. The order was made of a chart with as many events. An error is a growth
+    /// of memory that was refused.
     pub fn push_races(
         &mut self,
         list: &mut Vec<(Event, Event)>,
@@ -178,12 +178,13 @@ impl Walk {
         ensures races { OnOk result (list.new.items ≡ list.old.items
             ++ pairs_to (is_raced chart.now.events order.now) e (length chart.now.events)) }
     {
-        chart.accepted();
+        chart.facts();
         self.reach(chart, e);
         push_open(list, chart, order, e, self.segment_end, self.line_end)
     }
 
-    /// Goes on to event `e` and answers how many pairs [`Walk::push_races`] appends there.
+    /// Proceeds to event `e` and returns the number of pairs that [`Walk::push_races`] appends
+    /// there.
     fn count(&mut self, chart: &Chart, order: &Order, e: Event) -> u32
         requires events { length order.now ≡ length chart.now.events }
         requires known { e < length chart.now.events }
@@ -192,7 +193,7 @@ impl Walk {
         ensures count { result
             ≡ length (pairs_to (is_raced chart.now.events order.now) e (length chart.now.events)) }
     {
-        chart.accepted();
+        chart.facts();
         self.reach(chart, e);
         count_open(chart, order, e, self.segment_end, self.line_end)
     }
@@ -213,7 +214,7 @@ pub fn races(alloc: Global, chart: &Chart, order: &Order) -> Result<Vec<(Event, 
     Ok(list)
 }
 
-/// How many pairs of events are drawn in an order which `order` does not hold: as many as
+/// The number of pairs of events that are drawn in an order which `order` does not hold: as many as
 /// [`races`] lists. The order was made of a chart with as many events. It takes no memory.
 pub fn count_races(chart: &Chart, order: &Order) -> u32
     requires events { length order.now ≡ length chart.now.events }

@@ -1,4 +1,4 @@
-//! The events that the choice of the next one depends on, as rows of bits.
+//! The events on which the choice of the next one depends, as rows of bits.
 
 ghost use Rattle.std.specs.Prelude.{◌≡◌, ℕ, ◌+◌, ◌<◌, ◌≤◌, length, IfOk, IsTrue};
 ghost use Rattle.msc_chart.specs.Charts.{is_input};
@@ -15,8 +15,9 @@ use msc_chart::Event;
 use msc_chart::laws::ends_share_queues;
 use std::alloc::{AllocError, Global};
 
-/// The events that are free of `e`, those of them that are not held, and the outputs to the queue
-/// of `e` that are passed on; and the first words in which free events, and such outputs, are left.
+/// The events that are free of `e`, the events among them that are not held, and the outputs to the
+/// queue of `e` that are passed on; and the first words in which free events, and such outputs, are
+/// left.
 #[derive(Drop)]
 pub struct Remaining {
     pub free: Vec<u64>,
@@ -27,7 +28,7 @@ pub struct Remaining {
 }
 
 impl Remaining {
-    /// The free events, of which it is not told yet which are held or passed on.
+    /// The free events, before it is known which of them are held or passed on.
     fn untold(alloc: Global, choice: &Choice) -> Result<Remaining, AllocError>
         requires { IsChoice choice.now }
         ensures rows { IfOk result (λ r. AreRows (event_count choice.now) r) }
@@ -43,7 +44,7 @@ impl Remaining {
         })
     }
 
-    /// Tells of `x` whether it is held, or passed on to queue `q`, that of `e`, an input.
+    /// Notes whether `x` is held, or passed on to queue `q`, the queue of `e`, an input.
     fn tell(&mut self, choice: &Choice, q: u32, x: Event)
         requires settled { IsChoice choice.now }
         requires known { x < event_count choice.now }
@@ -65,7 +66,7 @@ impl Remaining {
         }
     }
 
-    /// Tells which events are held or passed on: none where `e` is no input.
+    /// Notes which events are held or passed on: none if `e` is no input.
     fn tell_all(&mut self, choice: &Choice)
         requires settled { IsChoice choice.now }
         requires rows { AreRows (event_count choice.now) self.old }
@@ -83,7 +84,7 @@ impl Remaining {
         }
     }
 
-    /// The rows, where these events are left.
+    /// The rows, if these events are left.
     pub fn start(alloc: Global, choice: &Choice, left: &[u64]) -> Result<Remaining, AllocError>
         requires settled { IsChoice choice.now }
         requires left { IsRow (event_count choice.now) left.now }
@@ -99,7 +100,7 @@ impl Remaining {
         Ok(rows)
     }
 
-    /// Goes on to the first words in which free events, and outputs that are passed on, are left.
+    /// Advances to the first words in which free events, and outputs that are passed on, are left.
     pub fn seek(&mut self, left: &[u64])
         requires free { length left.now ≡ length self.old.free.items }
         requires passed { length left.now ≡ length self.old.passed.items }

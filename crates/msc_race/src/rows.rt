@@ -29,7 +29,7 @@ pub fn empty(alloc: Global, n: u32) -> Result<Set, AllocError>
     Set::blank(alloc, n)
 }
 
-/// The least number of one of two sets that is in a row too.
+/// The least number of one of two sets that is also in a row.
 pub fn lowest(a: &Set, b: &Set, mask: &[u64]) -> Option<u32>
     requires few { length a.now ≤ 64 }
     requires b { length b.now ≡ length a.now }

@@ -1,4 +1,4 @@
-//! Short runs that show that an order is not enforced.
+//! Short witnesses that show that an order is not enforced.
 
 ghost use Rattle.std.specs.Prelude.{◌≡◌, ◌+◌, ◌<◌, [], ◌∷◌, ◌++◌, length, IfOk, IsTrue};
 ghost use Rattle.std.specs.Prelude.{MatchOption};
@@ -9,12 +9,12 @@ ghost use Rattle.msc_race.specs.Views.{wiring_of};
 
 use crate::choosing::Choice;
 use crate::enforced::Enforced;
-use crate::laws::{short_runs_show, the_chosen_run_reverses, what_is_enforced_is_needed};
+use crate::laws::{short_witnesses_show, the_witness_reverses, what_is_enforced_is_needed};
 use crate::shortening::Shortening;
 use msc_chart::Event;
 use std::alloc::{AllocError, Global};
 
-/// At which place of a list `f` is first, or the list's length.
+/// The place of the first `f` in a list, or the list's length.
 fn place_of(events: &[Event], f: Event) -> usize
     ensures { result ≡ length (until events.now f) }
 {
@@ -26,7 +26,7 @@ fn place_of(events: &[Event], f: Event) -> usize
     events.len()
 }
 
-/// A list up to `f`, and with it.
+/// A list up to `f`, including it.
 fn up_to(mut events: Vec<Event>, f: Event) -> Vec<Event>
     requires { IsTrue (occurs events.items f) }
     ensures { result.items ≡ until events.items f ++ f ∷ [] }
@@ -37,14 +37,14 @@ fn up_to(mut events: Vec<Event>, f: Event) -> Vec<Event>
 }
 
 impl<'a> Enforced<'a> {
-    /// All of the past of event `f`, in the order of the short run, or none where it does not all
-    /// come so. An error is a growth of memory that was refused.
+    /// All of the past of event `f`, in the order of the short witness, or none if not all of it
+    /// can come so. An error is a growth of memory that was refused.
     fn needed_run(&self, alloc: Global, f: Event) -> Result<Option<Vec<Event>>, AllocError>
         requires { f < length self.now.chart.events }
         ensures { IfOk result (λ run. MatchOption run (HasNoNeededRun (wiring_of self.now) f)
             (λ events. IsNeededRun (wiring_of self.now) f events.items)) }
     {
-        self.enforced();
+        self.facts();
         what_is_enforced_is_needed();
         let choice = Choice {
             wiring: self.wiring(),
@@ -61,13 +61,14 @@ impl<'a> Enforced<'a> {
         Ok(Some(shortening.into_run()))
     }
 
-    /// The short run of events `e` and `f`: a run that ends with `f` and does not have `e`. Where
-    /// `f` and what is enforced before it all come so, it has just these, and no run that has `f`
-    /// is shorter: each is the least of them that may come next and is no output that waits. One
-    /// whose input is not of them waits while one of its queue whose input is of them has not come.
-    /// Else it is the chosen run of `e` up to `f`. There is none exactly where `e` is `f`, or is
-    /// enforced before it. An error is a growth of memory that was refused.
-    pub fn short_run(
+    /// The short witness of events `e` and `f`: a run that ends with `f` and does not have `e`. If
+    /// `f` and all that is enforced before it can come in this way, the run has exactly these
+    /// events, and no run that has `f` is shorter: each event is the least of them that may come
+    /// next and is no output that waits. An output whose input is not one of them waits while an
+    /// output of its queue whose input is one of them has not come. Otherwise the short witness is
+    /// the witness of `e` up to `f`. There is none if and only if `e` is `f`, or is enforced before
+    /// it. An error is a growth of memory that was refused.
+    pub fn short_witness(
         &self,
         alloc: Global,
         e: Event,
@@ -78,15 +79,15 @@ impl<'a> Enforced<'a> {
         ensures { IfOk result (λ run. MatchOption run (ComesFirst (wiring_of self.now) e f)
             (λ events. IsShortAnswer (wiring_of self.now) e f events.items)) }
     {
-        self.enforced();
-        the_chosen_run_reverses();
-        short_runs_show();
+        self.facts();
+        the_witness_reverses();
+        short_witnesses_show();
         if e == f || self.holds(e, f) {
             return Ok(None);
         }
         match self.needed_run(alloc, f)? {
             Some(run) => Ok(Some(run)),
-            None => Ok(Some(up_to(self.chosen_run(alloc, e)?, f))),
+            None => Ok(Some(up_to(self.witness_run(alloc, e)?, f))),
         }
     }
 }

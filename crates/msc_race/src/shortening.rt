@@ -18,7 +18,7 @@ use msc_chart::Event;
 use msc_chart::laws::ends_share_queues;
 use std::alloc::{AllocError, Global};
 
-/// Events of the past of the choice's event, as they come in the short run, and what is known of
+/// Events of the past of the choice's event, in the order of the short witness, and the facts on
 /// those that have not come.
 #[derive(Drop)]
 pub struct Shortening {
@@ -57,7 +57,7 @@ impl Shortening {
         has(&self.lines.left, f)
     }
 
-    /// The event of the past that comes next, or none where none may come that does not wait.
+    /// The event of the past that comes next, or none if each event that may come waits.
     pub fn next(&self) -> Option<Event>
         requires { (choice : Choice) × IsShortSoFar choice self.now }
         ensures some { (choice : Choice) → IsShortSoFar choice self.now → IfSome result

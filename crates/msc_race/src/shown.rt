@@ -10,9 +10,9 @@ use msc_chart::Event;
 use std::alloc::{AllocError, Global};
 
 impl<'a> Enforced<'a> {
-    /// A run with event `f` and without event `e` before it: the chosen run of `e`, or where a short
-    /// one is wanted the short run of both. There is none exactly where `e` is `f`, or is enforced
-    /// before it. An error is a growth of memory that was refused.
+    /// A run with event `f` and without event `e` before it: the witness of `e` or, if a short
+    /// run is requested, the short witness of both. There is none if and only if `e` is `f`, or is
+    /// enforced before it. An error is a growth of memory that was refused.
     pub fn shown_run(
         &self,
         alloc: Global,
@@ -26,7 +26,7 @@ impl<'a> Enforced<'a> {
             (λ events. IsShown short (wiring_of self.now) e f events.items)) }
     {
         if short {
-            return self.short_run(alloc, e, f);
+            return self.short_witness(alloc, e, f);
         }
         self.reversing_run(alloc, e, f)
     }

@@ -1,4 +1,4 @@
-//! Where the outputs of each queue stand in a chart.
+//! The places of the outputs of each queue in a chart.
 
 ghost use Rattle.std.specs.Prelude.{◌+◌, ◌<◌, IfOk};
 ghost use Rattle.msc_race.specs.Choices.{event_count, wired_chart, IsChoice};
@@ -8,8 +8,8 @@ use crate::choosing::Choice;
 use msc_chart::Event;
 use std::alloc::{AllocError, Global};
 
-/// Of each queue its first output, and a number past its last one. Of a queue without outputs these
-/// are the number of events, and 0.
+/// For each queue, its first output and a number past its last one. For a queue without outputs
+/// these are the number of events, and 0.
 #[derive(Drop)]
 pub struct Spans {
     pub firsts: Vec<Event>,
@@ -17,7 +17,7 @@ pub struct Spans {
 }
 
 impl Spans {
-    /// Goes on by event `x`.
+    /// Takes in event `x`.
     fn take_in(&mut self, choice: &Choice, x: Event)
         requires settled { IsChoice choice.now }
         requires known { x < event_count choice.now }
@@ -32,7 +32,7 @@ impl Spans {
         self.ends[q] = x + 1;
     }
 
-    /// Where the outputs of each queue of a chart stand. An error is a growth of memory that was
+    /// The places of the outputs of each queue of a chart. An error is a growth of memory that was
     /// refused.
     pub fn of(alloc: Global, choice: &Choice) -> Result<Spans, AllocError>
         requires { IsChoice choice.now }

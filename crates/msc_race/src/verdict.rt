@@ -1,4 +1,4 @@
-//! What is said of a chart under an architecture.
+//! The verdict on a chart under an architecture.
 
 ghost use Rattle.std.specs.Prelude.{IfOk};
 ghost use Rattle.msc_chart.specs.Orders.{wired};
@@ -11,7 +11,7 @@ use listed::Listed;
 use msc_chart::{Chart, Event, Queues};
 use std::alloc::{AllocError, Global};
 
-/// What a check says of a chart under an architecture.
+/// The verdict on a chart under an architecture.
 #[derive(Drop)]
 pub enum Verdict {
     /// No drawn pair is a race.
@@ -20,8 +20,8 @@ pub enum Verdict {
     Races(Listed<(Event, Event)>),
 }
 
-/// Whether a chart has races under an architecture, and which: [`Verdict::Pass`] exactly where no
-/// drawn pair is a race, so where every run keeps the drawn order; otherwise all races, which are
+/// Whether a chart has races under an architecture, and which: [`Verdict::Pass`] if and only if no
+/// drawn pair is a race, that is, every run keeps the drawn order; otherwise all races, which are
 /// the drawn pairs that some run reverses. An error is a growth of memory that was refused.
 pub fn check(alloc: Global, chart: &Chart, queues: Queues) -> Result<Verdict, AllocError>
     ensures verdict { IfOk result (IsVerdict (wired queues chart.now)) }
@@ -29,7 +29,7 @@ pub fn check(alloc: Global, chart: &Chart, queues: Queues) -> Result<Verdict, Al
 {
     races_are_what_runs_reverse();
     let enforced = Enforced::of(alloc, chart, queues)?;
-    enforced.enforced();
+    enforced.facts();
     let list = races(alloc, chart, enforced.order())?;
     if list.is_empty() {
         return Ok(Verdict::Pass);

@@ -1,4 +1,4 @@
--- The least stick whose second output stands before that of an event.
+-- The least blocked pair whose second output stands before that of an event.
 use Rattle.std.specs.Prelude.{Option, None, Some, MatchOption}
 use Rattle.std.proofs.Common.{◌≡◌, ℕ, ◌+◌, ◌<◌, ◌≤◌, inl, inr, List, [], ◌∷◌, ◌++◌, length, get_or, sym, subst, arith}
 use Rattle.std.proofs.lemmas.Bool.{cases_lt, le-leb, lt-leb}
@@ -9,7 +9,7 @@ use Rattle.msc_race.specs.Races.{IsPairBefore}
 use Rattle.msc_ready.specs.Held.{ReadyChart, wiring_of, ready_in}
 use Rattle.msc_chart.specs.Charts.{partner}
 use Rattle.msc_ready.specs.Readiness.{ReadyOrder}
-use Rattle.msc_ready.specs.Sticks.{IsAhead, IsLeastAhead}
+use Rattle.msc_ready.specs.BlockedPairs.{IsAhead, IsLeastAhead}
 use Rattle.msc_ready.specs.Views.{AreAhead, AreLeastFirsts, IsAheadOf, IsLeastFirst}
 use Rattle.msc_ready.specs.Lesser.{lesser_of, IsLeastOf, IsLeastBelow}
 use Rattle.msc_ready.proofs.Shared.{before_parts}
@@ -48,7 +48,7 @@ module _ (r : ReadyChart) where
       ]
 
   module _ (f h : ℕ) where
-    -- an event that is the second of no stick has none ahead
+    -- an event that is the second of no blocked pair has none ahead
     pub none_first : (g : ℕ) → IsLeastFirst r h g → length r.chart.events ≤ g → (x : ℕ) → IsAhead (wiring_of r) (ready_in r) f (x, h) → ⊥
     none_first g least past x ahead =
         elim least [
@@ -58,7 +58,7 @@ module _ (r : ReadyChart) where
           | inr none ↦ none.1 x ahead.0
         ]
 
-    -- where there is a stick, the least one is ahead if any is: they have one second output
+    -- where there is a blocked pair, the least one is ahead if any is: they have one second output
     pub least_held : (g : ℕ) → IsLeastFirst r h g → g < length r.chart.events
         → ReadyOrder (wiring_of r) (ready_in r) (partner r.chart.events h) (partner r.chart.events f)
         → IsLeast (λ x. IsAhead (wiring_of r) (ready_in r) f (x, h)) g
@@ -69,27 +69,27 @@ module _ (r : ReadyChart) where
         ]
 
   module _ (f h : ℕ) where
-    -- a pair of a stick that is ahead, below h + 1 and not below h, is with h
+    -- a pair of a blocked pair that is ahead, below h + 1 and not below h, is with h
     with_h : (p : ℕ × ℕ) → p.1 < h + 1 → h ≤ p.1 → IsAhead (wiring_of r) (ready_in r) f p → IsAhead (wiring_of r) (ready_in r) f (p.0, h)
     with_h p below past ahead =
         let same : p.1 ≡ h = omega (arith, below, past) in
         subst (λ (y : ℕ). IsAhead (wiring_of r) (ready_in r) f (p.0, y)) same ahead
 
-    -- no stick with h is ahead
+    -- no blocked pair with h is ahead
     abbrev NoneHere : Type 0
     NoneHere = (g : ℕ) → IsAhead (wiring_of r) (ready_in r) f (g, h) → ⊥
 
-    -- g is the least that makes with h a stick that is ahead
+    -- g is the least that makes with h a blocked pair that is ahead
     abbrev IsLeastHere : ℕ → Type 0
     IsLeastHere = IsLeast (λ x. IsAhead (wiring_of r) (ready_in r) f (x, h))
 
-    -- where no stick with h is ahead, the least so far stays
+    -- where no blocked pair with h is ahead, the least so far stays
     keeps_none : ((p : ℕ × ℕ) → p.1 < h → IsAhead (wiring_of r) (ready_in r) f p → ⊥) → NoneHere
         → (p : ℕ × ℕ) → p.1 < h + 1 → IsAhead (wiring_of r) (ready_in r) f p → ⊥
     keeps_none before none p below ahead =
         elim (cases_lt p.1 h) [ inl less ↦ before p less ahead | inr past ↦ none p.0 (with_h p below past ahead) ]
 
-    -- and it stays the least where the stick with h comes after it
+    -- and it stays the least where the blocked pair with h comes after it
     keeps : (q : ℕ × ℕ) → IsLeastOf r f h q → ((x : ℕ) → x ≤ q.0 → IsPairBefore (x, h) q → IsAhead (wiring_of r) (ready_in r) f (x, h) → ⊥)
         → IsLeastOf r f (h + 1) q
     keeps q before later = record {
@@ -108,7 +108,7 @@ module _ (r : ReadyChart) where
         up_to : (p q : ℕ × ℕ) → IsPairBefore p q → p.0 ≤ q.0
         up_to p q less = elim less [ inl l ↦ omega (arith, l) | inr s ↦ let same = s.0 in omega (arith, same) ]
 
-    -- the least stick with h is the least, where none so far is before it
+    -- the least blocked pair with h is the least, where none so far is before it
     takes : (g : ℕ) → IsLeastHere g → ((p : ℕ × ℕ) → p.1 < h → p.0 ≤ g → IsAhead (wiring_of r) (ready_in r) f p → ⊥) → IsLeastOf r f (h + 1) (g, h)
     takes g own none = record {
       itself = own.itself;
@@ -122,7 +122,7 @@ module _ (r : ReadyChart) where
       ];
     }
 
-    -- what the sticks with h bring
+    -- what the blocked pairs with h bring
     pub more : (least : Option (ℕ × ℕ)) (g : Option ℕ) → IsLeastBelow r f h least → MatchOption g NoneHere IsLeastHere
         → IsLeastBelow r f (h + 1) (lesser_of least g h)
     more None None before here = keeps_none before here

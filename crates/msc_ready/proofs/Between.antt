@@ -1,22 +1,22 @@
--- The sticks between two rounds as lists of pairs.
+-- The blocked pairs between two rounds as lists of pairs.
 use Rattle.std.proofs.Common.{◌≡◌, ℕ, ◌+◌, ◌-◌, ◌*◌, ◌<◌, ◌≤◌, Bool, true, false, ◌&&◌, inl, inr, [], length, eqb, refl, sym, ap, ◌∙◌, subst, arith}
 use Rattle.std.specs.Prelude.{IsTrue, ◌↔◌}
 use Rattle.std.proofs.lemmas.Bool.{and_from, and_parts, cases_lt, eq-eqb, eqb-true, false_from_ne_true}
 use Rattle.msc_chart.specs.Charts.{is_input, line, IsLineEnd}
 use Rattle.msc_chart.specs.Drawings.{Drawing, IsAccepted, IsLine}
 use Rattle.msc_chart.specs.Lists.{pairs_to}
-use Rattle.msc_chart.specs.Rounds.{count_of, event_of, first_of, number_of, round_of, twice}
+use Rattle.msc_chart.specs.Rounds.{count_of, event_of, first_of, number_of, round_of, two_rounds}
 use Rattle.msc_chart.proofs.EventNumbers.{count_is, count_same, event_in, event_number, first_le, first_same, number_event, number_in, past_gt, round_in}
 use Rattle.msc_chart.proofs.RoundEvents.{events_in, in_events, line_is}
 use Rattle.msc_race.proofs.Listing.Pairs.{of_from, of_parts, pairs_between, pairs_none, to_parts}
 use Rattle.msc_ready.specs.Held.{ReadyChart, wiring_of, ready_in}
 use Rattle.msc_ready.specs.Rounds.{between_from, between_of, crosses, is_between, AreBetween, AreBetweenFrom, AreSeconds, BeginsSecond, HasNoneBetween, IsBetween}
-use Rattle.msc_ready.specs.Sticks.{IsStick}
+use Rattle.msc_ready.specs.BlockedPairs.{IsBlockedPair}
 use Rattle.msc_ready.proofs.Listing.{no_pairs, test, test_drawn}
 use Rattle.msc_ready.proofs.Shared.{before_parts, clash}
 
 module _ (r : ReadyChart) (d : Drawing) where
-  -- what passes is of both rounds, and passes the test for sticks
+  -- what passes is of both rounds, and passes the test for blocked pairs
   pub between_parts : (x y : ℕ) → is_between r d x y ≡ true
       → (round_of 2 d.events x ≡ 0) × (round_of 2 d.events y ≡ 1) × (test r x y ≡ true)
   unfolding is_between crosses
@@ -25,27 +25,27 @@ module _ (r : ReadyChart) (d : Drawing) where
       let rounds = and_parts _ _ both.0 in
       (eqb-true _ _ rounds.0, eqb-true _ _ rounds.1, both.1)
 
-  -- from the first round to the second it is the test for sticks
+  -- from the first round to the second it is the test for blocked pairs
   pub between_when : (x y : ℕ) (b : Bool) → round_of 2 d.events x ≡ 0 → round_of 2 d.events y ≡ 1 → b ≡ test r x y
       → is_between r d x y ≡ b
   unfolding is_between crosses
   between_when x y b first second same = rw (first, second) (sym same)
 
-  module _ (told : (e f : ℕ) → IsTrue (test r e f) ↔ IsStick (wiring_of r) (ready_in r) e f) where
+  module _ (told : (e f : ℕ) → IsTrue (test r e f) ↔ IsBlockedPair (wiring_of r) (ready_in r) e f) where
     -- so the test is exact
     between_exact : (x y : ℕ) → (is_between r d x y ≡ true) ↔ IsBetween (wiring_of r) (ready_in r) d x y
     between_exact x y = (
       λ h.
           let parts = between_parts x y h in
-          record { stick = (told x y).0 parts.2; first = parts.0; second = parts.1 },
-      λ b. between_when x y true b.first b.second (sym ((told x y).1 b.stick)),
+          record { blocked_pair = (told x y).0 parts.2; first = parts.0; second = parts.1 },
+      λ b. between_when x y true b.first b.second (sym ((told x y).1 b.blocked_pair)),
     )
 
-    -- the listed pairs are these sticks
+    -- the listed pairs are these blocked pairs
     pub are_between : AreBetween r d (between_of r d)
     are_between x y = (
       λ b.
-          let below = before_parts r.chart.events x y b.stick.drawn in
+          let below = before_parts r.chart.events x y b.blocked_pair.drawn in
           of_from (is_between r d) (length r.chart.events) x y below.0 below.1 ((between_exact x y).1 b),
       λ there. (between_exact x y).0 (of_parts (is_between r d) (length r.chart.events) x y there).2,
     )
@@ -68,7 +68,7 @@ module _ (r : ReadyChart) (d : Drawing) where
       let parts = between_parts x y h in
       and_from _ _ (eq-eqb _ _ parts.0) (test_drawn r x y parts.2).1
 
-  -- an event of another kind has no events with which it may make such a stick
+  -- an event of another kind has no events with which it may make such a blocked pair
   pub none_seconds : (x : ℕ) → (eqb (round_of 2 d.events x) 0 && is_input r.chart.events x) ≡ false → AreSeconds r d x 0 0
   none_seconds x out = record {
     ordered = omega arith;
@@ -77,13 +77,13 @@ module _ (r : ReadyChart) (d : Drawing) where
     told = λ y from below. absurd (omega arith);
   }
 
-  module _ (two : r.chart ≡ twice d) (x start : ℕ) (begins : BeginsSecond d x start) where
+  module _ (two : r.chart ≡ two_rounds d) (x start : ℕ) (begins : BeginsSecond d x start) where
     -- of the events of the line of x those from the start on are of the second round
     begins_here : (y : ℕ) → y < length r.chart.events → line r.chart.events y ≡ line r.chart.events x
         → (start ≤ y) ↔ (round_of 2 d.events y ≡ 1)
     begins_here y = rw two (begins y)
 
-    -- an event of the first round makes such sticks with these alone
+    -- an event of the first round makes such blocked pairs with these alone
     pub seconds : (end : ℕ) → x < length r.chart.events → round_of 2 d.events x ≡ 0 → IsLineEnd r.chart.events x end
         → start < length r.chart.events → line r.chart.events start ≡ line r.chart.events x → AreSeconds r d x start end
     seconds end known first line_end inside on =
@@ -124,29 +124,29 @@ module _ (r : ReadyChart) (d : Drawing) where
         ∙ sym (pairs_between (is_between r d) x end (length r.chart.events) are.within
         (λ y low high. false_from_ne_true _ (λ h. let below = (are.all y h).1 in omega (arith, below, low))))
 
-    -- among them a pair passes where it is a stick
+    -- among them a pair passes where it is a blocked pair
     pub passes_here : (y : ℕ) (b : Bool) → start ≤ y → y < end → b ≡ test r x y → is_between r d x y ≡ b
     passes_here y b from below same = are.told y from below ∙ sym same
 
 -- an event of two rounds
-pub known_two : (d : Drawing) (chart : Drawing) (x : ℕ) → chart ≡ twice d → x < length chart.events → x < 2 * length d.events
+pub known_two : (d : Drawing) (chart : Drawing) (x : ℕ) → chart ≡ two_rounds d → x < length chart.events → x < 2 * length d.events
 known_two d chart x two below =
     events_in 2 (length d.messages) d.events x (subst (λ (c : Drawing). x < length c.events) two below)
 
 -- the first event of the line of x in two rounds
 pub record IsLineStart (d : Drawing) (x start : ℕ) : Type 0 where
-  pub known : start < length (twice d).events
-  pub same : line (twice d).events start ≡ line (twice d).events x
-  pub least : (y : ℕ) → y < length (twice d).events → line (twice d).events y ≡ line (twice d).events x → start ≤ y
+  pub known : start < length (two_rounds d).events
+  pub same : line (two_rounds d).events start ≡ line (two_rounds d).events x
+  pub least : (y : ℕ) → y < length (two_rounds d).events → line (two_rounds d).events y ≡ line (two_rounds d).events x → start ≤ y
 
 -- the range of the line of x starts with it
-pub line_start_of : (d : Drawing) (x i start past : ℕ) → x < length (twice d).events → i ≡ line (twice d).events x
-    → IsLine (twice d) i start past → IsLineStart d x start
+pub line_start_of : (d : Drawing) (x i start past : ℕ) → x < length (two_rounds d).events → i ≡ line (two_rounds d).events x
+    → IsLine (two_rounds d) i start past → IsLineStart d x start
 line_start_of d x i start past known here range =
     let own = (range x known).0 (sym here) in
     let first = own.0 in
     let last = own.1 in
-    let inside : start < length (twice d).events = omega (arith, first, known) in
+    let inside : start < length (two_rounds d).events = omega (arith, first, known) in
     record {
       known = inside;
       same = (range start inside).1 (omega arith, omega (arith, first, last)) ∙ here;
@@ -169,12 +169,12 @@ module _ (d : Drawing) (accepted : IsAccepted d) where
   number_least e r = omega arith
 
   -- an event of two rounds is on the line of its event
-  on_line : (k : ℕ) → k < length (twice d).events → line (twice d).events k ≡ line d.events (event_of 2 d.events k)
+  on_line : (k : ℕ) → k < length (two_rounds d).events → line (two_rounds d).events k ≡ line d.events (event_of 2 d.events k)
   on_line k within = line_is 2 (length d.messages) d.events k (events_in 2 (length d.messages) d.events k within)
 
   -- an event of the chart is on its line in each round
   placed : (f r : ℕ) → f < length d.events → r < 2
-      → (number_of 2 d.events f r < length (twice d).events) × (line (twice d).events (number_of 2 d.events f r) ≡ line d.events f)
+      → (number_of 2 d.events f r < length (two_rounds d).events) × (line (two_rounds d).events (number_of 2 d.events f r) ≡ line d.events f)
   placed f r known round =
       let within = in_events 2 (length d.messages) d.events (number_of 2 d.events f r) (number_in d.events accepted.in_text_order 2 f r known round) in
       (within, on_line (number_of 2 d.events f r) within ∙ ap (line d.events) (event_number d.events accepted.in_text_order 2 f r known round))
@@ -220,10 +220,10 @@ module _ (d : Drawing) (accepted : IsAccepted d) where
         ]
 
     -- which is an event of that line
-    pub second_known : number_of 2 d.events (event_of 2 d.events start) 1 < length (twice d).events
+    pub second_known : number_of 2 d.events (event_of 2 d.events start) 1 < length (two_rounds d).events
     second_known = (placed (event_of 2 d.events start) 1 (event_in d.events accepted.in_text_order 2 start (events_in 2 (length d.messages) d.events start begin.known)) (omega arith)).0
 
-    pub second_on : line (twice d).events (number_of 2 d.events (event_of 2 d.events start) 1) ≡ line (twice d).events x
+    pub second_on : line (two_rounds d).events (number_of 2 d.events (event_of 2 d.events start) 1) ≡ line (two_rounds d).events x
     second_on =
         let k = events_in 2 (length d.messages) d.events start begin.known in
         (placed (event_of 2 d.events start) 1 (event_in d.events accepted.in_text_order 2 start k) (omega arith)).1

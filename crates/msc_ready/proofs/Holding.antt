@@ -1,11 +1,11 @@
--- What is held of a chart with ready instances: its order, and its sticks.
+-- What is held of a chart with ready instances: its order, and its blocked pairs.
 use Rattle.std.proofs.Common.{◌≡◌, ℕ, ◌<◌, Bool, true, false, not, ◌↔◌, inl, inr, List, length, eqb, refl, sym, ap, ◌∙◌}
 use Rattle.std.proofs.lemmas.Bool.{eqb-true, eq-eqb, and_parts, and_from, not-true, not_from_false, false_from_ne_true}
 use Rattle.msc_chart.specs.declared.event.ChartEvent.{ChartEvent}
 use Rattle.msc_chart.specs.Charts.{line, partner, is_input, is_controlled, before}
 use Rattle.msc_chart.specs.Orders.{WiredChart, IsWired, queue, IsVisualOrder}
 use Rattle.msc_order.specs.Tables.{Table, orders}
-use Rattle.msc_ready.specs.Sticks.{IsStick, is_stick, is_awaited, is_lined}
+use Rattle.msc_ready.specs.BlockedPairs.{IsBlockedPair, is_blocked_pair, is_awaited, is_lined}
 use Rattle.msc_ready.proofs.Runs.Fewer.{outputs_told}
 use Rattle.msc_ready.proofs.Runs.Keeping.{HaveOneLine}
 use Rattle.msc_ready.proofs.Shared.{clash, controlled_or_input, controlled_no_input, output_below, partner_of_input}
@@ -70,27 +70,27 @@ module _ (chart : WiredChart) (ready : ℕ → Bool) where
   lined_from e f b set ie if_ same = and_from _ _ (and_from _ _ (and_from _ _ b set) (and_from _ _ ie if_)) (eq-eqb _ _ same)
 
   module _ (order : Table) where
-    -- a stick is of two such inputs
-    pub stick_lined : (e f : ℕ) → is_stick chart ready order e f ≡ true → is_lined chart ready e f ≡ true
-    unfolding is_stick
-    stick_lined e f h = (and_parts _ _ h).0
+    -- a blocked pair is of two such inputs
+    pub blocked_pair_lined : (e f : ℕ) → is_blocked_pair chart ready order e f ≡ true → is_lined chart ready e f ≡ true
+    unfolding is_blocked_pair
+    blocked_pair_lined e f h = (and_parts _ _ h).0
 
     -- where they are no such inputs, the test fails
-    pub stick_not : (e f : ℕ) → is_lined chart ready e f ≡ false → false ≡ is_stick chart ready order e f
-    unfolding is_stick
-    stick_not e f out = sym (rw out refl)
+    pub blocked_pair_not : (e f : ℕ) → is_lined chart ready e f ≡ false → false ≡ is_blocked_pair chart ready order e f
+    unfolding is_blocked_pair
+    blocked_pair_not e f out = sym (rw out refl)
 
     -- and where they are, it is the test for their outputs
-    pub stick_when : (e f : ℕ) (b : Bool) → is_lined chart ready e f ≡ true
-        → b ≡ orders order (partner chart.events e) (partner chart.events f) → not b ≡ is_stick chart ready order e f
-    unfolding is_stick
-    stick_when e f b lined same = rw lined (ap not same)
+    pub blocked_pair_when : (e f : ℕ) (b : Bool) → is_lined chart ready e f ≡ true
+        → b ≡ orders order (partner chart.events e) (partner chart.events f) → not b ≡ is_blocked_pair chart ready order e f
+    unfolding is_blocked_pair
+    blocked_pair_when e f b lined same = rw lined (ap not same)
 
-    -- the test for sticks is exact
-    pub stick_exact : IsWired chart → HaveOneLine chart → IsVisualOrder chart.events (orders order) → (e f : ℕ)
-        → (is_stick chart ready order e f ≡ true) ↔ IsStick chart ready e f
-    unfolding is_stick
-    stick_exact is_wired lines told e f = (
+    -- the test for blocked pairs is exact
+    pub blocked_pair_exact : IsWired chart → HaveOneLine chart → IsVisualOrder chart.events (orders order) → (e f : ℕ)
+        → (is_blocked_pair chart ready order e f ≡ true) ↔ IsBlockedPair chart ready e f
+    unfolding is_blocked_pair
+    blocked_pair_exact is_wired lines told e f = (
       λ h.
           let both = and_parts _ _ h in
           let parts = lined_parts e f both.0 in

@@ -6,18 +6,18 @@ use Rattle.msc_chart.specs.Charts.{before, line}
 use Rattle.msc_chart.specs.Lists.{pairs_to}
 use Rattle.msc_chart.specs.Orders.{WiredChart, IsWired}
 use Rattle.msc_race.proofs.Listing.Pairs.{below_more, pairs_below, pairs_more, pairs_skip}
-use Rattle.msc_ready.specs.Sticks.{AreLeft, IsRaceLeft}
-use Rattle.msc_ready.proofs.Runs.Tables.{ready_order}
-use Rattle.msc_ready.proofs.Shared.{before_parts, clash}
+use Rattle.msc_ready.specs.BlockedPairs.{AreLeft, IsRaceLeft}
+use Rattle.msc_race.proofs.Runs.Tables.{precedes_order}
+use Rattle.msc_ready.proofs.Shared.{clash}
 
--- a race that is left is a drawn pair of a line that is not ready, which a test for the ready order does
--- not pass
+-- a race that is left is a drawn pair of a line that is not ready, which a test for the ready order
+-- does not pass
 pub left_test : (chart : WiredChart) → IsWired chart → (ready : ℕ → Bool) → (left : ℕ → ℕ → Bool) × AreLeft chart ready left
 left_test chart is_wired ready = (test, λ e f. (told e f, tested e f))
   where
     -- a test for the ready order
     order : ℕ → ℕ → Bool
-    order = (ready_order chart is_wired ready).0
+    order = (precedes_order chart is_wired ready true).0
 
     -- the test
     test : ℕ → ℕ → Bool
@@ -28,13 +28,12 @@ left_test chart is_wired ready = (test, λ e f. (told e f, tested e f))
     told e f h =
         let a = and_parts _ _ h in
         let b = and_parts _ _ a.1 in
-        (a.0, not-true _ b.0, λ o. clash ((ready_order chart is_wired ready).1.complete e f o) (not-true _ b.1))
+        (a.0, not-true _ b.0, λ o. clash ((precedes_order chart is_wired ready true).1.complete e f o) (not-true _ b.1))
 
     -- and each passes
     tested : (e f : ℕ) → IsRaceLeft chart ready e f → test e f ≡ true
     tested e f race =
-        let known = before_parts chart.events e f race.0 in
-        let out : order e f ≡ false = false_from_ne_true _ (λ h. race.2 ((ready_order chart is_wired ready).1.holds e f known.0 known.1 h)) in
+        let out : order e f ≡ false = false_from_ne_true _ (λ h. race.2 ((precedes_order chart is_wired ready true).1.holds e f h)) in
         and_from _ _ race.0 (and_from _ _ (not_from_false _ race.1) (not_from_false _ out))
 
 module _ (left : ℕ → ℕ → Bool) where

@@ -1,5 +1,5 @@
 -- Rows of the ready order while they are made: they have only pairs of it, and keep what they have.
-use Rattle.std.proofs.Common.{◌≡◌, ℕ, ◌<◌, Bool, true, false, ◌↔◌, inl, inr, length, List, [], get_or, refl, sym, ap, ◌∙◌, subst, eqb, ◌&&◌, ◌||◌}
+use Rattle.std.proofs.Common.{◌≡◌, ℕ, ◌<◌, Bool, true, false, ◌↔◌, inl, inr, length, List, [], refl, sym, ap, ◌∙◌, subst, eqb, ◌&&◌, ◌||◌}
 use Rattle.std.proofs.lemmas.Bool.{eqb-true, eq-eqb, and_parts, and_from, or_cases, or_left, or_right}
 use Rattle.std.proofs.lemmas.List.{nil_from_length}
 use Rattle.bit_rows.specs.Tables.{with_row}
@@ -7,13 +7,13 @@ use Rattle.msc_chart.specs.Orders.{WiredChart, IsWired}
 use Rattle.msc_order.specs.Closing.{HoldsOnly}
 use Rattle.msc_order.specs.Tables.{orders}
 use Rattle.msc_order.proofs.Leading.{row_after, row_cases, row_there}
-use Rattle.msc_ready.specs.Held.{HasVisualOrder, ReadyChart, ready_in, wiring_of}
+use Rattle.msc_ready.specs.Held.{HasVisualOrder, ReadyChart, ready_in, ready_of, wiring_of}
 use Rattle.msc_ready.specs.Plain.{AreMates, IsPlainUpTo, Plain}
 use Rattle.msc_ready.specs.Readiness.{ReadyOrder}
-use Rattle.msc_ready.specs.Readiness.ReadyOrder.{joined}
+use Rattle.msc_chart.specs.Precedence.Precedes.{joined}
 use Rattle.msc_ready.specs.Rows.{AreRowsOf, HasRows}
 use Rattle.msc_ready.proofs.Shared.{clash}
-use Rattle.msc_ready.proofs.Runs.Acyclic.{ready_of_visual, visual_of_ready}
+use Rattle.msc_chart.proofs.Precedence.{all_ready_is_visual}
 use Rattle.msc_ready.proofs.Runs.Fewer.{ready_of_plain, ready_told}
 use Rattle.msc_ready.proofs.Runs.Keeping.{HaveOneLine}
 
@@ -70,13 +70,12 @@ no_lines lines n empty size told is = nil_from_length lines (sym size ∙ eqb-tr
 
 module _ (r : ReadyChart) (x y : ℕ) where
   -- with no list the ready order is the visual order
-  pub all_visual : IsWired (wiring_of r) → HasVisualOrder r → r.lines ≡ [] → x < length r.chart.events → y < length r.chart.events
+  pub all_visual : HasVisualOrder r → r.lines ≡ [] → x < length r.chart.events → y < length r.chart.events
       → (orders r.order x y ≡ true) ↔ ReadyOrder (wiring_of r) (ready_in r) x y
-  all_visual is_wired held none below within =
-      let every : (i : ℕ) → ready_in r i ≡ true = λ i. ap (λ (l : List Bool). get_or l i true) none in (
-        λ h. ready_of_visual (wiring_of r) is_wired (ready_in r) every x y (held.visual.holds x y below within h),
-        λ h. held.visual.complete x y (visual_of_ready (wiring_of r) is_wired (ready_in r) every x y h),
-      )
+  all_visual held none below within =
+      let both = all_ready_is_visual (wiring_of r) true x y in
+      subst (λ (lines : List Bool). (orders r.order x y ≡ true) ↔ ReadyOrder (wiring_of r) (ready_of lines) x y) (sym none)
+      (λ h. both.1 (held.visual.holds x y below within h), λ h. held.visual.complete x y (both.0 h))
 
 -- with a list a chart has rows
 pub rows_by : (r : ReadyChart) (rows : List ℕ) (n : ℕ) (empty : Bool) → HasRows r rows → n ≡ length r.lines → empty ≡ eqb n 0

@@ -5,11 +5,9 @@ pub mod Progress
 pub mod Growing
 pub mod Acyclic
 pub mod Fewer
-pub mod Tables
 pub mod Sticking
 pub mod Passing
 pub mod Whole
 pub mod Lines
 pub mod Reversing
-pub mod Enforcing
 pub mod OneRun

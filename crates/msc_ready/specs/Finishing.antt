@@ -1,20 +1,17 @@
 -- What has to come before what in a whole ready run.
-use Rattle.std.specs.Prelude.{◌≡◌, ℕ, Bool, List, IsTrue}
+use Rattle.std.specs.Prelude.{◌≡◌, ℕ, Bool, false, List, IsTrue}
 use Rattle.msc_chart.specs.Lists.{occurs}
-use Rattle.msc_chart.specs.Charts.{line, partner, is_output, is_input, is_controlled, before}
+use Rattle.msc_chart.specs.Charts.{line, partner, is_input, before}
 use Rattle.msc_chart.specs.Orders.{WiredChart, queue}
+use Rattle.msc_chart.specs.Precedence.{Precedes}
 use Rattle.msc_chart.specs.Runs.{IsWhole}
 use Rattle.msc_ready.specs.Readiness.{MayComeReady, ReadyRun}
 
--- the whole order: the least transitive relation that holds what is drawn before a controlled event or
--- before an input of a ready line, an output before its input, and, of two inputs of one queue that
--- are drawn in an order on a ready line, their outputs in that order
+-- the whole order: the least transitive relation that holds what precedes what without the rule of
+-- queues, and, of two inputs of one queue that are drawn in an order on a ready line, their outputs in
+-- that order
 pub data WholeOrder (chart : WiredChart) (ready : ℕ → Bool) : ℕ → ℕ → Type 0 where
-  drawn : {x s : ℕ} → IsTrue (before chart.events x s) → IsTrue (is_controlled chart.events s)
-      → WholeOrder chart ready x s
-  awaited : {x r : ℕ} → IsTrue (before chart.events x r) → IsTrue (is_input chart.events r)
-      → IsTrue (ready (line chart.events r)) → WholeOrder chart ready x r
-  sent : {s r : ℕ} → IsTrue (is_output chart.events s) → partner chart.events s ≡ r → WholeOrder chart ready s r
+  needed : {x y : ℕ} → Precedes chart ready false x y → WholeOrder chart ready x y
   in_turn : (r u : ℕ) {s t : ℕ} → IsTrue (is_input chart.events r) → IsTrue (is_input chart.events u)
       → queue chart r ≡ queue chart u → IsTrue (before chart.events r u) → IsTrue (ready (line chart.events u))
       → partner chart.events r ≡ s → partner chart.events u ≡ t → WholeOrder chart ready s t

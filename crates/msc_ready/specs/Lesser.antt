@@ -1,8 +1,8 @@
--- The least of the sticks that are ahead, as they are looked at one after another.
+-- The least of the blocked pairs that are ahead, as they are looked at one after another.
 use Rattle.std.specs.Prelude.{ℕ, ◌<◌, cond, nat_le, Option, None, Some, MatchOption}
 use Rattle.msc_race.specs.Races.{IsPairBefore}
 use Rattle.msc_ready.specs.Held.{ReadyChart, wiring_of, ready_in}
-use Rattle.msc_ready.specs.Sticks.{IsAhead}
+use Rattle.msc_ready.specs.BlockedPairs.{IsAhead}
 
 -- the lesser of a pair and (g, h), or the one that there is
 abbrev pub lesser_of : Option (ℕ × ℕ) → Option ℕ → ℕ → Option (ℕ × ℕ)
@@ -10,7 +10,7 @@ lesser_of least None h = least
 lesser_of None (Some g) h = Some (g, h)
 lesser_of (Some p) (Some g) h = cond (nat_le p.0 g) (Some p) (Some (g, h))
 
--- the least of the sticks ahead of f whose second event is below k
+-- the least of the blocked pairs ahead of f whose second event is below k
 pub record IsLeastOf (r : ReadyChart) (f k : ℕ) (q : ℕ × ℕ) : Type 0 where
   pub itself : IsAhead (wiring_of r) (ready_in r) f q
   pub below : q.1 < k

@@ -1,6 +1,6 @@
 -- what is promised
 pub mod Readiness
-pub mod Sticks
+pub mod BlockedPairs
 pub mod Finishing
 pub mod Running
 pub mod Laws

@@ -1,16 +1,12 @@
 -- The part of the ready order that lines and messages alone give.
 use Rattle.std.specs.Prelude.{◌≡◌, ℕ, ◌⊎◌, Bool, false, IsTrue}
-use Rattle.msc_chart.specs.Charts.{line, partner, is_output, is_input, is_controlled, before}
+use Rattle.msc_chart.specs.Charts.{line, partner, is_input}
 use Rattle.msc_chart.specs.Orders.{WiredChart, queue}
+use Rattle.msc_chart.specs.Precedence.{Precedes}
 
--- the least transitive relation that holds what is drawn before a controlled event or an input of a
--- ready line, and an output before its input
-pub data Plain (chart : WiredChart) (ready : ℕ → Bool) : ℕ → ℕ → Type 0 where
-  plain_drawn : {x s : ℕ} → IsTrue (before chart.events x s) → IsTrue (is_controlled chart.events s) → Plain chart ready x s
-  plain_awaited : {x r : ℕ} → IsTrue (before chart.events x r) → IsTrue (is_input chart.events r)
-      → IsTrue (ready (line chart.events r)) → Plain chart ready x r
-  plain_sent : {s r : ℕ} → IsTrue (is_output chart.events s) → partner chart.events s ≡ r → Plain chart ready s r
-  plain_joined : {x y z : ℕ} → Plain chart ready x y → Plain chart ready y z → Plain chart ready x z
+-- what precedes what without the rule of queues
+abbrev pub Plain : WiredChart → (ℕ → Bool) → ℕ → ℕ → Type 0
+Plain chart ready = Precedes chart ready false
 
 -- x is y, or stands before it so
 abbrev pub IsPlainUpTo : WiredChart → (ℕ → Bool) → ℕ → ℕ → Type 0

@@ -1,11 +1,11 @@
--- The run that is shown for a stick.
+-- The run that is shown for a blocked pair.
 use Rattle.std.specs.Prelude.{◌≡◌, ℕ, ◌⊎◌, Bool, false, List, [], ◌++◌, IsTrue}
 use Rattle.msc_chart.specs.Lists.{occurs, IsLeast, Steps}
 use Rattle.msc_chart.specs.Charts.{partner, is_input, is_output}
 use Rattle.msc_chart.specs.Orders.{WiredChart}
 use Rattle.msc_chart.specs.Runs.{Reverses}
 use Rattle.msc_ready.specs.Readiness.{HasStuck, MayComeReady, ReadyOrder}
-use Rattle.msc_ready.specs.Sticks.{IsFirstStick}
+use Rattle.msc_ready.specs.BlockedPairs.{IsFirstBlockedPair}
 
 -- x is t or stands before it
 abbrev pub IsUpTo : WiredChart → (ℕ → Bool) → ℕ → ℕ → Type 0
@@ -27,20 +27,21 @@ pub record IsTowardNext (chart : WiredChart) (ready : ℕ → Bool) (t : ℕ) (p
       ⊎ (((y : ℕ) → ComesUpTo chart ready t past y → ⊥) × IsLeast (ComesAsInput chart ready past) x)
 
 -- and then the least event that may come next
-abbrev pub IsStickNext : WiredChart → (ℕ → Bool) → ℕ → List ℕ → ℕ → Type 0
-IsStickNext chart ready t past x =
+abbrev pub IsBlockedPairNext : WiredChart → (ℕ → Bool) → ℕ → List ℕ → ℕ → Type 0
+IsBlockedPairNext chart ready t past x =
     IsTowardNext chart ready t past x ⊎ (IsTrue (occurs past t) × IsLeast (MayComeReady chart ready past) x)
 
--- The run that is shown for a stick: each event is the one that comes next so, on the way to the output
--- of f. The system has stuck after it; the output of f was sent and, before that, that of e was not.
-pub record IsStickRun (chart : WiredChart) (ready : ℕ → Bool) (e f : ℕ) (events : List ℕ) : Type 0 where
-  pub chosen : Steps (IsStickNext chart ready (partner chart.events f)) [] events
+-- The run that is shown for a blocked pair: each event is the one that comes next so, on the way to
+-- the output of f. The system has stuck after it; the output of f was sent and, before that, that
+-- of e was not.
+pub record IsBlockedPairRun (chart : WiredChart) (ready : ℕ → Bool) (e f : ℕ) (events : List ℕ) : Type 0 where
+  pub witness : Steps (IsBlockedPairNext chart ready (partner chart.events f)) [] events
   pub stuck : HasStuck chart ready events
   pub reverses : Reverses events (partner chart.events e) (partner chart.events f)
 
--- a run for each event, which shows each first stick of which the event is the second
-abbrev pub AreStickRuns : WiredChart → (ℕ → Bool) → (ℕ → List ℕ) → Type 0
-AreStickRuns chart ready runs = (e f : ℕ) → IsFirstStick chart ready e f → IsStickRun chart ready e f (runs f)
+-- a run for each event, which shows each first blocked pair of which the event is the second
+abbrev pub AreBlockedPairRuns : WiredChart → (ℕ → Bool) → (ℕ → List ℕ) → Type 0
+AreBlockedPairRuns chart ready runs = (e f : ℕ) → IsFirstBlockedPair chart ready e f → IsBlockedPairRun chart ready e f (runs f)
 
 -- each output of the list is t or stands before it
 abbrev pub HasOutputsUpTo : WiredChart → (ℕ → Bool) → ℕ → List ℕ → Type 0

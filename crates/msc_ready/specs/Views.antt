@@ -1,31 +1,32 @@
--- What is said of the sticks of a chart under an architecture.
+-- What is said of the blocked pairs of a chart under an architecture.
 use Rattle.std.specs.Prelude.{◌≡◌, ℕ, ◌<◌, ◌⊎◌, List, Option, None, MatchOption, length, get_or, ◌↔◌}
 use Rattle.msc_chart.specs.Lists.{pairs_of, pairs_to, Occurs, IsLeast}
 use Rattle.msc_ready.specs.Held.{ReadyChart, wiring_of, ready_in}
-use Rattle.msc_ready.specs.Sticks.{IsAhead, IsLeastAhead, IsStick, is_stick}
+use Rattle.msc_ready.specs.BlockedPairs.{IsAhead, IsLeastAhead, IsBlockedPair, is_blocked_pair}
 
--- all sticks, ascending
-abbrev pub sticks_of : ReadyChart → List (ℕ × ℕ)
-sticks_of r = pairs_of (is_stick (wiring_of r) (ready_in r) r.order) (length r.chart.events)
+-- all blocked pairs, ascending
+abbrev pub blocked_pairs_of : ReadyChart → List (ℕ × ℕ)
+blocked_pairs_of r = pairs_of (is_blocked_pair (wiring_of r) (ready_in r) r.order) (length r.chart.events)
 
--- the sticks whose first event is e, ascending
-abbrev pub sticks_from : ReadyChart → ℕ → List (ℕ × ℕ)
-sticks_from r e = pairs_to (is_stick (wiring_of r) (ready_in r) r.order) e (length r.chart.events)
+-- the blocked pairs whose first event is e, ascending
+abbrev pub blocked_pairs_from : ReadyChart → ℕ → List (ℕ × ℕ)
+blocked_pairs_from r e = pairs_to (is_blocked_pair (wiring_of r) (ready_in r) r.order) e (length r.chart.events)
 
--- a pair of the list is a stick, and no other
-abbrev pub AreSticks : ReadyChart → List (ℕ × ℕ) → Type 0
-AreSticks r pairs = (e f : ℕ) → IsStick (wiring_of r) (ready_in r) e f ↔ Occurs pairs (e, f)
+-- a pair of the list is a blocked pair, and no other
+abbrev pub AreBlockedPairs : ReadyChart → List (ℕ × ℕ) → Type 0
+AreBlockedPairs r pairs = (e f : ℕ) → IsBlockedPair (wiring_of r) (ready_in r) e f ↔ Occurs pairs (e, f)
 
--- each pair of the list is a stick whose first event is e
-abbrev pub AreSticksFrom : ReadyChart → ℕ → List (ℕ × ℕ) → Type 0
-AreSticksFrom r e pairs =
-    (x y : ℕ) → Occurs pairs (x, y) → (x ≡ e) × IsStick (wiring_of r) (ready_in r) x y
+-- each pair of the list is a blocked pair whose first event is e
+abbrev pub AreBlockedPairsFrom : ReadyChart → ℕ → List (ℕ × ℕ) → Type 0
+AreBlockedPairsFrom r e pairs =
+    (x y : ℕ) → Occurs pairs (x, y) → (x ≡ e) × IsBlockedPair (wiring_of r) (ready_in r) x y
 
--- g is the least event that is the first of a stick with h, or the number of events where none is
+-- g is the least event that is the first of a blocked pair with h, or the number of events where
+-- none is
 abbrev pub IsLeastFirst : ReadyChart → ℕ → ℕ → Type 0
 IsLeastFirst r h g =
-    IsLeast (λ x. IsStick (wiring_of r) (ready_in r) x h) g
-    ⊎ ((g ≡ length r.chart.events) × ((x : ℕ) → IsStick (wiring_of r) (ready_in r) x h → ⊥))
+    IsLeast (λ x. IsBlockedPair (wiring_of r) (ready_in r) x h) g
+    ⊎ ((g ≡ length r.chart.events) × ((x : ℕ) → IsBlockedPair (wiring_of r) (ready_in r) x h → ⊥))
 
 -- of each event so
 abbrev pub AreLeastFirsts : ReadyChart → List ℕ → ℕ → Type 0
@@ -36,7 +37,7 @@ pub record HasLeastFirsts (r : ReadyChart) (firsts : List ℕ) : Type 0 where
   pub each : length firsts ≡ length r.chart.events
   pub least : AreLeastFirsts r firsts (length r.chart.events)
 
--- of event f the least stick that is ahead of it, if there is one
+-- of event f the least blocked pair that is ahead of it, if there is one
 abbrev pub IsAheadOf : ReadyChart → ℕ → Option (ℕ × ℕ) → Type 0
 IsAheadOf r f ahead =
     MatchOption ahead ((p : ℕ × ℕ) → IsAhead (wiring_of r) (ready_in r) f p → ⊥) (IsLeastAhead (wiring_of r) (ready_in r) f)

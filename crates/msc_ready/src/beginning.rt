@@ -22,11 +22,11 @@ use std::alloc::{AllocError, Global};
 pub struct Beginning {
     /// The events so far.
     pub run: Vec<Event>,
-    /// Of each event whether it has occurred.
+    /// For each event, whether it has occurred.
     pub done: Vec<bool>,
-    /// Of each line the first event that has not occurred, or a number past the line.
+    /// For each line, the first event that has not occurred, or a number past the line.
     pub fronts: Vec<Event>,
-    /// Of each queue the output whose message is first in it; the number of events where it is
+    /// For each queue, the output whose message is first in it, or the number of events if it is
     /// empty.
     pub heads: Vec<Event>,
 }
@@ -35,7 +35,7 @@ pub struct Beginning {
 fn first_events(alloc: Global, ready: &Ready) -> Result<Vec<Event>, AllocError>
     ensures { IfOk result (λ fronts. HasFronts ready.now.chart [] fronts.items) }
 {
-    ready.kept();
+    ready.facts();
     let chart = ready.chart();
     let mut fronts = Vec::new(alloc);
     for i in 0..chart.instances() {
@@ -69,7 +69,7 @@ fn waits(ready: &Ready, done: &[bool], q: u32, x: Event) -> bool
     ensures { (run : List ℕ) → HasMarks (length ready.now.chart.events) run done.now
         → result ≡ is_waiting (wiring_of ready.now) q run x }
 {
-    ready.kept();
+    ready.facts();
     let (chart, wiring) = (ready.chart(), ready.wiring());
     if !chart.is_output(x) {
         return false;
@@ -80,7 +80,7 @@ fn waits(ready: &Ready, done: &[bool], q: u32, x: Event) -> bool
     !done[chart.other_end(x) as usize]
 }
 
-/// The first of these events whose message is in queue `q`; the number of all events where there is
+/// The first of these events whose message is in queue `q`, or the number of all events if there is
 /// none.
 fn first_waiting(ready: &Ready, run: &[Event], done: &[bool], q: u32) -> Event
     requires events { All (λ x. x < length ready.now.chart.events) run.now }
@@ -112,14 +112,14 @@ impl Beginning {
         })
     }
 
-    /// Whether all that is drawn before `x` has occurred.
+    /// Whether all events drawn before `x` have occurred.
     pub fn is_settled(&self, ready: &Ready, x: Event) -> bool
         requires known { x < length ready.now.chart.events }
         requires fronts { HasFronts ready.now.chart self.now.run.items self.now.fronts.items }
         ensures { IsTrue result ↔ ((y : ℕ) → IsTrue (before ready.now.chart.events y x)
             → IsTrue (occurs self.now.run.items y)) }
     {
-        ready.kept();
+        ready.facts();
         let chart = ready.chart();
         let front = self.fronts[chart.instance_of(x) as usize];
         if front >= chart.events() {
@@ -138,7 +138,7 @@ impl Beginning {
             (queue (wiring_of ready.now) x) self.now.run.items)
             (partner ready.now.chart.events x) }
     {
-        ready.kept();
+        ready.facts();
         queue_numbers_are_bounded();
         let (chart, wiring) = (ready.chart(), ready.wiring());
         let head = self.heads[wiring.queue(x) as usize];
@@ -175,7 +175,7 @@ impl Beginning {
         ensures held { OnOk result (HoldsRun ready.now self.new) }
         ensures run { OnOk result (self.new.run.items ≡ self.old.run.items ++ x ∷ []) }
     {
-        ready.kept();
+        ready.facts();
         ends_share_queues();
         queue_numbers_are_bounded();
         let chart = ready.chart();

@@ -1,15 +1,15 @@
 //! Whether a ready run can be whole.
 //!
-//! One run is made in which each output waits for those that have to come before it. If it gets
-//! whole, a ready run is whole; if it does not, none is, since what has to come before what leads in
-//! a ring.
+//! The search makes one run, in which each output waits for those that have to precede it. If this
+//! run becomes whole, some ready run is whole. If it does not, no ready run is whole, since the
+//! required precedences have a ring.
 
 ghost use Rattle.std.specs.Prelude.{◌≡◌, ℕ, ◌<◌, ◌↔◌, length, IfOk, IsTrue, MatchOption};
 ghost use Rattle.msc_chart.specs.Runs.{IsWhole};
 ghost use Rattle.msc_ready.specs.Beginnings.{HasMarks, HoldsRun};
 ghost use Rattle.msc_ready.specs.Finishing.{IsInTurn, MayComeInTurn, MayFinish};
 ghost use Rattle.msc_ready.specs.Held.{ready_in, wiring_of};
-ghost use Rattle.msc_ready.specs.Sticks.{is_lined};
+ghost use Rattle.msc_ready.specs.BlockedPairs.{is_lined};
 
 use crate::beginning::Beginning;
 use crate::ready::Ready;
@@ -26,10 +26,10 @@ impl Beginning {
         ensures { IsTrue result
             ↔ IsInTurn (wiring_of ready.now) (ready_in ready.now) self.now.run.items x }
     {
-        ready.kept();
+        ready.facts();
         let chart = ready.chart();
         let u = chart.other_end(x);
-        // A pair of a line: what is drawn before `u` stands above it.
+        // A pair of a line: all that is drawn before `u` has a smaller number.
         for r in chart.line(chart.instance_of(u)).0..u {
             if ready.is_lined(r, u) && !self.done[chart.other_end(r) as usize] {
                 return false;
@@ -69,13 +69,13 @@ impl Beginning {
 }
 
 impl Ready<'_> {
-    /// Whether some ready run is whole: if not, each sticks sooner or later. An error is a growth of
-    /// memory that was refused.
+    /// Whether some ready run is whole; if none is, each ready run sticks sooner or later. An error
+    /// is a growth of memory that was refused.
     pub fn may_finish(&self, alloc: Global) -> Result<bool, AllocError>
         ensures { IfOk result
             (λ may. IsTrue may ↔ MayFinish (wiring_of self.now) (ready_in self.now)) }
     {
-        self.kept();
+        self.facts();
         ends_share_queues();
         inputs_share_lines();
         let mut beginning = Beginning::start(alloc, self)?;

@@ -1,20 +1,20 @@
-//! The races that are left, event by event: they are counted and told without a list of all of
-//! them.
+//! The races that are left, event by event: they are counted and enumerated without a list of all
+//! of them.
 
-ghost use Rattle.std.specs.Prelude.{◌≡◌, ℕ, ◌<◌, ◌≤◌, ◌↔◌, ◌++◌, Bool, length, IsTrue, MatchOption};
-ghost use Rattle.std.specs.Prelude.{OnOk};
+ghost use Rattle.std.specs.Prelude.{◌≡◌, ℕ, ◌<◌, ◌≤◌, ◌↔◌, ◌++◌, [], Bool, length, IsTrue};
+ghost use Rattle.std.specs.Prelude.{MatchOption, OnErr, OnOk};
 ghost use Rattle.msc_chart.specs.Lists.{pairs_of, pairs_to, IsLeast};
 ghost use Rattle.msc_ready.specs.Held.{ready_in, wiring_of};
-ghost use Rattle.msc_ready.specs.Sticks.{AreLeft, IsRaceLeft};
+ghost use Rattle.msc_ready.specs.BlockedPairs.{AreLeft, IsRaceLeft};
 
 use crate::ready::Ready;
 use msc_chart::Event;
 use std::alloc::AllocError;
 
 impl Ready<'_> {
-    /// Whether two events are a race that is left: a pair that is drawn on a line that is not
-    /// ready, in an order which is not that of the ready order. Both are numbers of events, from 0.
-    /// It takes no memory.
+    /// Whether two events are a race that is left: they are drawn in an order on a line that is not
+    /// ready, and the ready order does not hold them in it. Both are numbers of events, from 0. It
+    /// takes no memory.
     pub fn is_race_left(&self, e: Event, f: Event) -> bool
         requires e_known { e < length self.now.chart.events }
         requires f_known { f < length self.now.chart.events }
@@ -30,8 +30,8 @@ impl Ready<'_> {
         !self.holds(e, f)
     }
 
-    /// The least event from `start` on with which `e` is a race that is left, if there is one. It
-    /// takes no memory.
+    /// The least event from `start` on that makes a race that is left with `e` as the first event,
+    /// if there is one. It takes no memory.
     pub fn next_race_left(&self, e: Event, start: Event) -> Option<Event>
         requires { e < length self.now.chart.events }
         ensures { MatchOption result ((f : ℕ) → start ≤ f
@@ -46,9 +46,26 @@ impl Ready<'_> {
         None
     }
 
+    /// Fills the list with the races that are left whose first event is `e`, ascending. An error is
+    /// a growth of memory that was refused; the list is empty then.
+    pub fn next_left(&self, list: &mut Vec<(Event, Event)>, e: Event) -> Result<(), AllocError>
+        requires { e < length self.now.chart.events }
+        ensures list { OnOk result ((left : ℕ → ℕ → Bool)
+            → AreLeft (wiring_of self.now) (ready_in self.now) left
+            → list.new.items ≡ pairs_to left e (length self.now.chart.events)) }
+        ensures error { OnErr result (list.new.items ≡ []) }
+    {
+        list.clear();
+        let filled = self.push_left(list, e);
+        if filled.is_err() {
+            list.clear();
+        }
+        filled
+    }
+
     /// Appends the races that are left whose first event is `e`, ascending. An error is a growth of
     /// memory that was refused.
-    pub fn push_left(&self, list: &mut Vec<(Event, Event)>, e: Event) -> Result<(), AllocError>
+    fn push_left(&self, list: &mut Vec<(Event, Event)>, e: Event) -> Result<(), AllocError>
         requires { e < length self.now.chart.events }
         ensures { OnOk result ((left : ℕ → ℕ → Bool)
             → AreLeft (wiring_of self.now) (ready_in self.now) left
@@ -62,7 +79,7 @@ impl Ready<'_> {
         Ok(())
     }
 
-    /// How many races that are left have `e` as their first event. It takes no memory.
+    /// The number of races that are left with `e` as their first event. It takes no memory.
     fn count_left_from(&self, e: Event) -> u32
         requires { e < length self.now.chart.events }
         ensures few { result ≤ length self.now.chart.events }
@@ -79,13 +96,13 @@ impl Ready<'_> {
         count
     }
 
-    /// How many races are left. It takes no memory.
+    /// The number of races that are left. It takes no memory.
     pub fn count_left(&self) -> u32
         ensures { (left : ℕ → ℕ → Bool) → AreLeft (wiring_of self.now) (ready_in self.now) left
             → result ≡ length (pairs_of left (length self.now.chart.events)) }
     {
         // A pair is of two events, so there are fewer than the square of `EVENT_LIMIT`, which fits.
-        self.kept();
+        self.facts();
         let mut total = 0;
         for e in 0..self.events() {
             total += self.count_left_from(e);

@@ -1,7 +1,8 @@
 //! A chart under an architecture, with its ready instances.
 //!
-//! The visual order is kept with it: whichever instances are ready, the ready order is told by it.
-//! Where a list says which are, the rows of the ready order are made of it once.
+//! The visual order is kept with it, since the ready order is computed from it, whichever instances
+//! are ready. If a list says which instances are ready, the rows of the ready order are made of it
+//! once.
 
 ghost use Rattle.std.specs.Prelude.{◌≡◌, ℕ, ◌<◌, ◌↔◌, [], length, nat_eq, IfOk, IsTrue};
 ghost use Rattle.msc_chart.specs.Charts.{is_input, line};
@@ -10,7 +11,8 @@ ghost use Rattle.msc_chart.specs.Drawings.{IsAccepted};
 ghost use Rattle.msc_order.specs.Tables.{orders};
 ghost use Rattle.msc_ready.specs.Held.{HasVisualOrder, ready_in, ready_of, wiring_of};
 ghost use Rattle.msc_ready.specs.Readiness.{ReadyOrder};
-ghost use Rattle.msc_ready.specs.Sticks.{is_awaited, is_lined, is_stick, IsStick};
+ghost use Rattle.msc_ready.specs.BlockedPairs.{is_awaited, is_lined, is_blocked_pair};
+ghost use Rattle.msc_ready.specs.BlockedPairs.{IsBlockedPair};
 
 use bit_rows::table::has;
 use msc_chart::laws::{ends_share_queues, inputs_share_lines};
@@ -20,14 +22,14 @@ use std::alloc::{AllocError, Global};
 use std::marker::Model;
 
 /// A chart under an architecture, which of its lines are ready, and its visual order. Contracts see
-/// these four.
+/// the chart, the architecture, the lines and the visual order.
 #[derive(Drop)]
 pub struct Ready<'a> {
     chart: &'a Chart,
     queues: Queues,
     lines: Vec<bool>,
     order: Order,
-    /// The rows of the ready order, where a list says which lines are ready.
+    /// The rows of the ready order, if a list says which lines are ready.
     rows: Vec<u64>,
 }
 
@@ -44,7 +46,7 @@ impl<'a> Model for Ready<'a> {
         × HasRows (ready_chart r.chart.now r.queues r.lines.items r.order) r.rows.items };
 }
 
-/// Whether line `i` is ready by a list: a line of which it says nothing is.
+/// Whether line `i` is ready by a list. A line past the list is ready.
 pub(crate) fn is_listed(lines: &[bool], i: u32) -> bool
     ensures { result ≡ ready_of lines.now i }
 {
@@ -65,8 +67,8 @@ impl<'a> Ready<'a> {
         Ready::some(alloc, chart, queues, Vec::new(alloc))
     }
 
-    /// A chart under an architecture, where those instances are ready of which the list says so, or
-    /// says nothing. An error is a growth of memory that was refused.
+    /// A chart under an architecture, with the ready instances of a list. An instance past the list
+    /// is ready. An error is a growth of memory that was refused.
     pub fn some(
         alloc: Global,
         chart: &'a Chart,
@@ -124,17 +126,17 @@ impl<'a> Ready<'a> {
         }
     }
 
-    /// What every such chart keeps. It does nothing; a caller calls it to rest its own proof on
-    /// that.
-    pub fn kept(&self)
+    /// The facts that hold for every such chart. It does nothing when it runs; a caller that needs
+    /// these facts calls it.
+    pub fn facts(&self)
         ensures order { HasVisualOrder self.now }
         ensures chart { IsAccepted self.now.chart }
     {
         let chart = self.chart;
-        chart.accepted();
+        chart.facts();
     }
 
-    /// How many events the chart has. It takes no memory.
+    /// The number of events of the chart. It takes no memory.
     pub fn events(&self) -> u32
         ensures { result ≡ length self.now.chart.events }
     {
@@ -148,7 +150,7 @@ impl<'a> Ready<'a> {
         is_listed(&self.lines, i)
     }
 
-    /// Whether `e` stands before `f` in the visual order.
+    /// Whether `e` precedes `f` in the visual order.
     pub(crate) fn precedes(&self, e: Event, f: Event) -> bool
         requires e_known { e < length self.now.chart.events }
         requires f_known { f < length self.now.chart.events }
@@ -157,14 +159,14 @@ impl<'a> Ready<'a> {
         self.order.holds(e, f)
     }
 
-    /// Whether `x` stands before `y` in the ready order. Both are numbers of events, from 0. It
-    /// takes no memory.
+    /// Whether `x` precedes `y` in the ready order. Both are numbers of events, from 0. It takes no
+    /// memory.
     pub fn holds(&self, x: Event, y: Event) -> bool
         requires x_known { x < length self.now.chart.events }
         requires y_known { y < length self.now.chart.events }
         ensures { IsTrue result ↔ ReadyOrder (wiring_of self.now) (ready_in self.now) x y }
     {
-        self.kept();
+        self.facts();
         ends_share_queues();
         if self.lines.is_empty() {
             return self.precedes(x, y);
@@ -195,7 +197,7 @@ impl<'a> Ready<'a> {
         self.is_ready(chart.instance_of(f))
     }
 
-    /// Whether the inputs `e` and `f` are of one queue.
+    /// Whether the inputs `e` and `f` share a queue.
     pub(crate) fn share_queue(&self, e: Event, f: Event) -> bool
         requires e_input { IsTrue (is_input self.now.chart.events e) }
         requires f_input { IsTrue (is_input self.now.chart.events f) }
@@ -223,15 +225,16 @@ impl<'a> Ready<'a> {
         self.share_queue(e, f)
     }
 
-    /// Whether two events are a stick. Both are numbers of events, from 0. It takes no memory.
-    pub fn is_stick(&self, e: Event, f: Event) -> bool
+    /// Whether two events are a blocked pair. Both are numbers of events, from 0. It takes no
+    /// memory.
+    pub fn is_blocked_pair(&self, e: Event, f: Event) -> bool
         requires e_known { e < length self.now.chart.events }
         requires f_known { f < length self.now.chart.events }
         ensures value { result
-            ≡ is_stick (wiring_of self.now) (ready_in self.now) self.now.order e f }
-        ensures exact { IsTrue result ↔ IsStick (wiring_of self.now) (ready_in self.now) e f }
+            ≡ is_blocked_pair (wiring_of self.now) (ready_in self.now) self.now.order e f }
+        ensures exact { IsTrue result ↔ IsBlockedPair (wiring_of self.now) (ready_in self.now) e f }
     {
-        self.sticks_are_told();
+        self.blocked_pairs_are_told();
         if !self.is_lined(e, f) {
             return false;
         }
@@ -239,12 +242,12 @@ impl<'a> Ready<'a> {
         !self.precedes(chart.other_end(e), chart.other_end(f))
     }
 
-    /// What the test for sticks says. It does nothing.
-    pub(crate) fn sticks_are_told(&self)
-        ensures { (e f : ℕ) → IsTrue (is_stick (wiring_of self.now) (ready_in self.now)
-            self.now.order e f) ↔ IsStick (wiring_of self.now) (ready_in self.now) e f }
+    /// The test for blocked pairs is right. It does nothing when it runs.
+    pub(crate) fn blocked_pairs_are_told(&self)
+        ensures { (e f : ℕ) → IsTrue (is_blocked_pair (wiring_of self.now) (ready_in self.now)
+            self.now.order e f) ↔ IsBlockedPair (wiring_of self.now) (ready_in self.now) e f }
     {
-        self.kept();
+        self.facts();
         ends_share_queues();
         inputs_share_lines();
     }

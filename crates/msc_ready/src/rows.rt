@@ -1,8 +1,8 @@
 //! The rows of the ready order, made of the visual order.
 //!
-//! Before an input of a line that is not ready stands what is before its output, and inputs of its
-//! queue whose outputs come first; before any other event what the visual order puts there, and what
-//! goes over one such step between two inputs.
+//! All that comes before its output precedes an input of a line that is not ready, and so do the
+//! inputs of its queue whose outputs come first. The visual order gives what precedes any other
+//! event, together with what comes before it over one such step between two inputs.
 
 ghost use Rattle.std.specs.Prelude.{◌≡◌, ℕ, ◌*◌, ◌<◌, ◌↔◌, false, length, IfOk, IsTrue};
 ghost use Rattle.bit_rows.specs.Rows.{word_count};
@@ -33,13 +33,13 @@ impl Ready<'_> {
         !is_listed(lines, self.chart().instance_of(e))
     }
 
-    /// Whether lines and messages alone put `x` before `y`.
+    /// Whether lines and messages by themselves put `x` before `y`.
     fn is_plain(&self, lines: &[bool], x: Event, y: Event) -> bool
         requires x_known { x < length self.now.chart.events }
         requires y_known { y < length self.now.chart.events }
         ensures { IsTrue result ↔ Plain (wiring_of self.now) (ready_of lines.now) x y }
     {
-        self.kept();
+        self.facts();
         ends_share_queues();
         if !self.is_loose(lines, y) {
             return self.precedes(x, y);
@@ -52,13 +52,13 @@ impl Ready<'_> {
     }
 
     /// Whether the rule of queues puts `r` before `u`: both are inputs of one queue whose line is
-    /// not ready, and so their outputs stand.
+    /// not ready, and their outputs have that order.
     fn are_mates(&self, lines: &[bool], r: Event, u: Event) -> bool
         requires r_known { r < length self.now.chart.events }
         requires u_known { u < length self.now.chart.events }
         ensures { IsTrue result ↔ AreMates (wiring_of self.now) (ready_of lines.now) r u }
     {
-        self.kept();
+        self.facts();
         if !self.is_input(r) {
             return false;
         }
@@ -72,7 +72,7 @@ impl Ready<'_> {
         self.is_plain(lines, chart.other_end(r), chart.other_end(u))
     }
 
-    /// Row `x` takes in what lines and messages alone put behind `x`.
+    /// Row `x` takes in the events that lines and messages by themselves put after `x`.
     fn put_plain(&self, lines: &[bool], rows: &mut [u64], x: Event)
         requires square { length rows.old
             ≡ length self.now.chart.events * word_count (length self.now.chart.events) }
@@ -93,8 +93,8 @@ impl Ready<'_> {
         }
     }
 
-    /// Row `x` takes in what goes over one use of the rule of queues from `x`, where all rows have
-    /// what lines and messages alone put behind their events.
+    /// Row `x` takes in what one use of the rule of queues from `x` adds. All rows have what lines
+    /// and messages by themselves put after their events.
     fn put_over(&self, lines: &[bool], rows: &mut [u64], x: Event)
         requires square { length rows.old
             ≡ length self.now.chart.events * word_count (length self.now.chart.events) }
@@ -109,7 +109,7 @@ impl Ready<'_> {
             (cell (length self.now.chart.events) rows.new) }
         ensures row { HasOver (wiring_of self.now) (ready_of lines.now) rows.new x }
     {
-        self.kept();
+        self.facts();
         ends_share_queues();
         inputs_share_lines();
         if !self.is_loose(lines, x) {
@@ -123,14 +123,14 @@ impl Ready<'_> {
         }
     }
 
-    /// Blank rows become those of the ready order with these lines ready.
+    /// Fills blank rows with the ready order for these ready lines.
     fn fill(&self, lines: &[bool], rows: &mut [u64])
         requires square { length rows.old
             ≡ length self.now.chart.events * word_count (length self.now.chart.events) }
         requires blank { (x y : ℕ) → cell (length self.now.chart.events) rows.old x y ≡ false }
         ensures { AreRowsOf (wiring_of self.now) (ready_of lines.now) rows.new }
     {
-        self.kept();
+        self.facts();
         ends_share_queues();
         inputs_share_lines();
         for x in 0..self.events() {
@@ -141,7 +141,7 @@ impl Ready<'_> {
         }
     }
 
-    /// The rows of the ready order with these lines ready. An error is a growth of memory that was
+    /// The rows of the ready order for these ready lines. An error is a growth of memory that was
     /// refused.
     pub(crate) fn rows_of(&self, alloc: Global, lines: &[bool]) -> Result<Vec<u64>, AllocError>
         ensures { IfOk result (λ rows.

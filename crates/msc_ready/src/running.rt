@@ -8,9 +8,10 @@ ghost use Rattle.msc_ready.specs.Beginnings.{HasFronts, HoldsRun};
 ghost use Rattle.msc_ready.specs.Held.{ready_in, wiring_of};
 ghost use Rattle.msc_ready.specs.Looking.{ComesAmong, ComesOn, IsAmong, NoneComesFrom};
 ghost use Rattle.msc_ready.specs.Readiness.{MayComeReady};
-ghost use Rattle.msc_ready.specs.Running.{GoesOnAs, HasOutputsUpTo, IsStickNext, IsStickRun};
+ghost use Rattle.msc_ready.specs.Running.{GoesOnAs, HasOutputsUpTo, IsBlockedPairNext};
+ghost use Rattle.msc_ready.specs.Running.{IsBlockedPairRun};
 ghost use Rattle.msc_ready.specs.Running.{IsTowardNext};
-ghost use Rattle.msc_ready.specs.Sticks.{IsFirstStick};
+ghost use Rattle.msc_ready.specs.BlockedPairs.{IsFirstBlockedPair};
 
 use crate::beginning::Beginning;
 use crate::ready::Ready;
@@ -18,10 +19,10 @@ use msc_chart::Event;
 use msc_chart::laws::{ends_share_queues, inputs_share_lines};
 use std::alloc::{AllocError, Global};
 
-/// The events that are looked at for the next one.
+/// The events among which the next one is searched.
 #[derive(Clone, Copy)]
 pub enum Among {
-    /// An event, and what stands before it in the ready order.
+    /// An event, and all that precedes it in the ready order.
     UpTo(Event),
     /// The inputs.
     Inputs,
@@ -43,8 +44,8 @@ fn is_among(ready: &Ready, among: Among, x: Event) -> bool
 }
 
 impl Beginning {
-    /// Whether neither `x` nor an event of line `i` behind it may come next, since the line has ended,
-    /// or is ready and does not let `x` come. It is asked from the front of the line on.
+    /// Whether neither `x` nor a later event of line `i` may come next: the line has ended, or it
+    /// is ready and `x` may not come. The search calls it from the front of the line on.
     fn is_barred(&self, ready: &Ready, i: u32, x: Event) -> bool
         requires known { x < length ready.now.chart.events }
         requires line { i < length ready.now.chart.instances }
@@ -54,7 +55,7 @@ impl Beginning {
             self.now.run.items i x }
         ensures on_line { result ≡ false → line ready.now.chart.events x ≡ i }
     {
-        ready.kept();
+        ready.facts();
         if ready.chart().instance_of(x) != i {
             return true;
         }
@@ -108,7 +109,7 @@ impl Beginning {
             (IsLeast (ComesAmong (wiring_of ready.now) (ready_in ready.now) among
             self.now.run.items)) }
     {
-        ready.kept();
+        ready.facts();
         for i in 0..ready.chart().instances() {
             if let Some(x) = self.least_on(ready, among, i) {
                 return Some(x);
@@ -117,20 +118,21 @@ impl Beginning {
         None
     }
 
-    /// The next event on the way to `t`, the second output of a first stick: the least that may
-    /// come of those up to `t`, or, where none may, the least input that may; none once `t` has
+    /// The next event on the way to `t`, the second output of a first blocked pair: the least event
+    /// up to
+    /// `t` that may come or, if none may, the least input that may come; none once `t` has
     /// occurred.
     fn next_toward(&self, ready: &Ready, t: Event) -> Option<Event>
         requires known { t < length ready.now.chart.events }
         requires held { HoldsRun ready.now self.now }
         ensures some { IfSome result
             (IsTowardNext (wiring_of ready.now) (ready_in ready.now) t self.now.run.items) }
-        ensures none { (e f : ℕ) → IsFirstStick (wiring_of ready.now) (ready_in ready.now) e f
+        ensures none { (e f : ℕ) → IsFirstBlockedPair (wiring_of ready.now) (ready_in ready.now) e f
             → t ≡ partner ready.now.chart.events f
             → HasOutputsUpTo (wiring_of ready.now) (ready_in ready.now) t self.now.run.items
             → IfNone result (IsTrue (occurs self.now.run.items t)) }
     {
-        ready.kept();
+        ready.facts();
         ends_share_queues();
         inputs_share_lines();
         if self.done[t as usize] {
@@ -142,17 +144,17 @@ impl Beginning {
         }
     }
 
-    /// Goes on with the least event that may come, until none may. An error is a growth of memory
-    /// that was refused.
+    /// Continues the run with the least event that may come, until none may. An error is a growth
+    /// of memory that was refused.
     fn finish(&mut self, ready: &Ready) -> Result<(), AllocError>
         requires { HoldsRun ready.now self.old }
         ensures held { OnOk result (HoldsRun ready.now self.new) }
         ensures longer { OnOk result (GoesOnAs self.old.run.items self.new.run.items) }
         ensures none { OnOk result ((x : ℕ) → MayComeReady (wiring_of ready.now)
             (ready_in ready.now) self.new.run.items x → ⊥) }
-        ensures chosen { OnOk result ((t : ℕ) → IsTrue (occurs self.old.run.items t)
-            → Steps (IsStickNext (wiring_of ready.now) (ready_in ready.now) t) []
-            self.old.run.items → Steps (IsStickNext (wiring_of ready.now) (ready_in ready.now) t)
+        ensures witness { OnOk result ((t : ℕ) → IsTrue (occurs self.old.run.items t)
+            → Steps (IsBlockedPairNext (wiring_of ready.now) (ready_in ready.now) t) []
+            self.old.run.items → Steps (IsBlockedPairNext (wiring_of ready.now) (ready_in ready.now) t)
             [] self.new.run.items) }
     {
         while let Some(x) = self.least_next(ready, Among::All) {
@@ -163,17 +165,22 @@ impl Beginning {
 }
 
 impl Ready<'_> {
-    /// A run after which the system has stuck, for a first stick: it has the second output and not,
-    /// before it, the first. While an event up to the second output is left, it goes on with the
-    /// least of these that may come, or, where none may, with the least input that may; then with
-    /// the least event that may come, until none may. An error is a growth of memory that was
-    /// refused.
-    pub fn stick_run(&self, alloc: Global, e: Event, f: Event) -> Result<Vec<Event>, AllocError>
-        requires { IsFirstStick (wiring_of self.now) (ready_in self.now) e f }
+    /// A run after which the system has stuck, for a first blocked pair: it has the second output
+    /// without the first output before it. While an event up to the second output is left, the next
+    /// event is the least of these that may come or, if none may, the least input that may come.
+    /// After that it is the least event that may come, until none may. An error is a growth of
+    /// memory that was refused.
+    pub fn blocked_pair_run(
+        &self,
+        alloc: Global,
+        e: Event,
+        f: Event,
+    ) -> Result<Vec<Event>, AllocError>
+        requires { IsFirstBlockedPair (wiring_of self.now) (ready_in self.now) e f }
         ensures { IfOk result
-            (λ run. IsStickRun (wiring_of self.now) (ready_in self.now) e f run.items) }
+            (λ run. IsBlockedPairRun (wiring_of self.now) (ready_in self.now) e f run.items) }
     {
-        self.kept();
+        self.facts();
         ends_share_queues();
         let t = self.chart().other_end(f);
         let mut beginning = Beginning::start(alloc, self)?;

@@ -1,59 +1,65 @@
-//! The sticks of a chart, event by event: they are counted and told without a list of all of them.
+//! The blocked pairs of a chart, event by event: they are counted and enumerated without a list of
+//! all of them.
 //!
-//! A stick is of two inputs of one line, so of each input the rest of its line is looked at.
+//! A blocked pair consists of two inputs of one line. So for each input the code visits the rest of
+//! its line.
 
 ghost use Rattle.std.specs.Prelude.{◌≡◌, ◌<◌, ◌++◌, length, OnOk};
-ghost use Rattle.msc_ready.specs.Views.{sticks_from, sticks_of, IsLeastFirst};
+ghost use Rattle.msc_ready.specs.Views.{blocked_pairs_from, blocked_pairs_of, IsLeastFirst};
 
 use crate::ready::Ready;
 use msc_chart::Event;
 use std::alloc::AllocError;
 
 impl Ready<'_> {
-    /// Appends the sticks whose first event is `e`, ascending. An error is a growth of memory that
-    /// was refused.
-    pub fn push_sticks(&self, list: &mut Vec<(Event, Event)>, e: Event) -> Result<(), AllocError>
+    /// Appends the blocked pairs whose first event is `e`, ascending. An error is a growth of
+    /// memory that was refused.
+    pub fn push_blocked_pairs(
+        &self,
+        list: &mut Vec<(Event, Event)>,
+        e: Event,
+    ) -> Result<(), AllocError>
         requires { e < length self.now.chart.events }
-        ensures { OnOk result (list.new.items ≡ list.old.items ++ sticks_from self.now e) }
+        ensures { OnOk result (list.new.items ≡ list.old.items ++ blocked_pairs_from self.now e) }
     {
-        self.kept();
+        self.facts();
         if !self.is_input(e) {
             return Ok(());
         }
         let end = self.chart().line_end(e);
         for f in e..end {
-            if self.is_stick(e, f) {
+            if self.is_blocked_pair(e, f) {
                 list.push((e, f))?;
             }
         }
         Ok(())
     }
 
-    /// How many sticks have `e` as their first event. It takes no memory.
+    /// The number of blocked pairs with `e` as their first event. It takes no memory.
     fn count_from(&self, e: Event) -> u32
         requires { e < length self.now.chart.events }
-        ensures { result ≡ length (sticks_from self.now e) }
+        ensures { result ≡ length (blocked_pairs_from self.now e) }
     {
-        self.kept();
+        self.facts();
         if !self.is_input(e) {
             return 0;
         }
         let end = self.chart().line_end(e);
         let mut count = 0;
         for f in e..end {
-            if self.is_stick(e, f) {
+            if self.is_blocked_pair(e, f) {
                 count += 1;
             }
         }
         count
     }
 
-    /// How many sticks the chart has. It takes no memory.
-    pub fn count_sticks(&self) -> u32
-        ensures { result ≡ length (sticks_of self.now) }
+    /// The number of blocked pairs of the chart. It takes no memory.
+    pub fn count_blocked_pairs(&self) -> u32
+        ensures { result ≡ length (blocked_pairs_of self.now) }
     {
         // A pair is of two events, so there are fewer than the square of `EVENT_LIMIT`, which fits.
-        self.kept();
+        self.facts();
         let mut total = 0;
         for e in 0..self.events() {
             total += self.count_from(e);
@@ -61,16 +67,16 @@ impl Ready<'_> {
         total
     }
 
-    /// The least event that is the first of a stick with `h`, or the number of events where none
-    /// is. It takes no memory.
+    /// The least event that makes a blocked pair with `h` as the second event, or the number of
+    /// events if there is none. It takes no memory.
     pub(crate) fn least_first(&self, h: Event) -> Event
         requires { h < length self.now.chart.events }
         ensures { IsLeastFirst self.now h result }
     {
-        self.kept();
+        self.facts();
         let chart = self.chart();
         for g in chart.line(chart.instance_of(h)).0..h {
-            if self.is_stick(g, h) {
+            if self.is_blocked_pair(g, h) {
                 return g;
             }
         }

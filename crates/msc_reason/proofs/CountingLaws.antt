@@ -18,7 +18,7 @@ use Rattle.msc_reason.proofs.Filtered.{any_in, any_parts, filter_from, filter_pa
 use Rattle.msc_reason.proofs.Spans.{before_trans, parted}
 use Rattle.msc_reason.proofs.Within.{before_apart, within_from, within_parts, Within}
 use Rattle.msc_reason.specs.Closest.{IsClosest, StandsWithin}
-use Rattle.msc_reason.specs.Counting.{counting, counts, is_alone, is_listed, is_within, listed, AreLacks}
+use Rattle.msc_reason.specs.Counting.{counting, counts, is_alone, is_listed, is_within, listed, AreCauses}
 use Rattle.msc_reason.specs.CountingLaws.{IsClosestCounting, IsCounting, IsLeftOut}
 use Rattle.msc_reason.specs.Kinds.{has_kind, is_empty}
 use Rattle.msc_reason.specs.LeftOut.{is_accepted, leaves_none}
@@ -26,12 +26,12 @@ use Rattle.msc_reason.specs.declared.kinds.KindSet.{KindSet}
 use Rattle.msc_reason.proofs.Counted.{none_accepted, none_of}
 use Rattle.msc_reason.specs.Laws.{EachRaceHasOneKind}
 use Rattle.msc_reason.specs.declared.left_out.LeftOut.{LeftOut}
-use Rattle.msc_reason.specs.declared.lack.Lack.{Lack}
-use Rattle.msc_reason.specs.declared.lack.RaceKind.{RaceKind}
-use Rattle.msc_reason.specs.declared.lack.RaceKind.TheVariants.{Early, Queues, Unordered, Overtaken}
+use Rattle.msc_reason.specs.declared.cause.Cause.{Cause}
+use Rattle.msc_reason.specs.declared.cause.RaceKind.{RaceKind}
+use Rattle.msc_reason.specs.declared.cause.RaceKind.TheVariants.{Early, Queues, Unordered, Overtaken}
 
 module _ (e : EnforcedChart) (is : IsEnforced e) (accepted : IsAccepted e.chart) (law : EachRaceHasOneKind)
-    (allowed : LeftOut) (lacks : ℕ → ℕ → Lack) (are : AreLacks e lacks) where
+    (allowed : LeftOut) (causes : ℕ → ℕ → Cause) (are : AreCauses e causes) where
   -- a race is one of the list
   race_in : (x y : ℕ) → IsRace (wiring_of e) x y → Occurs (races_of e) (x, y)
   unfolding is_raced
@@ -49,32 +49,32 @@ module _ (e : EnforcedChart) (is : IsEnforced e) (accepted : IsAccepted e.chart)
       (both.0, λ held. clash (is.enforced.complete x y held) (not-true (orders e.order x y) both.1))
 
   -- a race that counts passes
-  counts_from : (x y : ℕ) → IsCounting (wiring_of e) allowed x y → counts allowed lacks (x, y) ≡ true
+  counts_from : (x y : ℕ) → IsCounting (wiring_of e) allowed x y → counts allowed causes (x, y) ≡ true
   counts_from x y its = and_from _ _
       (not_from_false _ (false_from_ne_true (is_accepted allowed (x, y)) (λ named. its.counts (inr named))))
-      (not_from_false _ (false_from_ne_true (has_kind allowed.kinds (lacks x y).kind) (λ named.
-      its.counts (inl (record { kind = (lacks x y).kind; its = (are x y its.race).kind; named = named })))))
+      (not_from_false _ (false_from_ne_true (has_kind allowed.kinds (causes x y).kind) (λ named.
+      its.counts (inl (record { kind = (causes x y).kind; its = (are x y its.race).kind; named = named })))))
 
   -- and what passes counts
-  counts_parts : (x y : ℕ) → IsRace (wiring_of e) x y → counts allowed lacks (x, y) ≡ true → IsCounting (wiring_of e) allowed x y
+  counts_parts : (x y : ℕ) → IsRace (wiring_of e) x y → counts allowed causes (x, y) ≡ true → IsCounting (wiring_of e) allowed x y
   counts_parts x y race passes =
-      let both = and_parts (not (is_accepted allowed (x, y))) (not (has_kind allowed.kinds (lacks x y).kind)) passes in
+      let both = and_parts (not (is_accepted allowed (x, y))) (not (has_kind allowed.kinds (causes x y).kind)) passes in
       record {
         race = race;
         counts = λ out. elim out [
           | inl left ↦
               let one = law e.queues e.chart accepted x y race in
-              let same = one.2 (lacks x y).kind (are x y race).kind ∙ sym (one.2 left.kind left.its) in
+              let same = one.2 (causes x y).kind (are x y race).kind ∙ sym (one.2 left.kind left.its) in
               clash (ap (has_kind allowed.kinds) same ∙ left.named) (not-true _ both.1)
           | inr named ↦ clash named (not-true _ both.0)
         ];
       }
 
   -- the races that count are those of the list
-  pub counting_listed : (x y : ℕ) → IsCounting (wiring_of e) allowed x y ↔ Occurs (counting e allowed lacks) (x, y)
+  pub counting_listed : (x y : ℕ) → IsCounting (wiring_of e) allowed x y ↔ Occurs (counting e allowed causes) (x, y)
   counting_listed x y = (
-    λ its. filter_from (counts allowed lacks) (races_of e) (x, y) (race_in x y its.race) (counts_from x y its),
-    λ there. let kept = filter_parts (counts allowed lacks) (races_of e) (x, y) there in counts_parts x y (race_of x y kept.0) kept.1,
+    λ its. filter_from (counts allowed causes) (races_of e) (x, y) (race_in x y its.race) (counts_from x y its),
+    λ there. let kept = filter_parts (counts allowed causes) (races_of e) (x, y) there in counts_parts x y (race_of x y kept.0) kept.1,
   )
 
   -- what stands within a pair is another one, or it
@@ -88,32 +88,32 @@ module _ (e : EnforcedChart) (is : IsEnforced e) (accepted : IsAccepted e.chart)
   ]
 
   -- where no other one of the list stands within, none that counts does
-  alone_parts : (x y : ℕ) → is_alone e.chart.events (counting e allowed lacks) (x, y) ≡ true
+  alone_parts : (x y : ℕ) → is_alone e.chart.events (counting e allowed causes) (x, y) ≡ true
       → (g h : ℕ) → IsCounting (wiring_of e) allowed g h → StandsWithin e.chart.events x y g h → (g ≡ x) × (h ≡ y)
   alone_parts x y alone g h its stands = elim (within_or x y g h stands) [
     | inl other ↦
-        let some = any_in (is_within e.chart.events (x, y)) (counting e allowed lacks) (g, h) ((counting_listed g h).0 its) (within_from e.chart.events (x, y) (g, h) other) in
+        let some = any_in (is_within e.chart.events (x, y)) (counting e allowed causes) (g, h) ((counting_listed g h).0 its) (within_from e.chart.events (x, y) (g, h) other) in
         clash some (not-true _ alone)
     | inr same ↦ same
   ]
 
   -- a closest one
-  closest_from : (x y : ℕ) → IsCounting (wiring_of e) allowed x y → is_alone e.chart.events (counting e allowed lacks) (x, y) ≡ true
+  closest_from : (x y : ℕ) → IsCounting (wiring_of e) allowed x y → is_alone e.chart.events (counting e allowed causes) (x, y) ≡ true
       → IsClosestCounting (wiring_of e) allowed x y
   closest_from x y its alone = record { itself = its; alone = alone_parts x y alone }
 
   -- the closest ones are those of the other list
-  pub closest_listed : (x y : ℕ) → IsClosestCounting (wiring_of e) allowed x y ↔ Occurs (listed e allowed true lacks) (x, y)
+  pub closest_listed : (x y : ℕ) → IsClosestCounting (wiring_of e) allowed x y ↔ Occurs (listed e allowed true causes) (x, y)
   closest_listed x y = (
-    λ its. filter_from (is_listed e allowed true lacks) (races_of e) (x, y) (race_in x y its.itself.race)
-        (and_from (counts allowed lacks (x, y)) _ (counts_from x y its.itself) (not_from_false _ (false_from_ne_true _ (λ some.
-        let q = any_parts (is_within e.chart.events (x, y)) (counting e allowed lacks) some in
+    λ its. filter_from (is_listed e allowed true causes) (races_of e) (x, y) (race_in x y its.itself.race)
+        (and_from (counts allowed causes (x, y)) _ (counts_from x y its.itself) (not_from_false _ (false_from_ne_true _ (λ some.
+        let q = any_parts (is_within e.chart.events (x, y)) (counting e allowed causes) some in
         let within = within_parts e.chart.events (x, y) q.0 q.2 in
         let same = its.alone q.0.0 q.0.1 ((counting_listed q.0.0 q.0.1).1 q.1) (record { first = within.first; second = within.second }) in
         within.other same.0 same.1)))),
     λ there.
-        let kept = filter_parts (is_listed e allowed true lacks) (races_of e) (x, y) there in
-        let both = and_parts (counts allowed lacks (x, y)) _ kept.1 in
+        let kept = filter_parts (is_listed e allowed true causes) (races_of e) (x, y) there in
+        let both = and_parts (counts allowed causes (x, y)) _ kept.1 in
         closest_from x y (counts_parts x y (race_of x y kept.0) both.0) both.1,
   )
 
@@ -158,9 +158,9 @@ module _ (e : EnforcedChart) (is : IsEnforced e) (accepted : IsAccepted e.chart)
   -- by the segments between the two events
   spanned_by : (fuel x y : ℕ) → segment e.chart.events y ≤ segment e.chart.events x + fuel → IsCounting (wiring_of e) allowed x y → Spanned x y
   spanned_by zero x y near its = absurd (let p = before_parts e.chart.events x y its.race.0 in omega (arith, near, p.3))
-  spanned_by (suc fuel) x y near its = by_test (list_any (is_within e.chart.events (x, y)) (counting e allowed lacks))
+  spanned_by (suc fuel) x y near its = by_test (list_any (is_within e.chart.events (x, y)) (counting e allowed causes))
       (λ some.
-      let q = any_parts (is_within e.chart.events (x, y)) (counting e allowed lacks) some in
+      let q = any_parts (is_within e.chart.events (x, y)) (counting e allowed causes) some in
       let within = within_parts e.chart.events (x, y) q.0 q.2 in
       let less = nearer x y q.0.0 q.0.1 within in
       let inner = spanned_by fuel q.0.0 q.0.1 (omega (arith, near, less)) ((counting_listed q.0.0 q.0.1).1 q.1) in
@@ -172,25 +172,25 @@ module _ (e : EnforcedChart) (is : IsEnforced e) (accepted : IsAccepted e.chart)
   spanned x y its = spanned_by (segment e.chart.events y) x y (omega arith) its
 
   -- where none is listed as closest, none counts
-  none_from : (pairs : List (ℕ × ℕ)) → pairs ≡ counting e allowed lacks → listed e allowed true lacks ≡ [] → pairs ≡ []
+  none_from : (pairs : List (ℕ × ℕ)) → pairs ≡ counting e allowed causes → listed e allowed true causes ≡ [] → pairs ≡ []
   none_from [] same none = refl
   none_from (p ∷ pairs) same none =
-      let there : Occurs (counting e allowed lacks) p = subst (λ (l : List (ℕ × ℕ)). Occurs l p) same (zero, refl) in
+      let there : Occurs (counting e allowed causes) p = subst (λ (l : List (ℕ × ℕ)). Occurs l p) same (zero, refl) in
       let inner = spanned p.0 p.1 ((counting_listed p.0 p.1).1 there) in
       let found = subst (λ (l : List (ℕ × ℕ)). Occurs l (inner.0, inner.1)) none ((closest_listed inner.0 inner.1).0 inner.2) in
       absurd (let empty : Occurs {T = ℕ × ℕ} [] (inner.0, inner.1) = found in cc)
 
   -- and where none counts, none is closest
-  none_to : (pairs : List (ℕ × ℕ)) → pairs ≡ listed e allowed true lacks → counting e allowed lacks ≡ [] → pairs ≡ []
+  none_to : (pairs : List (ℕ × ℕ)) → pairs ≡ listed e allowed true causes → counting e allowed causes ≡ [] → pairs ≡ []
   none_to [] same none = refl
   none_to (p ∷ pairs) same none =
-      let there : Occurs (listed e allowed true lacks) p = subst (λ (l : List (ℕ × ℕ)). Occurs l p) same (zero, refl) in
+      let there : Occurs (listed e allowed true causes) p = subst (λ (l : List (ℕ × ℕ)). Occurs l p) same (zero, refl) in
       let found = subst (λ (l : List (ℕ × ℕ)). Occurs l p) none ((counting_listed p.0 p.1).0 ((closest_listed p.0 p.1).1 there).itself) in
       absurd (let empty : Occurs {T = ℕ × ℕ} [] p = found in cc)
 
   -- so both lists are empty together
-  pub none_closest : (listed e allowed true lacks ≡ []) ↔ (counting e allowed lacks ≡ [])
-  none_closest = (none_from (counting e allowed lacks) refl, none_to (listed e allowed true lacks) refl)
+  pub none_closest : (listed e allowed true causes ≡ []) ↔ (counting e allowed causes ≡ [])
+  none_closest = (none_from (counting e allowed causes) refl, none_to (listed e allowed true causes) refl)
 
 -- an empty set leaves no race out
 none_had : (kinds : KindSet) (kind : RaceKind) → is_empty kinds ≡ true → has_kind kinds kind ≡ true → ⊥

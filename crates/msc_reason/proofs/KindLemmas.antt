@@ -7,9 +7,9 @@ use Rattle.msc_chart.specs.Drawings.{Drawing, IsAccepted, output_of}
 use Rattle.msc_chart.specs.Orders.{WiredChart, IsWired, queue, queue_number, wired, Enforced, IsRace}
 use Rattle.msc_chart.proofs.Drawn.{before_parts, controlled_no_input, controlled_or_input, input_parts, partner_of_input}
 use Rattle.msc_race.proofs.Runs.Tables.{enforced_told}
-use Rattle.msc_reason.specs.declared.lack.RaceKind.{RaceKind}
-use Rattle.msc_reason.specs.declared.lack.RaceKind.TheVariants.{Early, Queues, Unordered, Overtaken}
-use Rattle.msc_reason.specs.Lacks.{IsKindOf, share_queue}
+use Rattle.msc_reason.specs.declared.cause.RaceKind.{RaceKind}
+use Rattle.msc_reason.specs.declared.cause.RaceKind.TheVariants.{Early, Queues, Unordered, Overtaken}
+use Rattle.msc_reason.specs.Causes.{IsKindOf, share_queue}
 use Rattle.msc_reason.proofs.OnePair.{inputs_differ, queued_before, race_input, share_from, share_parts}
 
 module _ (chart : WiredChart) where

@@ -9,7 +9,7 @@ pub mod Within
 pub mod Marking
 pub mod Sums
 pub mod PairLemmas
-pub mod LacksIn
+pub mod CausesIn
 pub mod CountingLaws
 pub mod Named
 pub mod RoundsClosest

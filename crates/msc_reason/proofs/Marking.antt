@@ -12,7 +12,7 @@ use Rattle.msc_reason.proofs.Counted.{counted_in, counted_parts, counting_in, co
 use Rattle.msc_reason.proofs.Filtered.{any_in, any_parts}
 use Rattle.msc_reason.proofs.Within.{Within, within_from, within_parts}
 use Rattle.msc_reason.specs.Counting.{counting, is_within}
-use Rattle.msc_reason.specs.Marked.{counted_from, is_counted, lack_in, IsLeastSecond}
+use Rattle.msc_reason.specs.Marked.{counted_from, is_counted, cause_in, IsLeastSecond}
 use Rattle.msc_reason.specs.declared.left_out.LeftOut.{LeftOut}
 
 -- the last k numbers have the least of what stood there and behind, the others what they had
@@ -115,13 +115,13 @@ module _ (e : EnforcedChart) (allowed : LeftOut) where
 
   -- another pair within one is told by one that counts
   pub some_within : (events_p : ℕ × ℕ) (q : ℕ × ℕ) → is_counted e allowed q.0 q.1 ≡ true → Within e.chart.events events_p q
-      → list_any (is_within e.chart.events events_p) (counting e allowed (lack_in e)) ≡ true
+      → list_any (is_within e.chart.events events_p) (counting e allowed (cause_in e)) ≡ true
   some_within p q its within =
       any_in (is_within e.chart.events p) _ q (counting_in e allowed q.0 q.1 its) (within_from e.chart.events p q within)
 
   -- and where there is none, none is told
   pub none_within : (p : ℕ × ℕ) → ((q : ℕ × ℕ) → is_counted e allowed q.0 q.1 ≡ true → Within e.chart.events p q → ⊥)
-      → list_any (is_within e.chart.events p) (counting e allowed (lack_in e)) ≡ false
+      → list_any (is_within e.chart.events p) (counting e allowed (cause_in e)) ≡ false
   none_within p none = false_from_ne_true _ (λ some.
-      let q = any_parts (is_within e.chart.events p) (counting e allowed (lack_in e)) some in
+      let q = any_parts (is_within e.chart.events p) (counting e allowed (cause_in e)) some in
       none q.0 (counting_parts e allowed q.0.0 q.0.1 q.1) (within_parts e.chart.events p q.0 q.2))

@@ -9,10 +9,10 @@ use Rattle.msc_chart.specs.Drawings.{Drawing, IsAccepted}
 use Rattle.msc_chart.specs.Orders.{wired}
 use Rattle.msc_reason.proofs.OnePair.{share_parts}
 use Rattle.msc_reason.specs.Chains.{IsWhy, LeadsTo, Step, below, over}
-use Rattle.msc_reason.specs.Lacks.{needed, share_queue, IsLackOf}
-use Rattle.msc_reason.specs.Named.{AreEventsOf, NamesAll, NamesLack, NamesSteps}
+use Rattle.msc_reason.specs.Causes.{needed, share_queue, IsCauseOf}
+use Rattle.msc_reason.specs.Named.{AreEventsOf, NamesAll, NamesCause, NamesSteps}
 use Rattle.msc_reason.specs.Reasons.{IsReason}
-use Rattle.msc_reason.specs.declared.lack.Lack.{Lack}
+use Rattle.msc_reason.specs.declared.cause.Cause.{Cause}
 use Rattle.msc_reason.specs.declared.reason.Reason.{Reason}
 use Rattle.msc_reason.specs.declared.reason.Reason.TheVariants.{Enforced, Free}
 use Rattle.msc_reason.specs.declared.why.Why.{Why}
@@ -47,9 +47,9 @@ module _ (queues : Queues) (d : Drawing) (accepted : IsAccepted d) where
       (λ shared. rw shared (accepted.matched.in_range e known))
       (λ apart. rw apart known)
 
-  -- and so does a lack
-  lack_known : (e f : ℕ) (lack : Lack) → e < length d.events → f < length d.events → IsLackOf (wired queues d) e f lack → NamesLack d lack
-  lack_known e f lack e_known f_known is = record {
+  -- and so does a cause
+  cause_known : (e f : ℕ) (cause : Cause) → e < length d.events → f < length d.events → IsCauseOf (wired queues d) e f cause → NamesCause d cause
+  cause_known e f cause e_known f_known is = record {
     needed = subst (λ (n : ℕ). n < length d.events) (sym is.first) (needed_known e f e_known);
     output = subst (λ (n : ℕ). n < length d.events) (sym is.second) (accepted.matched.in_range f f_known);
   }
@@ -59,6 +59,6 @@ module _ (queues : Queues) (d : Drawing) (accepted : IsAccepted d) where
   names_all e f e_known f_known short (Enforced why) is = names_steps e f why is.0
   names_all e f e_known f_known short (Free run None None) is = (tt, tt)
   names_all e f e_known f_known short (Free run None (Some why)) is = (tt, names_steps f e why is.turned.0)
-  names_all e f e_known f_known short (Free run (Some lack) None) is = (lack_known e f lack e_known f_known is.race.1, tt)
-  names_all e f e_known f_known short (Free run (Some lack) (Some why)) is =
-      (lack_known e f lack e_known f_known is.race.1, names_steps f e why is.turned.0)
+  names_all e f e_known f_known short (Free run (Some cause) None) is = (cause_known e f cause e_known f_known is.race.1, tt)
+  names_all e f e_known f_known short (Free run (Some cause) (Some why)) is =
+      (cause_known e f cause e_known f_known is.race.1, names_steps f e why is.turned.0)

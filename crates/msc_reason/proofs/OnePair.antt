@@ -8,9 +8,9 @@ use Rattle.msc_chart.proofs.Drawn.{before_parts, controlled_no_input, controlled
 use Rattle.msc_chart.proofs.ListLemmas.{by_test, clash}
 use Rattle.msc_race.proofs.Runs.EventLemmas.{before_differs}
 use Rattle.msc_race.proofs.Runs.EnforcedPairs.{into_input}
-use Rattle.msc_reason.specs.declared.lack.RaceKind.{RaceKind}
-use Rattle.msc_reason.specs.declared.lack.RaceKind.TheVariants.{Early, Queues, Unordered, Overtaken}
-use Rattle.msc_reason.specs.Lacks.{IsKindOf, share_queue, needed}
+use Rattle.msc_reason.specs.declared.cause.RaceKind.{RaceKind}
+use Rattle.msc_reason.specs.declared.cause.RaceKind.TheVariants.{Early, Queues, Unordered, Overtaken}
+use Rattle.msc_reason.specs.Causes.{IsKindOf, share_queue, needed}
 use Rattle.msc_reason.specs.Marked.{needed_in}
 
 module _ (chart : WiredChart) where

@@ -9,7 +9,7 @@ use Rattle.msc_race.specs.Wired.{EnforcedChart}
 use Rattle.msc_race.proofs.Listing.Raced.{no_races_below, races_after, races_below, races_below_all, races_below_more}
 use Rattle.msc_reason.proofs.Filtered.{filter_both}
 use Rattle.msc_reason.specs.Counting.{counting, counts, is_alone, is_listed}
-use Rattle.msc_reason.specs.Marked.{counted_from, lack_in, listed_from}
+use Rattle.msc_reason.specs.Marked.{counted_from, cause_in, listed_from}
 use Rattle.msc_reason.specs.declared.left_out.LeftOut.{LeftOut}
 
 module _ (e : EnforcedChart) (test : ℕ × ℕ → Bool) where
@@ -54,18 +54,18 @@ module _ (e : EnforcedChart) (test : ℕ × ℕ → Bool) where
   kept_all k same = ap (filter test) (races_below_all e k same)
 
 -- nothing more is asked where the closest are not alone
-no_more : (a b : Bool) → a ≡ (a && (not false || b))
+pub no_more : (a b : Bool) → a ≡ (a && (not false || b))
 no_more true b = refl
 no_more false b = refl
 
 -- where not the closest alone are listed, all that count are
 pub listed_plain : (e : EnforcedChart) (allowed : LeftOut) (x : ℕ) → counted_from e allowed x ≡ listed_from e allowed false x
 listed_plain e allowed x =
-    filter_agree (counts allowed (lack_in e)) (is_listed e allowed false (lack_in e))
-    (λ p. no_more (counts allowed (lack_in e) p) (is_alone e.chart.events (counting e allowed (lack_in e)) p)) (races_from e x)
+    filter_agree (counts allowed (cause_in e)) (is_listed e allowed false (cause_in e))
+    (λ p. no_more (counts allowed (cause_in e) p) (is_alone e.chart.events (counting e allowed (cause_in e)) p)) (races_from e x)
 
 -- and otherwise those that no other stands within
 pub listed_closest : (e : EnforcedChart) (allowed : LeftOut) (x : ℕ)
-    → filter (is_alone e.chart.events (counting e allowed (lack_in e))) (counted_from e allowed x) ≡ listed_from e allowed true x
+    → filter (is_alone e.chart.events (counting e allowed (cause_in e))) (counted_from e allowed x) ≡ listed_from e allowed true x
 listed_closest e allowed x =
-    filter_both (counts allowed (lack_in e)) (is_alone e.chart.events (counting e allowed (lack_in e))) (races_from e x)
+    filter_both (counts allowed (cause_in e)) (is_alone e.chart.events (counting e allowed (cause_in e))) (races_from e x)

@@ -1,11 +1,12 @@
--- Why an event is enforced before another: a chain of steps, or the rule of queues once between two.
+-- Why an event is enforced before another: a chain of steps, or the rule of queues once between
+-- two.
 use Rattle.std.specs.Prelude.{◌≡◌, ◌≢◌, ℕ, List, [], ◌∷◌, IsTrue}
 use Rattle.msc_chart.specs.declared.event.ChartEvent.{ChartEvent}
 use Rattle.msc_chart.specs.Charts.{partner, is_output, is_controlled, before}
 use Rattle.msc_chart.specs.Orders.{WiredChart}
 use Rattle.msc_reason.specs.declared.why.Why.{Why}
 use Rattle.msc_reason.specs.declared.why.Why.TheVariants.{Straight, ByQueue}
-use Rattle.msc_reason.specs.Lacks.{share_queue}
+use Rattle.msc_reason.specs.Causes.{share_queue}
 
 -- a step of the enforced order that a line or a message makes: to a controlled event that is drawn
 -- below, or from an output to its input

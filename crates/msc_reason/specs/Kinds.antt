@@ -1,7 +1,7 @@
 -- Sets of kinds of races.
 use Rattle.std.specs.Prelude.{Bool, ◌||◌, not}
-use Rattle.msc_reason.specs.declared.lack.RaceKind.{RaceKind}
-use Rattle.msc_reason.specs.declared.lack.RaceKind.TheVariants.{Early, Queues, Unordered, Overtaken}
+use Rattle.msc_reason.specs.declared.cause.RaceKind.{RaceKind}
+use Rattle.msc_reason.specs.declared.cause.RaceKind.TheVariants.{Early, Queues, Unordered, Overtaken}
 use Rattle.msc_reason.specs.declared.kinds.KindSet.{KindSet}
 
 -- the set has the kind

@@ -6,14 +6,14 @@ use Rattle.msc_chart.specs.Charts.{before, partner, is_input}
 use Rattle.msc_chart.specs.Drawings.{Drawing, IsAccepted}
 use Rattle.msc_chart.specs.Orders.{wired, Enforced, IsRace}
 use Rattle.msc_chart.specs.RoundLaws.{in_round, IsIn}
-use Rattle.msc_chart.specs.Rounds.{repeated, twice}
+use Rattle.msc_chart.specs.Rounds.{repeated, two_rounds}
 use Rattle.msc_race.specs.Laws.{HasNoRace}
-use Rattle.msc_reason.specs.declared.lack.RaceKind.{RaceKind}
-use Rattle.msc_reason.specs.declared.lack.RaceKind.TheVariants.{Early, Overtaken}
+use Rattle.msc_reason.specs.declared.cause.RaceKind.{RaceKind}
+use Rattle.msc_reason.specs.declared.cause.RaceKind.TheVariants.{Early, Overtaken}
 use Rattle.msc_reason.specs.declared.why.Why.{Why}
 use Rattle.msc_reason.specs.Chains.{IsWhy}
 use Rattle.msc_reason.specs.Closest.{IsClosest, HasNoClosestRace, StandsWithin}
-use Rattle.msc_reason.specs.Lacks.{IsKindOf, needed}
+use Rattle.msc_reason.specs.Causes.{IsKindOf, needed}
 
 -- within each race stands a closest race, of the same line
 abbrev pub EveryRaceSpansAClosestRace : Type 0
@@ -27,14 +27,14 @@ RacesAreToldByTheClosest =
     (queues : Queues) (d : Drawing) → IsAccepted d
     → HasNoRace (wired queues d) ↔ HasNoClosestRace (wired queues d)
 
--- The closest races of n rounds are those of the chart within a round, and between a round and the next
--- those between the first and the second of two rounds. Rounds are numbered from 0.
+-- The closest races of n rounds are those of the chart within a round, and between a round and the
+-- next those between the first and the second of two rounds. Rounds are numbered from 0.
 abbrev pub ClosestRacesOfRounds : Type 0
 ClosestRacesOfRounds =
     (queues : Queues) (n : ℕ) (d : Drawing) (e r f q : ℕ) → IsAccepted d → IsIn n d e r → IsIn n d f q
     → IsClosest (wired queues (repeated n d)) (in_round n d e r) (in_round n d f q)
     ↔ (((q ≡ r) × IsClosest (wired queues d) e f)
-    ⊎ ((q ≡ r + 1) × IsClosest (wired queues (twice d)) (in_round 2 d e 0) (in_round 2 d f 1)))
+    ⊎ ((q ≡ r + 1) × IsClosest (wired queues (two_rounds d)) (in_round 2 d e 0) (in_round 2 d f 1)))
 
 -- the second event of a race is an input
 abbrev pub RacesEndInInputs : Type 0
@@ -44,8 +44,8 @@ RacesEndInInputs =
 
 -- An event is enforced before an input that is drawn after it exactly where what is needed is the
 -- output of the input, or is enforced before it. So a race lacks this one pair.
-abbrev pub ARaceLacksOnePair : Type 0
-ARaceLacksOnePair =
+abbrev pub ARaceHasOneCause : Type 0
+ARaceHasOneCause =
     (queues : Queues) (d : Drawing) → IsAccepted d → (e f : ℕ)
     → IsTrue (before d.events e f) → IsTrue (is_input d.events f)
     → Enforced (wired queues d) e f

@@ -1,6 +1,6 @@
 -- what is promised
 pub mod Closest
-pub mod Lacks
+pub mod Causes
 pub mod Kinds
 pub mod PairTables
 pub mod LeftOut

@@ -5,7 +5,7 @@ use Rattle.msc_chart.specs.declared.queue.Queues.{Queues}
 use Rattle.msc_chart.specs.Drawings.{Drawing, IsAccepted}
 use Rattle.msc_chart.specs.Orders.{wired}
 use Rattle.msc_reason.specs.Reasons.{IsReason}
-use Rattle.msc_reason.specs.declared.lack.Lack.{Lack}
+use Rattle.msc_reason.specs.declared.cause.Cause.{Cause}
 use Rattle.msc_reason.specs.declared.reason.Reason.{Reason}
 use Rattle.msc_reason.specs.declared.reason.Reason.TheVariants.{Enforced, Free}
 use Rattle.msc_reason.specs.declared.why.Why.{Why}
@@ -20,15 +20,15 @@ abbrev pub NamesSteps : Drawing → Why → Type 0
 NamesSteps d (Straight steps) = AreEventsOf d steps
 NamesSteps d (ByQueue u outputs onward) = (u < length d.events) × AreEventsOf d outputs × AreEventsOf d onward
 
--- a lack names events of the chart
-pub record NamesLack (d : Drawing) (lack : Lack) : Type 0 where
-  pub needed : lack.needed < length d.events
-  pub output : lack.output < length d.events
+-- a cause names events of the chart
+pub record NamesCause (d : Drawing) (cause : Cause) : Type 0 where
+  pub needed : cause.needed < length d.events
+  pub output : cause.output < length d.events
 
 -- a reason names events of the chart, besides those of its run
 abbrev pub NamesAll : Drawing → Reason → Type 0
 NamesAll d (Enforced why) = NamesSteps d why
-NamesAll d (Free run lack late) = MatchOption lack (Unit {0}) (NamesLack d) × MatchOption late (Unit {0}) (NamesSteps d)
+NamesAll d (Free run cause late) = MatchOption cause (Unit {0}) (NamesCause d) × MatchOption late (Unit {0}) (NamesSteps d)
 
 -- a reason that is right does
 abbrev pub AReasonNamesEvents : Type 0

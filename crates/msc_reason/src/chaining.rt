@@ -1,8 +1,8 @@
-//! What shows that an event is enforced before another, step by step.
+//! Why an event is enforced before another, step by step.
 //!
-//! A chain goes on from an event to the last controlled one below it that still leads to the end,
-//! and where there is none from an output to its input. What the enforced order holds beyond
-//! chains begins at an input of a queue, and the rule of queues is needed once.
+//! From an event, a chain goes to the last controlled event below it that still leads to the end
+//! or, if there is none, from an output to its input. A pair that is enforced beyond chains begins
+//! at an input of a queue, and needs the rule of queues once.
 
 ghost use Rattle.std.specs.Prelude.{◌≡◌, ◌<◌, ◌↔◌, ℕ, length, IsTrue, IfOk, MatchOption};
 ghost use Rattle.msc_chart.specs.Charts.{is_input};
@@ -38,7 +38,7 @@ fn last_link(enforced: &Enforced, x: Event, y: Event) -> Option<Event>
     ensures { MatchOption result (HasNoLink (wiring_of enforced.now) x y)
         (IsLastLink (wiring_of enforced.now) x y) }
 {
-    enforced.enforced();
+    enforced.facts();
     let chart = enforced.chart();
     let start = chart.segment_end(x);
     let end = chart.line_end(x);
@@ -59,14 +59,14 @@ fn next_step(enforced: &Enforced, x: Event, y: Event) -> Event
     ensures chosen { IsChosenStep (wiring_of enforced.now) x y result }
 {
     ends_share_queues();
-    enforced.enforced();
+    enforced.facts();
     match last_link(enforced, x, y) {
         Some(z) => z,
         None => enforced.chart().other_end(x),
     }
 }
 
-/// The events of a chain from `x` to `y` behind `x`: none where `x` is `y`.
+/// The events after `x` of a chain from `x` to `y`: none if `x` is `y`.
 fn walk(alloc: Global, enforced: &Enforced, x: Event, y: Event) -> Result<Listed<Event>, AllocError>
     requires { IsFollowedBy enforced.now.chart.events x y }
     ensures { IfOk result (λ steps. LeadsTo enforced.now.chart.events x steps y
@@ -74,7 +74,7 @@ fn walk(alloc: Global, enforced: &Enforced, x: Event, y: Event) -> Result<Listed
 {
     the_enforced_order_has_no_cycle();
     ends_share_queues();
-    enforced.enforced();
+    enforced.facts();
     let mut steps = Vec::new(alloc);
     let mut at = x;
     while at != y {
@@ -84,28 +84,28 @@ fn walk(alloc: Global, enforced: &Enforced, x: Event, y: Event) -> Result<Listed
     Ok(Listed::from_vec(steps))
 }
 
-/// Whether lines and messages alone enforce `x` before `y`.
+/// Whether lines and messages by themselves enforce `x` before `y`.
 fn is_caused(enforced: &Enforced, x: Event, y: Event) -> bool
     requires x_known { x < length enforced.now.chart.events }
     requires y_known { y < length enforced.now.chart.events }
     ensures { IsTrue result ↔ Caused enforced.now.chart.events x y }
 {
     ends_share_queues();
-    enforced.enforced();
+    enforced.facts();
     if enforced.chart().is_controlled(x) {
         return enforced.holds(x, y);
     }
     last_link(enforced, x, y).is_some()
 }
 
-/// Whether input `e` comes before `u` by the rule of queues alone.
+/// Whether input `e` comes before `u` by the rule of queues only.
 fn comes_by_queue(enforced: &Enforced, e: Event, u: Event) -> bool
     requires input { IsTrue (is_input enforced.now.chart.events e) }
     requires u_known { u < length enforced.now.chart.events }
     ensures { IsTrue result ↔ InQueueOrder (wiring_of enforced.now) e u }
 {
     ends_share_queues();
-    enforced.enforced();
+    enforced.facts();
     let wiring = enforced.wiring();
     let chart = wiring.chart;
     if chart.is_controlled(u) {
@@ -142,16 +142,16 @@ fn first_mate(enforced: &Enforced, e: Event, f: Event) -> Event
     e
 }
 
-/// What shows that `e` is enforced before `f`, step by step; of several the one that the rule
-/// gives: a chain where there is one, otherwise the first input that serves, and of each chain the
-/// last events that lead on. The pair is enforced. An error is a growth of memory that was refused.
+/// Why `e` is enforced before `f`, step by step; of several reasons the rule selects one: a chain
+/// if there is one, otherwise the first input that serves, and for each chain the last events that
+/// lead on. The pair is enforced. An error is a growth of memory that was refused.
 pub fn why_of(alloc: Global, enforced: &Enforced, e: Event, f: Event) -> Result<Why, AllocError>
     requires { IsEnforcedBefore (wiring_of enforced.now) e f }
     ensures { IfOk result (IsChosenWhy (wiring_of enforced.now) e f) }
 {
     the_enforced_order_has_no_cycle();
     ends_share_queues();
-    enforced.enforced();
+    enforced.facts();
     if is_caused(enforced, e, f) {
         return Ok(Why::Straight(walk(alloc, enforced, e, f)?));
     }

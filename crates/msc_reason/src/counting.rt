@@ -7,7 +7,7 @@ ghost use Rattle.msc_chart.specs.Orders.{IsRace};
 ghost use Rattle.msc_race.specs.Views.{wiring_of, AreRacesOf};
 ghost use Rattle.msc_race.specs.Walks.{HasReached};
 ghost use Rattle.msc_reason.specs.Counting.{counts};
-ghost use Rattle.msc_reason.specs.Marked.{counted_from, lack_in};
+ghost use Rattle.msc_reason.specs.Marked.{counted_from, cause_in};
 
 use crate::lacking::kind_of;
 use crate::left_out::LeftOut;
@@ -15,11 +15,11 @@ use msc_chart::Event;
 use msc_race::{Enforced, Walk};
 use std::alloc::AllocError;
 
-/// Whether a race is not accepted, and of none of the kinds that are left out. Where nothing is
-/// left out, its kind is not looked for. It takes no memory.
+/// Whether a race counts: it is not accepted, and its kind is not left out. If nothing is left out,
+/// the kind is not looked up. It takes no memory.
 pub fn counts(enforced: &Enforced, allowed: LeftOut, race: (Event, Event)) -> bool
     requires { IsRace (wiring_of enforced.now) race.0 race.1 }
-    ensures { result ≡ counts allowed.entry (lack_in enforced.now) race }
+    ensures { result ≡ counts allowed.entry (cause_in enforced.now) race }
 {
     if allowed.is_empty() {
         return true;
@@ -30,7 +30,7 @@ pub fn counts(enforced: &Enforced, allowed: LeftOut, race: (Event, Event)) -> bo
     !allowed.kinds.has(kind_of(enforced, race.0, race.1))
 }
 
-/// Appends those of these races that count.
+/// Appends the races among these that count.
 fn push_counting(
     list: &mut Vec<(Event, Event)>,
     enforced: &Enforced,
@@ -39,7 +39,7 @@ fn push_counting(
 ) -> Result<(), AllocError>
     requires { AreRacesOf enforced.now races.now }
     ensures { OnOk result (list.new.items
-        ≡ list.old.items ++ filter (counts allowed.entry (lack_in enforced.now)) races.now) }
+        ≡ list.old.items ++ filter (counts allowed.entry (cause_in enforced.now)) races.now) }
 {
     for race in races {
         if counts(enforced, allowed, *race) {
@@ -49,10 +49,10 @@ fn push_counting(
     Ok(())
 }
 
-/// Whether one of these races counts. It looks at none behind the first that does.
+/// Whether one of these races counts. It stops at the first that does.
 pub(crate) fn some_counts(enforced: &Enforced, allowed: LeftOut, races: &[(Event, Event)]) -> bool
     requires { AreRacesOf enforced.now races.now }
-    ensures { result ≡ list_any (counts allowed.entry (lack_in enforced.now)) races.now }
+    ensures { result ≡ list_any (counts allowed.entry (cause_in enforced.now)) races.now }
 {
     for race in races {
         if counts(enforced, allowed, *race) {
@@ -62,8 +62,8 @@ pub(crate) fn some_counts(enforced: &Enforced, allowed: LeftOut, races: &[(Event
     false
 }
 
-/// Goes on to event `e` of a walk: the list has its races that count then. `room` is for all of its
-/// races. An error is a growth of memory that was refused.
+/// Proceeds to event `e` of a walk: the list then has its races that count. `room` is for all of
+/// its races. An error is a growth of memory that was refused.
 pub(crate) fn next_counting(
     walk: &mut Walk,
     list: &mut Vec<(Event, Event)>,

@@ -3,7 +3,7 @@
 ghost use Rattle.std.specs.Prelude.{◌≡◌};
 ghost use Rattle.msc_reason.specs.Kinds.{has_kind, is_empty};
 
-use crate::lack::RaceKind;
+use crate::cause::RaceKind;
 
 /// A set of kinds of races.
 #[derive(Clone, Copy, Debug, PartialEq, Eq)]

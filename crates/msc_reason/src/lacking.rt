@@ -3,11 +3,11 @@
 ghost use Rattle.std.specs.Prelude.{◌≡◌, ◌≢◌, ◌<◌, ◌↔◌, length, IsTrue};
 ghost use Rattle.msc_chart.specs.Orders.{Enforced as IsEnforcedBefore, IsRace};
 ghost use Rattle.msc_race.specs.Views.{wiring_of};
-ghost use Rattle.msc_reason.specs.Lacks.{IsKindOf, IsLackOf};
-ghost use Rattle.msc_reason.specs.Marked.{kind_in, lack_in, needed_in};
+ghost use Rattle.msc_reason.specs.Causes.{IsKindOf, IsCauseOf};
+ghost use Rattle.msc_reason.specs.Marked.{kind_in, cause_in, needed_in};
 
-use crate::lack::{Lack, RaceKind};
-use crate::laws::a_race_lacks_one_pair;
+use crate::cause::{Cause, RaceKind};
+use crate::laws::a_race_has_one_cause;
 use msc_chart::{Chart, Event};
 use msc_race::Enforced;
 
@@ -20,13 +20,13 @@ pub fn is_race(enforced: &Enforced, e: Event, f: Event) -> bool
     enforced.chart().before(e, f) && !enforced.holds(e, f)
 }
 
-/// Of which kind the race (`e`, `f`) is. It takes no memory.
+/// The kind of the race (`e`, `f`). It takes no memory.
 pub fn kind_of(enforced: &Enforced, e: Event, f: Event) -> RaceKind
     requires { IsRace (wiring_of enforced.now) e f }
     ensures kind { IsKindOf (wiring_of enforced.now) e f result }
     ensures by_order { result ≡ kind_in enforced.now e f }
 {
-    enforced.enforced();
+    enforced.facts();
     let wiring = enforced.wiring();
     let chart = wiring.chart;
     if chart.is_controlled(e) {
@@ -41,8 +41,8 @@ pub fn kind_of(enforced: &Enforced, e: Event, f: Event) -> RaceKind
     RaceKind::Unordered
 }
 
-/// What would have to come before the output of the second event, in a race of a kind whose first
-/// event is `e`.
+/// The event that would have to come before the output of the second event, in a race of this kind
+/// whose first event is `e`.
 fn needed_of(chart: &Chart, kind: RaceKind, e: Event) -> Event
     requires { e < length chart.now.events }
     ensures value { result ≡ needed_in chart.now.events kind e }
@@ -54,25 +54,25 @@ fn needed_of(chart: &Chart, kind: RaceKind, e: Event) -> Event
     }
 }
 
-/// Why the race (`e`, `f`) is one: its kind, and what is not enforced. It takes no memory.
-// Copied into the loop over races, its room is made anew for each.
+/// Why the race (`e`, `f`) is one: its kind, and the pair that is not enforced. It takes no memory.
+// If it were copied into the loop over races, its room would be made anew for each.
 #[inline(never)]
-pub fn lack_of(enforced: &Enforced, e: Event, f: Event) -> Lack
+pub fn cause_of(enforced: &Enforced, e: Event, f: Event) -> Cause
     requires { IsRace (wiring_of enforced.now) e f }
-    ensures lack { IsLackOf (wiring_of enforced.now) e f result }
+    ensures cause { IsCauseOf (wiring_of enforced.now) e f result }
     ensures needed { result.needed < length enforced.now.chart.events }
     ensures output { result.output < length enforced.now.chart.events }
-    ensures by_order { result ≡ lack_in enforced.now e f }
+    ensures by_order { result ≡ cause_in enforced.now e f }
 
-    // So what is needed is another event than the output, and not enforced before it.
+    // So the needed event is another event than the output, and is not enforced before it.
     ensures apart { result.needed ≢ result.output }
-    ensures lacks { IsEnforcedBefore (wiring_of enforced.now) result.needed result.output → ⊥ }
+    ensures causes { IsEnforcedBefore (wiring_of enforced.now) result.needed result.output → ⊥ }
 {
-    a_race_lacks_one_pair();
-    enforced.enforced();
+    a_race_has_one_cause();
+    enforced.facts();
     let chart = enforced.chart();
     let kind = kind_of(enforced, e, f);
-    Lack {
+    Cause {
         kind,
         needed: needed_of(chart, kind, e),
         output: chart.other_end(f),

@@ -1,4 +1,4 @@
-//! What does not count: kinds of races, and races that are accepted.
+//! The races that are left out: some kinds of races, and races that are accepted.
 
 ghost use Rattle.std.specs.Prelude.{◌≡◌};
 ghost use Rattle.msc_reason.specs.LeftOut.{is_accepted, leaves_none, of_kinds};
@@ -7,17 +7,17 @@ use crate::kinds::KindSet;
 use crate::pairs::Pairs;
 use msc_chart::Event;
 
-/// Which races do not count: those of some kinds, and those that are accepted.
+/// The races that do not count: those of some kinds, and those that are accepted.
 #[derive(Clone, Copy)]
 pub struct LeftOut<'a> {
     /// The kinds.
     pub kinds: KindSet,
-    /// The pairs that are accepted, where races can be.
+    /// The accepted pairs, if races can be accepted.
     pub accepted: Option<&'a Pairs>,
 }
 
 impl LeftOut<'static> {
-    /// Some kinds alone.
+    /// Some kinds only.
     pub fn of_kinds(kinds: KindSet) -> LeftOut<'static>
         ensures { result ≡ of_kinds kinds }
     {

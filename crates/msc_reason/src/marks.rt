@@ -1,14 +1,14 @@
-//! Where the races that count begin and end, noted once for all events.
+//! The first and second events of the races that count, noted once for all events.
 //!
-//! Of the races of an event, another one stands within each but those that end first. Of these, one
-//! that begins later stands within it where it ends in the same event, or ends before it.
+//! Each race of an event spans another one, unless it is one of those that end first. Such a race
+//! spans a race that begins later if that race ends in the same event, or before it.
 
 ghost use Rattle.std.specs.Prelude.{◌≡◌, ◌⊎◌, ℕ, ◌+◌, ◌<◌, ◌≤◌, cond, get_or, length, nat_eq, IfOk};
 ghost use Rattle.std.specs.Prelude.{IsTrue};
 ghost use Rattle.std.specs.List.{list_any, All};
 ghost use Rattle.msc_chart.specs.Lists.{Occurs};
 ghost use Rattle.msc_reason.specs.Counting.{counting, is_within};
-ghost use Rattle.msc_reason.specs.Marked.{is_counted, lack_in, AreMarks, IsMarked};
+ghost use Rattle.msc_reason.specs.Marked.{is_counted, cause_in, AreMarks, IsMarked};
 ghost use Rattle.msc_reason.specs.declared.left_out.LeftOut.{LeftOut};
 
 use crate::counting::next_counting;
@@ -17,13 +17,14 @@ use msc_chart::Event;
 use msc_race::{Enforced, Walk};
 use std::alloc::{AllocError, Global};
 
-/// Where the races that count begin and end.
+/// The first and second events of the races that count.
 #[derive(Drop)]
 pub(crate) struct Marks {
-    /// For each event the last one with which a race that counts ends in it.
+    /// For each event, the greatest first event of a race that counts and has it as the second
+    /// event.
     pub last: Vec<Event>,
-    /// For each number the least event in which a race that counts ends whose first event is not
-    /// below the number; the number of events where there is none.
+    /// For each number, the least second event of a race that counts and whose first event is not
+    /// below the number; the number of events if there is none.
     pub least: Vec<Event>,
 }
 
@@ -39,7 +40,7 @@ fn mark_seconds(last: &mut Vec<Event>, races: &[(Event, Event)], e: Event)
     }
 }
 
-/// The least second event of these races, or `none` where that is less or there is none.
+/// The least second event of these races, or `none` if that is less or there is none.
 pub(crate) fn least_second(races: &[(Event, Event)], none: Event) -> Event
     ensures none_below { All (λ p. result ≤ p.1) races.now }
     ensures itself { (result ≡ none) ⊎ ((x : ℕ) × Occurs races.now (x, result)) }
@@ -51,7 +52,7 @@ pub(crate) fn least_second(races: &[(Event, Event)], none: Event) -> Event
     least
 }
 
-/// For each number the least of what stands there and behind.
+/// For each number, the least of the entries from there on.
 fn sink_least(least: &mut Vec<Event>)
     ensures size { length least.new.items ≡ length least.old.items }
     ensures none_below { (s x : ℕ) → s ≤ x → x < length least.old.items
@@ -68,7 +69,7 @@ fn sink_least(least: &mut Vec<Event>)
 }
 
 impl Marks {
-    /// Where the races of a chart that count begin and end. An error is a growth of memory that was
+    /// The marks of the races of a chart that count. An error is a growth of memory that was
     /// refused.
     pub fn of(alloc: Global, enforced: &Enforced, allowed: LeftOut) -> Result<Marks, AllocError>
         ensures { IfOk result (λ marks. AreMarks (is_counted enforced.now allowed.entry)
@@ -89,9 +90,9 @@ impl Marks {
         Ok(Marks { last, least })
     }
 
-    /// Whether another race that counts stands within one that does: `first` is the least event in
-    /// which one of its first event ends, and `end` the number past the segment of that. The marks
-    /// know which races count.
+    /// Whether a race that counts spans another one: `first` is the least second event of the races
+    /// with its first event, and `end` the number past the segment of its first event. The marks
+    /// have the races that count.
     pub fn has_within(
         &self,
         enforced: &Enforced,
@@ -104,9 +105,9 @@ impl Marks {
         ensures { (allowed : LeftOut) → IsMarked enforced.now allowed
             self.now.last.items self.now.least.items first end race
             → result ≡ list_any (is_within enforced.now.chart.events race)
-            (counting enforced.now allowed (lack_in enforced.now)) }
+            (counting enforced.now allowed (cause_in enforced.now)) }
     {
-        enforced.enforced();
+        enforced.facts();
         let chart = enforced.chart();
         let (e, f) = race;
         if chart.before(first, f) {

@@ -6,8 +6,8 @@ ghost use Rattle.msc_reason.specs.Pairs.{AreTwoEvents, IsPairFault};
 use msc_chart::{Chart, Event};
 use thiserror::Error;
 
-/// Why two numbers are no two events of a chart. The first that stands is answered, in this order:
-/// the first number is no event, the second is none, both are one event.
+/// Why two numbers are not two events of a chart. The first of these faults is returned, in this
+/// order: the first number is no event, the second is no event, both are one event.
 #[derive(Clone, Copy, Debug, PartialEq, Eq, Error)]
 pub enum PairFault {
     /// No event of the chart has this number.
@@ -18,7 +18,7 @@ pub enum PairFault {
     OneEvent(u32),
 }
 
-/// Why two numbers are no two events of a chart, where they are none. It takes no memory.
+/// Why two numbers are not two events of a chart, if they are not. It takes no memory.
 pub fn pair_fault(chart: &Chart, e: Event, f: Event) -> Option<PairFault>
     ensures { MatchOption result (AreTwoEvents chart.now e f) (IsPairFault chart.now e f) }
 {

@@ -26,7 +26,7 @@ impl Model for Pairs {
 }
 
 impl Pairs {
-    /// No pair of so many events. An error is a growth of memory that was refused.
+    /// No pair of this number of events. An error is a growth of memory that was refused.
     pub fn none(alloc: Global, events: u32) -> Result<Pairs, AllocError>
         ensures events { IfOk result (λ pairs. pairs.events ≡ events) }
         ensures none { IfOk result (λ pairs. (x y : ℕ) → has_pair pairs x y ≡ false) }

@@ -1,6 +1,7 @@
-//! What is said of a pair of events: why the first comes before the second, or how it need not.
+//! The explanation of a pair of events: why the first comes before the second, or a run in which it
+//! does not.
 
-use crate::lack::Lack;
+use crate::cause::Cause;
 use crate::why::Why;
 use listed::Listed;
 use msc_chart::Event;
@@ -10,8 +11,7 @@ use msc_chart::Event;
 pub enum Reason {
     /// It is, and this shows it.
     Enforced(Why),
-    /// It is not: a run that has the second event and not the first before it; why the pair is a
-    /// race, where it is one; and what shows that the second is enforced before the first, where it
-    /// is.
-    Free(Listed<Event>, Option<Lack>, Option<Why>),
+    /// It is not: a run that has the second event without the first before it; why the pair is a
+    /// race, if it is one; and why the second is enforced before the first, if it is.
+    Free(Listed<Event>, Option<Cause>, Option<Why>),
 }

@@ -1,12 +1,13 @@
-//! Which races of a chart are listed, and how many: those that count, or the closest of them.
+//! The listed races of a chart, and their number: the races that count, or the closest of them.
 
-ghost use Rattle.std.specs.Prelude.{◌≡◌, ◌+◌, ◌<◌, ◌≤◌, ◌++◌, List, length, nat_eq, IfOk, OnOk};
+ghost use Rattle.std.specs.Prelude.{◌≡◌, ◌+◌, ◌<◌, ◌≤◌, ◌++◌, [], List, length, nat_eq, IfOk};
+ghost use Rattle.std.specs.Prelude.{OnErr, OnOk};
 ghost use Rattle.std.specs.List.{filter};
 ghost use Rattle.msc_race.specs.Views.{races_of};
 ghost use Rattle.msc_race.specs.Walks.{HasReached};
 ghost use Rattle.msc_chart.specs.declared.event.ChartEvent.{ChartEvent};
 ghost use Rattle.msc_reason.specs.Counting.{counting, is_alone, listed};
-ghost use Rattle.msc_reason.specs.Marked.{lack_in, listed_from, AreOfOneEvent};
+ghost use Rattle.msc_reason.specs.Marked.{cause_in, listed_from, AreOfOneEvent};
 ghost use Rattle.msc_reason.specs.Selected.{selected};
 ghost use Rattle.msc_reason.specs.declared.left_out.LeftOut.{LeftOut};
 
@@ -18,11 +19,11 @@ use msc_race::{Enforced, Walk};
 use std::alloc::{AllocError, Global};
 use std::marker::Model;
 
-/// A walk over the events of a chart that has those races of one event which are listed.
+/// A walk over the events of a chart that has the listed races of one event.
 #[derive(Drop)]
 pub struct Stream {
     pub walk: Walk,
-    /// The races of the event that was reached last which are listed, ascending.
+    /// The listed races of the event that was reached last, ascending.
     pub races: Vec<(Event, Event)>,
     counted: Vec<(Event, Event)>,
     all: Vec<(Event, Event)>,
@@ -42,9 +43,9 @@ impl Stream {
     }
 }
 
-/// Which races of a chart are listed: those that count, or the closest of them alone. Contracts see
-/// the chart under its architecture, what is left out, and whether the closest races
-/// alone are listed.
+/// The listed races of a chart: the races that count, or only the closest of them. Contracts see
+/// the chart under its architecture, what is left out, and whether only the closest races are
+/// listed.
 #[derive(Drop)]
 pub struct Listing<'a> {
     enforced: Enforced<'a>,
@@ -66,8 +67,8 @@ impl<'a> Model for Listing<'a> {
         m.last.items m.least.items) };
 }
 
-/// Appends those of these races, all of one event which count, that no other one stands within.
-/// `end` is the number past the segment of the event. The marks know which races count.
+/// Appends those of these races, all of one event and all counting, that span no other one. `end`
+/// is the number past the segment of the event. The marks have the races that count.
 fn push_alone(
     list: &mut Vec<(Event, Event)>,
     marks: &Marks,
@@ -80,7 +81,7 @@ fn push_alone(
     ensures { (allowed : LeftOut) → AreOfOneEvent enforced.now allowed
         marks.now.last.items marks.now.least.items end races.now
         → OnOk result (list.new.items ≡ list.old.items ++ filter (is_alone
-        enforced.now.chart.events (counting enforced.now allowed (lack_in enforced.now)))
+        enforced.now.chart.events (counting enforced.now allowed (cause_in enforced.now)))
         races.now) }
 {
     let first = least_second(races, enforced.events());
@@ -93,8 +94,8 @@ fn push_alone(
 }
 
 impl<'a> Listing<'a> {
-    /// The races of a chart that count, or the closest of them alone. An error is a growth of
-    /// memory that was refused.
+    /// The races of a chart that count, or only the closest of them. An error is a growth of memory
+    /// that was refused.
     pub fn of(
         alloc: Global,
         enforced: Enforced<'a>,
@@ -122,30 +123,47 @@ impl<'a> Listing<'a> {
         &self.enforced
     }
 
-    /// What does not count.
+    /// The races that are left out.
     pub fn left_out(&self) -> LeftOut<'a>
         ensures { result ≡ self.now.allowed }
     {
         self.allowed
     }
 
-    /// Whether the closest races alone are listed.
+    /// Whether only the closest races are listed.
     pub fn closest(&self) -> bool
         ensures { result ≡ self.now.closest }
     {
         self.marks.is_some()
     }
 
-    /// How many events the chart has.
+    /// The number of events of the chart.
     pub fn events(&self) -> u32
         ensures { result ≡ length self.now.judged.chart.events }
     {
         self.enforced.events()
     }
 
-    /// Goes on to event `e`, whose races that are listed the stream has then. An error is a growth
-    /// of memory that was refused.
+    /// Proceeds to event `e`: the stream has its listed races. An error is a growth of memory that
+    /// was refused; the stream then has no race.
     pub fn next(&self, stream: &mut Stream, e: Event) -> Result<(), AllocError>
+        requires known { e < length self.now.judged.chart.events }
+        requires reached { HasReached self.now.judged.chart.events e stream.old.walk }
+        ensures reached { HasReached self.now.judged.chart.events (e + 1) stream.new.walk }
+        ensures list { OnOk result (stream.new.races.items
+            ≡ listed_from self.now.judged self.now.allowed self.now.closest e) }
+        ensures error { OnErr result (stream.new.races.items ≡ []) }
+    {
+        let filled = self.fill(stream, e);
+        if filled.is_err() {
+            stream.races.clear();
+        }
+        filled
+    }
+
+    /// Fills the stream with the listed races of event `e`. An error is a growth of memory that was
+    /// refused.
+    fn fill(&self, stream: &mut Stream, e: Event) -> Result<(), AllocError>
         requires known { e < length self.now.judged.chart.events }
         requires reached { HasReached self.now.judged.chart.events e stream.old.walk }
         ensures reached { HasReached self.now.judged.chart.events (e + 1) stream.new.walk }
@@ -181,12 +199,13 @@ impl<'a> Listing<'a> {
         )
     }
 
-    /// How many races are listed, of so many. An error is a growth of memory that was refused.
+    /// The number of listed races, if the chart has `races` races. An error is a growth of memory
+    /// that was refused.
     pub fn count(&self, alloc: Global, races: u32) -> Result<u32, AllocError>
         requires { races ≡ length (races_of self.now.judged) }
         ensures few { IfOk result (λ count. count ≤ races) }
         ensures count { IfOk result (λ count. count ≡ length
-            (listed self.now.judged self.now.allowed self.now.closest (lack_in self.now.judged))) }
+            (listed self.now.judged self.now.allowed self.now.closest (cause_in self.now.judged))) }
     {
         let mut stream = Stream::new(alloc);
         let mut count = 0;
@@ -198,7 +217,8 @@ impl<'a> Listing<'a> {
     }
 }
 
-/// How many races of a chart count, of so many. An error is a growth of memory that was refused.
+/// The number of races of a chart that count, if it has `races` races. An error is a growth of
+/// memory that was refused.
 pub fn count_counting(
     alloc: Global,
     enforced: &Enforced,
@@ -208,7 +228,7 @@ pub fn count_counting(
     requires { races ≡ length (races_of enforced.now) }
     ensures few { IfOk result (λ count. count ≤ races) }
     ensures count { IfOk result (λ count. count
-        ≡ length (counting enforced.now allowed.entry (lack_in enforced.now))) }
+        ≡ length (counting enforced.now allowed.entry (cause_in enforced.now))) }
 {
     if allowed.is_empty() {
         return Ok(races);
@@ -228,7 +248,7 @@ pub fn count_counting(
 /// memory that was refused.
 pub fn none_counts(alloc: Global, enforced: &Enforced, allowed: LeftOut) -> Result<bool, AllocError>
     ensures { IfOk result (λ none. none
-        ≡ nat_eq (length (counting enforced.now allowed.entry (lack_in enforced.now))) 0) }
+        ≡ nat_eq (length (counting enforced.now allowed.entry (cause_in enforced.now))) 0) }
 {
     let mut list = Vec::new(alloc);
     let mut walk = Walk::new();

@@ -11,8 +11,9 @@ pub mod Lines
 pub mod Counts
 pub mod Editors
 pub mod Reasons
-pub mod Sticks
+pub mod BlockedPairs
 pub mod Rounds
 pub mod Fitting
 -- what the code keeps
 pub mod Spans
+pub mod EventPositionTexts

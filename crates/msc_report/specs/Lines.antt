@@ -2,11 +2,11 @@
 use Rattle.std.specs.Prelude.{ℕ, Bool, cond, List, [], ◌++◌, Option, None, Some, codes}
 use Rattle.std.specs.Fmt.{decimal}
 use Rattle.msc_chart.specs.Drawings.{Drawing}
-use Rattle.msc_reason.specs.Lacks.{kind_word}
-use Rattle.msc_reason.specs.declared.lack.Lack.{Lack}
+use Rattle.msc_reason.specs.Causes.{kind_word}
+use Rattle.msc_reason.specs.declared.cause.Cause.{Cause}
 use Rattle.msc_judge.specs.declared.renderer.Finding.{Finding}
 use Rattle.msc_judge.specs.declared.renderer.Heading.{Heading}
-use Rattle.msc_place.specs.Sites.{SitesIn}
+use Rattle.msc_place.specs.EventPositions.{EventPositionsIn}
 use Rattle.msc_report.specs.Styles.{at_text}
 use Rattle.msc_report.specs.Texts.{text_line}
 use Rattle.msc_report.specs.Verdicts.{event_at, head_text, race_text}
@@ -36,8 +36,8 @@ abbrev pub always_text : Bool → List ℕ
 always_text always = cond always (codes " always") []
 
 -- the kind of a race
-abbrev pub kind_line : Lack → List ℕ
-kind_line lack = codes "kind " ++ (kind_word lack.kind ++ text_line (always_text lack.always))
+abbrev pub kind_line : Cause → List ℕ
+kind_line cause = codes "kind " ++ (kind_word cause.kind ++ text_line (always_text cause.always))
 
 -- what two events do on their lines, to the end of a line
 abbrev pub both_at : Drawing → ℕ → ℕ → List ℕ
@@ -49,26 +49,26 @@ pair_line word d e f =
     word ++ (codes " " ++ (decimal e ++ (codes " " ++ (decimal f ++ (codes ": " ++ both_at d e f)))))
 
 -- such a line behind blanks, and the places of both events behind the same, where places are told
-abbrev pub pair_text : Option SitesIn → List ℕ → List ℕ → Drawing → ℕ → ℕ → List ℕ
-pair_text sites blanks word d e f = blanks ++ (pair_line word d e f ++ at_text sites blanks e f)
+abbrev pub pair_text : Option EventPositionsIn → List ℕ → List ℕ → Drawing → ℕ → ℕ → List ℕ
+pair_text event_positions blanks word d e f = blanks ++ (pair_line word d e f ++ at_text event_positions blanks e f)
 
 -- why a pair is a race: its kind, and the pair that it lacks
-abbrev pub why_text : Option SitesIn → Drawing → Lack → List ℕ
-why_text sites d lack = kind_line lack ++ pair_text sites [] (codes "needs") d lack.needed lack.output
+abbrev pub why_text : Option EventPositionsIn → Drawing → Cause → List ℕ
+why_text event_positions d cause = kind_line cause ++ pair_text event_positions [] (codes "needs") d cause.needed cause.output
 
 -- the same, where it is told
-abbrev pub lack_text : Option SitesIn → Drawing → Option Lack → List ℕ
-lack_text sites d None = []
-lack_text sites d (Some lack) = why_text sites d lack
+abbrev pub cause_text : Option EventPositionsIn → Drawing → Option Cause → List ℕ
+cause_text event_positions d None = []
+cause_text event_positions d (Some cause) = why_text event_positions d cause
 
 -- what was made of a run, where it is shown
 abbrev pub shown_line : Option (List ℕ) → List ℕ
 shown_line None = []
 shown_line (Some line) = line
 
--- a race with what is told of it: its places, why it is one, and what was made of the run that shows
--- it
-abbrev pub finding_text : Option SitesIn → Drawing → Finding → Option (List ℕ) → List ℕ
-finding_text sites d f line =
+-- a race with what is told of it: its places, why it is one, and what was made of the run that
+-- shows it
+abbrev pub finding_text : Option EventPositionsIn → Drawing → Finding → Option (List ℕ) → List ℕ
+finding_text event_positions d f line =
     race_text d f.first f.second None
-    ++ (at_text sites [] f.first f.second ++ (lack_text sites d f.lack ++ shown_line line))
+    ++ (at_text event_positions [] f.first f.second ++ (cause_text event_positions d f.cause ++ shown_line line))

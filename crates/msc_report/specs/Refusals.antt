@@ -7,8 +7,8 @@ use Rattle.msc_source.specs.declared.fault.SourceFault.{SourceFault}
 use Rattle.msc_source.specs.declared.fault.SourceFault.TheVariants as sources
 use Rattle.msc_report.specs.declared.fault.Fault.{Fault}
 use Rattle.msc_report.specs.declared.fault.Fault.TheVariants.{Parse, Chart, NotStarted, Memory, Device}
-use Rattle.msc_judge.specs.declared.page.WriteFault.{WriteFault}
-use Rattle.msc_judge.specs.declared.page.WriteFault.TheVariants as writes
+use Rattle.msc_print.specs.declared.page.WriteFault.{WriteFault}
+use Rattle.msc_print.specs.declared.page.WriteFault.TheVariants as writes
 
 -- of reading an input
 abbrev pub of_reading : ReadFault → Fault

@@ -1,5 +1,6 @@
--- The texts of two rounds of a chart. This project's own formats. The chart is that of one round, and
--- numbers are those of the events of two: its text, its line and its place are those in the chart.
+-- The texts of two rounds of a chart. This project's own formats. The chart is that of one round,
+-- and numbers are those of the events of two: its text, its line and its place are those in the
+-- chart.
 use Rattle.std.specs.Prelude.{ℕ, ◌+◌, Bool, cond, List, [], ◌++◌, Option, None, Some, codes, length}
 use Rattle.std.specs.Fmt.{decimal}
 use Rattle.std.specs.List.{flat_map}
@@ -7,12 +8,12 @@ use Rattle.msc_chart.specs.Charts.{partner}
 use Rattle.msc_chart.specs.Drawings.{Drawing}
 use Rattle.msc_chart.specs.Rounds.{event_of, number_of, round_of}
 use Rattle.msc_judge.specs.declared.renderer.Finding.{Finding}
-use Rattle.msc_place.specs.Sites.{SitesIn}
-use Rattle.msc_reason.specs.declared.lack.Lack.{Lack}
+use Rattle.msc_place.specs.EventPositions.{EventPositionsIn}
+use Rattle.msc_reason.specs.declared.cause.Cause.{Cause}
 use Rattle.msc_report.specs.Editors.{grave_line, note_line}
 use Rattle.msc_report.specs.Lines.{both_at, kind_line, shown_line}
-use Rattle.msc_report.specs.Sticks.{told_pair, waits_text}
-use Rattle.msc_report.specs.Styles.{at_text, sites_in}
+use Rattle.msc_report.specs.BlockedPairs.{told_pair, waits_text}
+use Rattle.msc_report.specs.Styles.{at_text, event_positions_in}
 use Rattle.msc_report.specs.Texts.{text_line}
 use Rattle.msc_report.specs.Verdicts.{event_at}
 use Rattle.msc_report.specs.declared.style.Style.{Style}
@@ -50,36 +51,36 @@ abbrev pub again_count : ℕ → List ℕ
 again_count count = codes "again " ++ text_line (decimal count)
 
 -- such a pair, two events of one line, and where they stand
-abbrev pub again_text : Option SitesIn → Drawing → ℕ → ℕ → List ℕ
-again_text sites d k l = told_pair sites (codes "again") d (once d k) (once d l)
+abbrev pub again_text : Option EventPositionsIn → Drawing → ℕ → ℕ → List ℕ
+again_text event_positions d k l = told_pair event_positions (codes "again") d (once d k) (once d l)
 
 -- what two events of two rounds do on their lines, to the end of a line, and where they stand
-abbrev pub both_told : Option SitesIn → Drawing → ℕ → ℕ → List ℕ
-both_told sites d k l = both_at d (once d k) (once d l) ++ at_text sites [] (once d k) (once d l)
+abbrev pub both_told : Option EventPositionsIn → Drawing → ℕ → ℕ → List ℕ
+both_told event_positions d k l = both_at d (once d k) (once d l) ++ at_text event_positions [] (once d k) (once d l)
 
 -- two events of two rounds, of which the first would have to be before the other
-abbrev pub again_needs : Option SitesIn → Drawing → ℕ → ℕ → List ℕ
-again_needs sites d k l =
-    codes "needs" ++ (spaced_name d k ++ (spaced_name d l ++ (codes ": " ++ both_told sites d k l)))
+abbrev pub again_needs : Option EventPositionsIn → Drawing → ℕ → ℕ → List ℕ
+again_needs event_positions d k l =
+    codes "needs" ++ (spaced_name d k ++ (spaced_name d l ++ (codes ": " ++ both_told event_positions d k l)))
 
 -- why a pair is a race, where that is told: its kind, and the pair that it lacks
-abbrev pub round_lack : Option SitesIn → Drawing → Option Lack → List ℕ
-round_lack sites d None = []
-round_lack sites d (Some lack) = kind_line lack ++ again_needs sites d lack.needed lack.output
+abbrev pub round_cause : Option EventPositionsIn → Drawing → Option Cause → List ℕ
+round_cause event_positions d None = []
+round_cause event_positions d (Some cause) = kind_line cause ++ again_needs event_positions d cause.needed cause.output
 
 -- a race between two rounds with what is told of it, but for the run that shows it
-abbrev pub round_bare : Option SitesIn → Drawing → Finding → List ℕ
-round_bare sites d f = again_text sites d f.first f.second ++ round_lack sites d f.lack
+abbrev pub round_bare : Option EventPositionsIn → Drawing → Finding → List ℕ
+round_bare event_positions d f = again_text event_positions d f.first f.second ++ round_cause event_positions d f.cause
 
 -- and what was made of that run, where it is shown
-abbrev pub round_finding : Option SitesIn → Drawing → Finding → Option (List ℕ) → List ℕ
-round_finding sites d f line = round_bare sites d f ++ shown_line line
+abbrev pub round_finding : Option EventPositionsIn → Drawing → Finding → Option (List ℕ) → List ℕ
+round_finding event_positions d f line = round_bare event_positions d f ++ shown_line line
 
 -- its lines for editors
-abbrev pub round_warning : SitesIn → Drawing → Finding → List ℕ
-round_warning sites d f =
-    grave_line sites (codes "again") d (once d f.first) (once d f.second) f.lack
-    ++ note_line sites (once d f.second) (codes "the event of the next round")
+abbrev pub round_warning : EventPositionsIn → Drawing → Finding → List ℕ
+round_warning event_positions d f =
+    grave_line event_positions (codes "again") d (once d f.first) (once d f.second) f.cause
+    ++ note_line event_positions (once d f.second) (codes "the event of the next round")
 
 -- the output of an input, in its round
 abbrev pub output_in : Drawing → ℕ → ℕ
@@ -88,8 +89,8 @@ output_in d k = number_of 2 d.events (partner d.events (once d k)) (round_of 2 d
 -- a stick between two rounds in a style, without what shows it
 abbrev pub again_stick : Style → Drawing → ℕ → ℕ → List ℕ
 again_stick style d k l =
-    again_text (sites_in style) d k l
-    ++ (again_needs (sites_in style) d (output_in d k) (output_in d l)
+    again_text (event_positions_in style) d k l
+    ++ (again_needs (event_positions_in style) d (output_in d k) (output_in d l)
     ++ waits_text style.words d (once d k) (once d l))
 
 -- that a stick of two rounds is not first: which one is ahead of it

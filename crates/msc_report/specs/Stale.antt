@@ -4,8 +4,8 @@ use Rattle.std.specs.Fmt.{decimal}
 use Rattle.std.specs.List.{flat_map}
 use Rattle.msc_chart.specs.Charts.{line}
 use Rattle.msc_chart.specs.Drawings.{Drawing}
-use Rattle.msc_place.specs.Sites.{site_text as place_text, SitesIn}
-use Rattle.msc_report.specs.Styles.{site_text}
+use Rattle.msc_place.specs.EventPositions.{event_position_text as place_text, EventPositionsIn}
+use Rattle.msc_report.specs.Styles.{event_position_text}
 use Rattle.msc_report.specs.Texts.{text_line}
 use Rattle.msc_report.specs.Verdicts.{event_text, instance_text}
 
@@ -15,17 +15,17 @@ stale_words d e =
     codes "stale " ++ (decimal e ++ (codes " on " ++ (instance_text d (line d.events e) ++ (codes ": " ++ event_text d e))))
 
 -- its line, and that of its place, where places are told
-abbrev pub stale_line : Option SitesIn → Drawing → ℕ → List ℕ
-stale_line sites d e = text_line (stale_words d e) ++ site_text sites e
+abbrev pub stale_line : Option EventPositionsIn → Drawing → ℕ → List ℕ
+stale_line event_positions d e = text_line (stale_words d e) ++ event_position_text event_positions e
 
 -- those of all of them
-abbrev pub stale_lines : Option SitesIn → Drawing → List ℕ → List ℕ
-stale_lines sites d events = flat_map (stale_line sites d) events
+abbrev pub stale_lines : Option EventPositionsIn → Drawing → List ℕ → List ℕ
+stale_lines event_positions d events = flat_map (stale_line event_positions d) events
 
 -- its line for editors
-abbrev pub stale_warning : SitesIn → Drawing → ℕ → List ℕ
-stale_warning sites d e = place_text sites e ++ (codes ": warning: " ++ (stale_words d e ++ codes " [stale]\n"))
+abbrev pub stale_warning : EventPositionsIn → Drawing → ℕ → List ℕ
+stale_warning event_positions d e = place_text event_positions e ++ (codes ": warning: " ++ (stale_words d e ++ codes " [stale]\n"))
 
 -- those of all of them
-abbrev pub stale_warnings : SitesIn → Drawing → List ℕ → List ℕ
-stale_warnings sites d events = flat_map (stale_warning sites d) events
+abbrev pub stale_warnings : EventPositionsIn → Drawing → List ℕ → List ℕ
+stale_warnings event_positions d events = flat_map (stale_warning event_positions d) events

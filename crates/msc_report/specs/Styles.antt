@@ -3,25 +3,25 @@ use Rattle.std.specs.Prelude.{ℕ, Bool, cond, List, [], ◌++◌, Option, None,
 use Rattle.std.specs.Fmt.{decimal}
 use Rattle.std.specs.List.{flat_map}
 use Rattle.msc_chart.specs.Drawings.{Drawing}
-use Rattle.msc_place.specs.Sites.{site_line, sites_line, SitesIn}
+use Rattle.msc_place.specs.EventPositions.{event_position_line, event_positions_line, EventPositionsIn}
 use Rattle.msc_report.specs.Texts.{text_line}
 use Rattle.msc_report.specs.Traces.{event_line}
 use Rattle.msc_report.specs.Verdicts.{run_line}
 use Rattle.msc_report.specs.declared.style.Style.{Style}
 
 -- where the events of the text stand, where that is told
-abbrev pub sites_in : Style → Option SitesIn
-sites_in style = option_map (λ s. s.now) style.sites
+abbrev pub event_positions_in : Style → Option EventPositionsIn
+event_positions_in style = option_map (λ s. s.now) style.event_positions
 
 -- the line of the places of two events, behind so many blanks, where places are told
-abbrev pub at_text : Option SitesIn → List ℕ → ℕ → ℕ → List ℕ
+abbrev pub at_text : Option EventPositionsIn → List ℕ → ℕ → ℕ → List ℕ
 at_text None blanks e f = []
-at_text (Some sites) blanks e f = blanks ++ sites_line sites e f
+at_text (Some event_positions) blanks e f = blanks ++ event_positions_line event_positions e f
 
 -- the line of the place of an event, where places are told
-abbrev pub site_text : Option SitesIn → ℕ → List ℕ
-site_text None e = []
-site_text (Some sites) e = site_line sites e
+abbrev pub event_position_text : Option EventPositionsIn → ℕ → List ℕ
+event_position_text None e = []
+event_position_text (Some event_positions) e = event_position_line event_positions e
 
 -- a run in words: how many events it has, and each of them in their order
 abbrev pub steps_text : Drawing → List ℕ → List ℕ

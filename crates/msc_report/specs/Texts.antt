@@ -10,8 +10,8 @@ use Rattle.msc_parser.specs.declared.fault.ParseFault.{ParseFault}
 use Rattle.msc_parser.specs.declared.fault.ParseFault.TheVariants as grammar
 use Rattle.msc_chart.specs.declared.fault.ChartFault.{ChartFault}
 use Rattle.msc_chart.specs.declared.fault.ChartFault.TheVariants as charts
-use Rattle.msc_chart.specs.declared.fault.TwiceFault.{TwiceFault}
-use Rattle.msc_chart.specs.declared.fault.TwiceFault.TheVariants as rounds
+use Rattle.msc_chart.specs.declared.fault.UnrollFault.{UnrollFault}
+use Rattle.msc_chart.specs.declared.fault.UnrollFault.TheVariants as rounds
 use Rattle.msc_mark.specs.declared.fault.MarkFault.{MarkFault}
 use Rattle.msc_mark.specs.declared.fault.MarkFault.TheVariants as marks
 use Rattle.msc_report.specs.declared.fault.Fault.{Fault}
@@ -98,7 +98,7 @@ mark_fault_line (marks.Reason at) = placed (codes "accept fault 2 at ") at (code
 mark_fault_line marks.Memory = text_line (codes "memory fault")
 
 -- why two rounds of a chart are no chart
-abbrev pub twice_fault_line : TwiceFault → List ℕ
-twice_fault_line rounds.TooManyMessages = text_line (codes "again fault 1: more than 512 messages")
-twice_fault_line rounds.TooManyActions = text_line (codes "again fault 2: more than 512 actions")
-twice_fault_line rounds.Memory = text_line (codes "memory fault")
+abbrev pub unroll_fault_line : UnrollFault → List ℕ
+unroll_fault_line rounds.TooManyMessages = text_line (codes "again fault 1: more than 512 messages")
+unroll_fault_line rounds.TooManyActions = text_line (codes "again fault 2: more than 512 actions")
+unroll_fault_line rounds.Memory = text_line (codes "memory fault")

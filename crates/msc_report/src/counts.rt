@@ -1,24 +1,25 @@
-//! The renderer of a count: one line for a chart.
+//! The renderer of a count: one line for each chart.
 
 ghost use Rattle.std.specs.Prelude.{◌≡◌, [], ◌++◌, OnOk};
 ghost use Rattle.std.specs.Io.KnownBytes.{Appends};
 ghost use Rattle.msc_report.specs.Counts.{tally_line};
 
 use msc_chart::{Chart, Event};
-use msc_judge::{Finding, Heading, Page, Renderer};
+use msc_judge::{Finding, Heading, Renderer};
 use msc_place::writing::write_file;
+use msc_print::Page;
 use std::alloc::{AllocError, Global};
 use std::io;
 use std::io::Write;
 
-/// One line with the number of races of a chart, and of the closest of those that count, and the
-/// name of its file.
+/// One line with the number of races of a chart, of the closest of those that count, and the name
+/// of its file.
 #[derive(Drop)]
 pub struct Counts<'f> {
     pub file: &'f [u8],
 }
 
-/// Writes the line of a file: whether there are no races, or how many, and how many of those that
+/// Writes the line of a file: that there are no races, or how many, and how many of those that
 /// count are closest.
 pub fn write_tally<W: Write>(writer: &mut W, file: &[u8], heading: Heading) -> io::Result<()>
     ensures { OnOk result (Appends (W.contents writer.old) (W.contents writer.new)
@@ -45,7 +46,7 @@ impl<'f> Renderer for Counts<'f> {
 
     ghost end_text = { λ s d stale. [] };
 
-    fn put_heading(
+    fn print_heading(
         &self,
         page: &mut Page,
         _chart: &Chart,
@@ -66,7 +67,7 @@ impl<'f> Renderer for Counts<'f> {
         Ok(Vec::new(alloc))
     }
 
-    fn put_finding(
+    fn print_finding(
         &self,
         _page: &mut Page,
         _chart: &Chart,
@@ -76,7 +77,7 @@ impl<'f> Renderer for Counts<'f> {
         Ok(())
     }
 
-    fn put_end(
+    fn print_end(
         &self,
         _page: &mut Page,
         _chart: &Chart,

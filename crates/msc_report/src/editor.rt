@@ -1,53 +1,62 @@
 //! The renderer of lines for editors: each race as a line that begins with its place, and a note at
-//! the event that is drawn below it; and each mark that accepts no race.
+//! the event drawn below it; and each mark that accepts no race.
 
-ghost use Rattle.std.specs.Prelude.{◌≡◌, ◌<◌, [], ◌++◌, OnOk, length};
+ghost use Rattle.std.specs.Prelude.{◌≡◌, ◌<◌, [], ◌++◌, IfOk, OnOk, length};
 ghost use Rattle.std.specs.Io.KnownBytes.{Appends};
+ghost use Rattle.msc_chart.specs.Drawings.{Drawing};
+ghost use Rattle.msc_place.specs.EventPositions.{EventPositionsIn};
+ghost use Rattle.msc_report.specs.EventTexts.{AreTextsOf};
+ghost use Rattle.msc_report.specs.Fitting.{FitsEditor};
+ghost use Rattle.msc_report.specs.EventPositionTexts.{AreEventPositionsOf};
 ghost use Rattle.msc_report.specs.Editors.{editor_text, grave_line, kind_text, level_word};
 ghost use Rattle.msc_report.specs.Editors.{note_line, told_text};
 ghost use Rattle.msc_report.specs.Stale.{stale_warnings};
 
+use crate::event_position_texts::EventPositionTexts;
+use crate::event_texts::EventTexts;
 use crate::race::{write_event, write_pair_place};
 use crate::stale::write_stale_warnings;
 use msc_chart::{Chart, Event};
-use msc_judge::{Finding, Heading, Page, Renderer};
-use msc_place::Sites;
-use msc_reason::Lack;
+use msc_judge::{Finding, Heading, Renderer};
+use msc_place::EventPositions;
+use msc_print::Page;
+use msc_reason::Cause;
 use std::alloc::{AllocError, Global};
 use std::io;
 use std::io::Write;
 
-/// Lines for editors, of a chart whose events stand there.
+/// Lines for editors, of a chart with the places of its events.
 #[derive(Clone, Copy)]
 pub struct Editor<'s> {
-    pub sites: &'s Sites<'s>,
+    pub event_positions: &'s EventPositions<'s>,
 }
 
-/// The word for how grave a race is: one that every run reverses is an error.
-fn level_word(lack: Option<Lack>) -> &'static str
-    ensures { result.now ≡ level_word lack }
+/// The word for the level of a race: one that every run reverses is an error.
+fn level_word(cause: Option<Cause>) -> &'static str
+    ensures { result.now ≡ level_word cause }
 {
-    match lack {
-        Some(lack) if lack.always => "error",
+    match cause {
+        Some(cause) if cause.always => "error",
         _ => "warning",
     }
 }
 
-/// Writes the kind of a race, where it is told.
-fn write_kind<W: Write>(writer: &mut W, lack: Option<Lack>) -> io::Result<()>
+/// Writes the kind of a race, if it is given.
+fn write_kind<W: Write>(writer: &mut W, cause: Option<Cause>) -> io::Result<()>
     ensures { OnOk result (Appends (W.contents writer.old) (W.contents writer.new)
-        (kind_text lack)) }
+        (kind_text cause)) }
 {
-    match lack {
-        Some(lack) => {
-            let kind = lack.kind.word();
-            write!(writer, " [{kind}]")
+    match cause {
+        Some(cause) => {
+            writer.write_all(b" [")?;
+            writer.write_all(cause.kind.word().as_bytes())?;
+            writer.write_all(b"]")
         }
         None => Ok(()),
     }
 }
 
-/// Writes a word, two events of one line, which line that is, and what both of them do.
+/// Writes a word, two events of one line, the name of their instance, and what both of them do.
 fn write_told<W: Write>(
     writer: &mut W,
     chart: &Chart,
@@ -68,7 +77,7 @@ fn write_told<W: Write>(
 }
 
 impl<'s> Editor<'s> {
-    /// Writes the line of two events that race, at the first of them, behind a word.
+    /// Writes the line of two racing events, at the first of them, after a word.
     pub(crate) fn write_grave<W: Write>(
         &self,
         writer: &mut W,
@@ -76,20 +85,20 @@ impl<'s> Editor<'s> {
         word: &str,
         e: Event,
         f: Event,
-        lack: Option<Lack>,
+        cause: Option<Cause>,
     ) -> io::Result<()>
         requires e_known { e < length chart.now.events }
         requires f_known { f < length chart.now.events }
         ensures { OnOk result (Appends (W.contents writer.old) (W.contents writer.new)
-            (grave_line self.now.sites.now word.now chart.now e f lack)) }
+            (grave_line self.now.event_positions.now word.now chart.now e f cause)) }
     {
-        self.sites.write_site(writer, e)?;
-        let level = level_word(lack);
+        self.event_positions.write_event_position(writer, e)?;
+        let level = level_word(cause);
         writer.write_all(b": ")?;
         writer.write_all(level.as_bytes())?;
         writer.write_all(b": ")?;
         write_told(writer, chart, word, e, f)?;
-        write_kind(writer, lack)?;
+        write_kind(writer, cause)?;
         writer.write_all(b"\n")
     }
 
@@ -101,10 +110,12 @@ impl<'s> Editor<'s> {
         note: &str,
     ) -> io::Result<()>
         ensures { OnOk result (Appends (W.contents writer.old) (W.contents writer.new)
-            (note_line self.now.sites.now f note.now)) }
+            (note_line self.now.event_positions.now f note.now)) }
     {
-        self.sites.write_site(writer, f)?;
-        writeln!(writer, ": note: {note}")
+        self.event_positions.write_event_position(writer, f)?;
+        writer.write_all(b": note: ")?;
+        writer.write_all(note.as_bytes())?;
+        writer.write_all(b"\n")
     }
 
     /// Writes both lines of a race.
@@ -117,11 +128,124 @@ impl<'s> Editor<'s> {
         requires e_known { finding.first < length chart.now.events }
         requires f_known { finding.second < length chart.now.events }
         ensures { OnOk result (Appends (W.contents writer.old) (W.contents writer.new)
-            (editor_text self.now.sites.now chart.now finding)) }
+            (editor_text self.now.event_positions.now chart.now finding)) }
     {
         let (e, f) = (finding.first, finding.second);
-        self.write_grave(writer, chart, "race", e, f, finding.lack)?;
+        self.write_grave(writer, chart, "race", e, f, finding.cause)?;
         self.write_note(writer, f, "the event drawn below it")
+    }
+}
+
+/// Appends the kind of a race to a page, if it is given.
+fn print_kind(page: &mut Page, cause: Option<Cause>) -> Result<(), AllocError>
+    ensures { OnOk result (page.new.bytes.items ≡ page.old.bytes.items ++ kind_text cause) }
+{
+    let Some(cause) = cause else {
+        return Ok(());
+    };
+    page.bytes.extend_from_slice(b" [")?;
+    page.bytes.extend_from_slice(cause.kind.word().as_bytes())?;
+    page.bytes.extend_from_slice(b"]")
+}
+
+/// The texts of a chart's events and their places, of which lines for editors are made.
+#[derive(Drop)]
+pub(crate) struct WarningTexts {
+    pub texts: EventTexts,
+    pub places: EventPositionTexts,
+}
+
+impl WarningTexts {
+    /// Appends the line of two racing events, at the first of them, after a word.
+    fn print_grave(
+        &self,
+        page: &mut Page,
+        word: &str,
+        e: Event,
+        f: Event,
+        cause: Option<Cause>,
+    ) -> Result<(), AllocError>
+        requires e_known { e < length self.now.texts }
+        requires f_known { f < length self.now.texts }
+        requires place_known { e < length self.now.places }
+        ensures { (d : Drawing) (event_positions : EventPositionsIn) → AreTextsOf d self.now.texts
+            → AreEventPositionsOf event_positions (length self.now.places) self.now.places
+            → OnOk result (page.new.bytes.items
+            ≡ page.old.bytes.items ++ grave_line event_positions word.now d e f cause) }
+    {
+        let level = level_word(cause);
+        page.bytes.extend_from_slice(self.places.event_position(e))?;
+        page.bytes.extend_from_slice(b": ")?;
+        page.bytes.extend_from_slice(level.as_bytes())?;
+        page.bytes.extend_from_slice(b": ")?;
+        self.texts.print_told_words(page, word, e, f)?;
+        print_kind(page, cause)?;
+        page.bytes.extend_from_slice(b"\n")?;
+        Ok(())
+    }
+
+    /// Appends a note at an event.
+    fn print_note(&self, page: &mut Page, f: Event, note: &str) -> Result<(), AllocError>
+        requires { f < length self.now.places }
+        ensures { (event_positions : EventPositionsIn) → AreEventPositionsOf event_positions (length self.now.places) self.now.places
+            → OnOk result (page.new.bytes.items
+            ≡ page.old.bytes.items ++ note_line event_positions f note.now) }
+    {
+        page.bytes.extend_from_slice(self.places.event_position(f))?;
+        page.bytes.extend_from_slice(b": note: ")?;
+        page.bytes.extend_from_slice(note.as_bytes())?;
+        page.bytes.extend_from_slice(b"\n")?;
+        Ok(())
+    }
+}
+
+/// Lines for editors, made from the texts and the places of a chart's events. These are made once,
+/// if the chart has races.
+#[derive(Drop)]
+pub struct EditorLines<'s> {
+    made: Option<WarningTexts>,
+    event_positions: &'s EventPositions<'s>,
+}
+
+impl<'s> EditorLines<'s> {
+    /// The lines of a chart with `races` races. An error is a growth of memory that was refused.
+    pub fn of(
+        alloc: Global,
+        chart: &Chart,
+        races: u32,
+        event_positions: &'s EventPositions<'s>,
+    ) -> Result<EditorLines<'s>, AllocError>
+        ensures fits { IfOk result (FitsEditor chart.now) }
+        ensures event_positions { IfOk result (λ lines. lines.event_positions ≡ event_positions.entry) }
+    {
+        if races == 0 {
+            return Ok(EditorLines {
+                made: None,
+                event_positions,
+            });
+        }
+        let texts = EventTexts::new(alloc, chart)?;
+        let places = EventPositionTexts::new(alloc, event_positions, chart.events())?;
+        let made = Some(WarningTexts { texts, places });
+        Ok(EditorLines {
+            made,
+            event_positions,
+        })
+    }
+
+    /// Appends both lines of a race, made from texts.
+    fn print_made(made: &WarningTexts, page: &mut Page, finding: Finding) -> Result<(), AllocError>
+        requires e_known { finding.first < length made.now.texts }
+        requires f_known { finding.second < length made.now.texts }
+        requires places { length made.now.places ≡ length made.now.texts }
+        ensures { (d : Drawing) (event_positions : EventPositionsIn) → AreTextsOf d made.now.texts
+            → AreEventPositionsOf event_positions (length made.now.places) made.now.places
+            → OnOk result (page.new.bytes.items
+            ≡ page.old.bytes.items ++ editor_text event_positions d finding) }
+    {
+        let (e, f) = (finding.first, finding.second);
+        made.print_grave(page, "race", e, f, finding.cause)?;
+        made.print_note(page, f, "the event drawn below it")
     }
 }
 
@@ -132,11 +256,11 @@ impl<'s> Renderer for Editor<'s> {
 
     ghost run_text = { λ s d run. [] };
 
-    ghost finding_text = { λ s d f line. editor_text s.sites.now d f };
+    ghost finding_text = { λ s d f line. editor_text s.event_positions.now d f };
 
-    ghost end_text = { λ s d stale. stale_warnings s.sites.now d stale };
+    ghost end_text = { λ s d stale. stale_warnings s.event_positions.now d stale };
 
-    fn put_heading(
+    fn print_heading(
         &self,
         _page: &mut Page,
         _chart: &Chart,
@@ -154,7 +278,7 @@ impl<'s> Renderer for Editor<'s> {
         Ok(Vec::new(alloc))
     }
 
-    fn put_finding(
+    fn print_finding(
         &self,
         page: &mut Page,
         chart: &Chart,
@@ -167,8 +291,64 @@ impl<'s> Renderer for Editor<'s> {
         }
     }
 
-    fn put_end(&self, page: &mut Page, chart: &Chart, stale: &[Event]) -> Result<(), AllocError> {
-        match write_stale_warnings(page, chart, self.sites, stale) {
+    fn print_end(&self, page: &mut Page, chart: &Chart, stale: &[Event]) -> Result<(), AllocError> {
+        match write_stale_warnings(page, chart, self.event_positions, stale) {
+            Ok(()) => Ok(()),
+            Err(_) => Err(AllocError),
+        }
+    }
+}
+
+impl<'s> Renderer for EditorLines<'s> {
+    ghost fits = { λ s d. FitsEditor d s };
+
+    ghost heading_text = { λ s d h. [] };
+
+    ghost run_text = { λ s d run. [] };
+
+    ghost finding_text = { λ s d f line. editor_text s.event_positions.now d f };
+
+    ghost end_text = { λ s d stale. stale_warnings s.event_positions.now d stale };
+
+    fn print_heading(
+        &self,
+        _page: &mut Page,
+        _chart: &Chart,
+        _heading: Heading,
+    ) -> Result<(), AllocError> {
+        Ok(())
+    }
+
+    fn run_line(
+        &self,
+        alloc: Global,
+        _chart: &Chart,
+        _run: &[Event],
+    ) -> Result<Vec<u8>, AllocError> {
+        Ok(Vec::new(alloc))
+    }
+
+    fn print_finding(
+        &self,
+        page: &mut Page,
+        chart: &Chart,
+        finding: Finding,
+        _line: Option<&[u8]>,
+    ) -> Result<(), AllocError> {
+        if let Some(made) = &self.made {
+            return EditorLines::print_made(made, page, finding);
+        }
+        let editor = Editor {
+            event_positions: self.event_positions,
+        };
+        match editor.write_finding(page, chart, finding) {
+            Ok(()) => Ok(()),
+            Err(_) => Err(AllocError),
+        }
+    }
+
+    fn print_end(&self, page: &mut Page, chart: &Chart, stale: &[Event]) -> Result<(), AllocError> {
+        match write_stale_warnings(page, chart, self.event_positions, stale) {
             Ok(()) => Ok(()),
             Err(_) => Err(AllocError),
         }

@@ -1,8 +1,8 @@
-//! Why a call gave no answer: the union of what each phase can meet.
+//! Why a call gave no answer: the union of the faults of all phases.
 //!
 //! Reading an input fails with a `ReadFault`, making a text's chart with a `SourceFault` (both of
 //! `msc_source`), running it with a `RunFault` (of `msc_ending`), and writing with a `WriteFault`
-//! (of `msc_judge`). Each is a [`Fault`], by which its line is worded.
+//! (of `msc_print`). Each becomes a [`Fault`], which has a line.
 
 ghost use Rattle.std.specs.Prelude.{◌≡◌};
 ghost use Rattle.msc_report.specs.declared.fault.Fault.TheVariants.{Device, Memory};
@@ -10,15 +10,15 @@ ghost use Rattle.msc_report.specs.Refusals.{of_reading, of_run, of_source, of_wr
 
 use msc_chart::ChartFault;
 use msc_ending::RunFault;
-use msc_judge::WriteFault;
 use msc_parser::ParseFault;
+use msc_print::WriteFault;
 use msc_source::{ReadFault, SourceFault};
 use std::alloc::AllocError;
 use std::io;
 use thiserror::Error;
 
-/// Why a call gave no answer. The first that stands is answered, in this order, but for want of
-/// memory, which may come at any growth before the answer is known.
+/// Why a call gave no answer. The first fault that stands is answered, in this order; want of
+/// memory may come at any growth before the answer is known.
 #[derive(Clone, Copy, Debug, PartialEq, Eq, Error)]
 pub enum Fault {
     /// The text has no draft.

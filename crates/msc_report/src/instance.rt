@@ -1,4 +1,4 @@
-//! The fault of a name that is that of no instance.
+//! The fault of a name that no instance has.
 
 ghost use Rattle.std.specs.Prelude.{OnOk};
 ghost use Rattle.std.specs.Io.KnownBytes.{Appends};
@@ -8,8 +8,8 @@ use msc_place::writing::write_file;
 use std::io;
 use std::io::Write;
 
-/// Writes the line of a name that is that of no instance. A byte that can't be printed is written as
-/// a question mark.
+/// Writes the line of a name that no instance has. A byte that can't be printed is written as a
+/// question mark.
 pub fn write_instance_fault<W: Write>(writer: &mut W, name: &[u8]) -> io::Result<()>
     ensures { OnOk result (Appends (W.contents writer.old) (W.contents writer.new)
         (instance_fault_line name.now)) }

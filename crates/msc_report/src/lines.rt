@@ -1,44 +1,49 @@
-//! The renderer of lines: the head of a verdict, and for each race a line, why it is one where that
-//! is asked for, and the run that shows it.
+//! The renderer of lines: the head of a verdict, and for each race a line, why it is one if
+//! requested, and the run that shows it.
 
-ghost use Rattle.std.specs.Prelude.{◌≡◌, ◌<◌, [], ◌++◌, IfOk, MatchOption, None, OnOk, Some, length};
-ghost use Rattle.std.specs.Prelude.{option_map};
+ghost use Rattle.std.specs.Prelude.{◌≡◌, ◌<◌, [], ◌++◌, IfOk, MatchOption, None, OnOk, Some};
+ghost use Rattle.std.specs.Prelude.{length};
+ghost use Rattle.std.specs.Prelude.{option_map, List};
 ghost use Rattle.std.specs.Io.KnownBytes.{Appends};
 ghost use Rattle.std.specs.List.{All};
 ghost use Rattle.msc_chart.specs.Drawings.{Drawing};
-ghost use Rattle.msc_place.specs.Sites.{sites_line};
-ghost use Rattle.msc_report.specs.Fitting.{FitsLines};
+ghost use Rattle.msc_place.specs.EventPositions.{event_positions_line};
+ghost use Rattle.msc_report.specs.EventTexts.{AreTextsOf, EventText};
+ghost use Rattle.msc_report.specs.Fitting.{ArePlacesIn, FitsLines};
 ghost use Rattle.msc_report.specs.Lines.{accepted_line, both_at, closest_line, finding_text};
 ghost use Rattle.msc_report.specs.Lines.{heading_text};
 ghost use Rattle.msc_report.specs.Lines.{kind_line};
-ghost use Rattle.msc_report.specs.Lines.{lack_text, left_out_line, pair_line, pair_text, why_text};
+ghost use Rattle.msc_report.specs.Lines.{cause_text, left_out_line, pair_line, pair_text, why_text};
 ghost use Rattle.msc_report.specs.Stale.{stale_lines};
-ghost use Rattle.msc_report.specs.Styles.{at_text, run_text, sites_in, steps_text};
+ghost use Rattle.msc_report.specs.Styles.{at_text, run_text, event_positions_in, steps_text};
 ghost use Rattle.msc_report.specs.Verdicts.{race_text, run_line};
-ghost use Rattle.msc_reason.specs.Named.{NamesLack};
+ghost use Rattle.msc_reason.specs.Named.{NamesCause};
 
+use crate::event_position_texts::EventPositionTexts;
 use crate::event_texts::EventTexts;
 use crate::race::{write_event_at, write_race, write_run};
 use crate::stale::write_stale_lines;
 use crate::style::{Style, write_at};
 use crate::trace::write_steps;
 use crate::verdict::write_head;
+use itoa::Buffer;
 use msc_chart::{Chart, Event};
-use msc_judge::{Finding, Heading, Page, Renderer};
-use msc_place::Sites;
-use msc_reason::Lack;
+use msc_judge::{Finding, Heading, Renderer};
+use msc_place::EventPositions;
+use msc_print::Page;
+use msc_reason::Cause;
 use std::alloc::{AllocError, Global};
 use std::io;
 use std::io::Write;
 
 /// Writes the line of a race's kind.
-pub(crate) fn write_kind<W: Write>(writer: &mut W, lack: &Lack) -> io::Result<()>
+pub(crate) fn write_kind<W: Write>(writer: &mut W, cause: &Cause) -> io::Result<()>
     ensures { OnOk result (Appends (W.contents writer.old) (W.contents writer.new)
-        (kind_line lack.now)) }
+        (kind_line cause.now)) }
 {
     writer.write_all(b"kind ")?;
-    writer.write_all(lack.kind.word().as_bytes())?;
-    if lack.always {
+    writer.write_all(cause.kind.word().as_bytes())?;
+    if cause.always {
         writer.write_all(b" always")?;
     }
     writer.write_all(b"\n")
@@ -75,15 +80,21 @@ fn write_pair<W: Write>(
     ensures { OnOk result (Appends (W.contents writer.old) (W.contents writer.new)
         (pair_line word.now chart.now e f)) }
 {
-    write!(writer, "{word} {e} {f}: ")?;
+    let mut digits = Buffer::new();
+    writer.write_all(word.as_bytes())?;
+    writer.write_all(b" ")?;
+    writer.write_all(digits.format(e).as_bytes())?;
+    writer.write_all(b" ")?;
+    writer.write_all(digits.format(f).as_bytes())?;
+    writer.write_all(b": ")?;
     write_both_at(writer, chart, e, f)
 }
 
-/// Writes such a line, and the line of their places behind the same blanks, where places are told.
+/// Writes such a line, and the line of their places after the same blanks, if places are printed.
 pub(crate) fn write_placed_pair<W: Write>(
     writer: &mut W,
     chart: &Chart,
-    sites: Option<&Sites<'_>>,
+    event_positions: Option<&EventPositions<'_>>,
     blanks: &str,
     word: &str,
     e: Event,
@@ -92,30 +103,38 @@ pub(crate) fn write_placed_pair<W: Write>(
     requires e_known { e < length chart.now.events }
     requires f_known { f < length chart.now.events }
     ensures { OnOk result (Appends (W.contents writer.old) (W.contents writer.new)
-        (pair_text (option_map (λ s. s.now) sites.entry) blanks.now word.now chart.now e f)) }
+        (pair_text (option_map (λ s. s.now) event_positions.entry) blanks.now word.now chart.now e f)) }
 {
     writer.write_all(blanks.as_bytes())?;
     write_pair(writer, chart, word, e, f)?;
-    write_at(writer, sites, blanks, e, f)
+    write_at(writer, event_positions, blanks, e, f)
 }
 
 /// Writes why a pair is a race.
 pub(crate) fn write_why<W: Write>(
     writer: &mut W,
     chart: &Chart,
-    lack: &Lack,
-    sites: Option<&Sites<'_>>,
+    cause: &Cause,
+    event_positions: Option<&EventPositions<'_>>,
 ) -> io::Result<()>
-    requires needed { lack.now.needed < length chart.now.events }
-    requires output { lack.now.output < length chart.now.events }
+    requires needed { cause.now.needed < length chart.now.events }
+    requires output { cause.now.output < length chart.now.events }
     ensures { OnOk result (Appends (W.contents writer.old) (W.contents writer.new)
-        (why_text (option_map (λ s. s.now) sites.entry) chart.now lack.now)) }
+        (why_text (option_map (λ s. s.now) event_positions.entry) chart.now cause.now)) }
 {
-    write_kind(writer, lack)?;
-    write_placed_pair(writer, chart, sites, "", "needs", lack.needed, lack.output)
+    write_kind(writer, cause)?;
+    write_placed_pair(
+        writer,
+        chart,
+        event_positions,
+        "",
+        "needs",
+        cause.needed,
+        cause.output,
+    )
 }
 
-/// Writes how many races do not count, where kinds are left out.
+/// Writes how many races do not count, if kinds are left out.
 fn write_left_out<W: Write>(writer: &mut W, count: Option<u32>) -> io::Result<()>
     ensures { OnOk result (Appends (W.contents writer.old) (W.contents writer.new)
         (left_out_line count)) }
@@ -126,7 +145,7 @@ fn write_left_out<W: Write>(writer: &mut W, count: Option<u32>) -> io::Result<()
     }
 }
 
-/// Writes how many races are accepted, where marks are asked.
+/// Writes how many races are accepted, if marks are used.
 fn write_accepted<W: Write>(writer: &mut W, count: Option<u32>) -> io::Result<()>
     ensures { OnOk result (Appends (W.contents writer.old) (W.contents writer.new)
         (accepted_line count)) }
@@ -137,7 +156,7 @@ fn write_accepted<W: Write>(writer: &mut W, count: Option<u32>) -> io::Result<()
     }
 }
 
-/// Writes how many races are closest, where that is asked for.
+/// Writes how many races are closest, if only these are listed.
 fn write_closest<W: Write>(writer: &mut W, count: Option<u32>) -> io::Result<()>
     ensures { OnOk result (Appends (W.contents writer.old) (W.contents writer.new)
         (closest_line count)) }
@@ -148,7 +167,7 @@ fn write_closest<W: Write>(writer: &mut W, count: Option<u32>) -> io::Result<()>
     }
 }
 
-/// Writes what stands before the races.
+/// Writes the lines that precede the races.
 fn write_heading<W: Write>(writer: &mut W, chart: &Chart, heading: Heading) -> io::Result<()>
     ensures { OnOk result (Appends (W.contents writer.old) (W.contents writer.new)
         (heading_text chart.now heading)) }
@@ -159,29 +178,88 @@ fn write_heading<W: Write>(writer: &mut W, chart: &Chart, heading: Heading) -> i
     write_closest(writer, heading.closest)
 }
 
-/// Puts why a pair is a race behind a page.
-// Apart from `put_lack`, which is called for each race: room for it is made only here.
+/// Appends the line of a race's kind to a page.
+pub(crate) fn print_kind(page: &mut Page, cause: &Cause) -> Result<(), AllocError>
+    ensures { OnOk result
+        (page.new.bytes.items ≡ page.old.bytes.items ++ kind_line cause.now) }
+{
+    page.bytes.extend_from_slice(b"kind ")?;
+    page.bytes.extend_from_slice(cause.kind.word().as_bytes())?;
+    if cause.always {
+        return page.bytes.extend_from_slice(b" always\n");
+    }
+    page.bytes.extend_from_slice(b"\n")
+}
+
+/// Appends a line that names two events, made from their texts, and the line of their places, if
+/// places are printed.
+pub(crate) fn print_placed_pair(
+    page: &mut Page,
+    texts: &EventTexts,
+    event_positions: Option<&EventPositions<'_>>,
+    word: &str,
+    e: Event,
+    f: Event,
+) -> Result<(), AllocError>
+    requires e_known { e < length texts.now }
+    requires f_known { f < length texts.now }
+    ensures { (d : Drawing) → AreTextsOf d texts.now
+        → OnOk result (page.new.bytes.items ≡ page.old.bytes.items
+        ++ pair_text (option_map (λ s. s.now) event_positions.entry) [] word.now d e f) }
+{
+    texts.print_pair(page, word, e, f)?;
+    print_places(page, event_positions, e, f)
+}
+
+/// Appends why a pair is a race to a page, made from the texts of events.
+// Separate from `print_cause`, which is called for each race: only this makes room for the text.
 #[inline(never)]
-fn put_why(
+fn print_made_why(
+    page: &mut Page,
+    texts: &EventTexts,
+    cause: &Cause,
+    event_positions: Option<&EventPositions<'_>>,
+) -> Result<(), AllocError>
+    requires needed { cause.now.needed < length texts.now }
+    requires output { cause.now.output < length texts.now }
+    ensures { (d : Drawing) → AreTextsOf d texts.now
+        → OnOk result (page.new.bytes.items ≡ page.old.bytes.items
+        ++ why_text (option_map (λ s. s.now) event_positions.entry) d cause.now) }
+{
+    print_kind(page, cause)?;
+    print_placed_pair(
+        page,
+        texts,
+        event_positions,
+        "needs",
+        cause.needed,
+        cause.output,
+    )
+}
+
+/// Appends why a pair is a race to a page, if no texts were made.
+// Separate from `print_cause`, which is called for each race: only this makes room for the text.
+#[inline(never)]
+fn print_why(
     page: &mut Page,
     chart: &Chart,
-    lack: &Lack,
-    sites: Option<&Sites<'_>>,
+    cause: &Cause,
+    event_positions: Option<&EventPositions<'_>>,
 ) -> Result<(), AllocError>
-    requires { NamesLack chart.now lack.now }
+    requires { NamesCause chart.now cause.now }
     ensures { OnOk result (page.new.bytes.items ≡ page.old.bytes.items
-        ++ why_text (option_map (λ s. s.now) sites.entry) chart.now lack.now) }
+        ++ why_text (option_map (λ s. s.now) event_positions.entry) chart.now cause.now) }
 {
-    match write_why(page, chart, lack, sites) {
+    match write_why(page, chart, cause, event_positions) {
         Ok(()) => Ok(()),
         Err(_) => Err(AllocError),
     }
 }
 
-/// Puts the line of a race behind a page, where no texts were made.
-// Apart from the line that is put together of texts: room for it is made only here.
+/// Appends the line of a race to a page, if no texts were made.
+// Separate from the line that is made from texts: only this makes room for the text.
 #[inline(never)]
-fn put_bare_race(page: &mut Page, chart: &Chart, e: Event, f: Event) -> Result<(), AllocError>
+fn print_bare_race(page: &mut Page, chart: &Chart, e: Event, f: Event) -> Result<(), AllocError>
     requires e_known { e < length chart.now.events }
     requires f_known { f < length chart.now.events }
     ensures { OnOk result (page.new.bytes.items
@@ -193,50 +271,38 @@ fn put_bare_race(page: &mut Page, chart: &Chart, e: Event, f: Event) -> Result<(
     }
 }
 
-/// Puts the places of a race behind a page.
-// Apart from `put_places`, which is called for each race: room for it is made only here.
+/// Appends the places of a race to a page.
+// Separate from `print_places`, which is called for each race: only this makes room for the text.
 #[inline(never)]
-fn put_sites(page: &mut Page, sites: &Sites<'_>, e: Event, f: Event) -> Result<(), AllocError>
+fn print_event_positions(
+    page: &mut Page,
+    event_positions: &EventPositions<'_>,
+    e: Event,
+    f: Event,
+) -> Result<(), AllocError>
     ensures { OnOk result (page.new.bytes.items
-        ≡ page.old.bytes.items ++ sites_line sites.now e f) }
+        ≡ page.old.bytes.items ++ event_positions_line event_positions.now e f) }
 {
-    match sites.write_sites_line(page, e, f) {
+    match event_positions.write_event_positions_line(page, e, f) {
         Ok(()) => Ok(()),
         Err(_) => Err(AllocError),
     }
 }
 
-/// Puts the places of a race behind a page, where places are told.
-fn put_places(
+/// Appends the places of two events to a page, if places are printed.
+pub(crate) fn print_places(
     page: &mut Page,
-    sites: Option<&Sites<'_>>,
+    event_positions: Option<&EventPositions<'_>>,
     e: Event,
     f: Event,
 ) -> Result<(), AllocError>
     ensures { OnOk result (page.new.bytes.items ≡ page.old.bytes.items
-        ++ at_text (option_map (λ s. s.now) sites.entry) [] e f) }
+        ++ at_text (option_map (λ s. s.now) event_positions.entry) [] e f) }
 {
-    let Some(sites) = sites else {
+    let Some(event_positions) = event_positions else {
         return Ok(());
     };
-    put_sites(page, sites, e, f)
-}
-
-/// Puts why a pair is a race behind a page, where that is told.
-fn put_lack(
-    page: &mut Page,
-    chart: &Chart,
-    lack: Option<Lack>,
-    sites: Option<&Sites<'_>>,
-) -> Result<(), AllocError>
-    requires { MatchOption lack (Unit {0}) (NamesLack chart.now) }
-    ensures { OnOk result (page.new.bytes.items ≡ page.old.bytes.items
-        ++ lack_text (option_map (λ s. s.now) sites.entry) chart.now lack) }
-{
-    let Some(lack) = lack else {
-        return Ok(());
-    };
-    put_why(page, chart, &lack, sites)
+    print_event_positions(page, event_positions, e, f)
 }
 
 /// The lines of a run in words.
@@ -262,16 +328,36 @@ fn line_of(alloc: Global, run: &[Event]) -> Result<Vec<u8>, AllocError>
     }
 }
 
-/// Lines of races, in a style. The texts of the chart's events are made once, where it has races.
+/// The places of a chart's events, made once, if places are printed.
+fn places_of(
+    alloc: Global,
+    chart: &Chart,
+    event_positions: Option<&EventPositions<'_>>,
+) -> Result<Option<EventPositionTexts>, AllocError>
+    ensures { IfOk result (λ places. MatchOption places (Unit {0})
+        (ArePlacesIn (option_map (λ s. s.now) event_positions.entry) (length chart.now.events))) }
+{
+    match event_positions {
+        Some(event_positions) => Ok(Some(EventPositionTexts::new(
+            alloc,
+            event_positions,
+            chart.events(),
+        )?)),
+        None => Ok(None),
+    }
+}
+
+/// Lines of races, in a style. The texts of the chart's events are made once, if it has races.
 #[derive(Drop)]
 pub struct Lines<'s> {
     texts: Option<EventTexts>,
+    /// The places of the events, if they are printed.
+    places: Option<EventPositionTexts>,
     style: Style<'s>,
 }
 
 impl<'s> Lines<'s> {
-    /// Lines of the races of a chart that has so many. An error is a growth of memory that was
-    /// refused.
+    /// The lines of a chart with `races` races. An error is a growth of memory that was refused.
     pub fn of(
         alloc: Global,
         chart: &Chart,
@@ -282,15 +368,38 @@ impl<'s> Lines<'s> {
         ensures style { IfOk result (λ lines. lines.style ≡ style.entry) }
     {
         if races == 0 {
-            return Ok(Lines { texts: None, style });
+            return Ok(Lines {
+                texts: None,
+                places: None,
+                style,
+            });
         }
         let texts = Some(EventTexts::new(alloc, chart)?);
-        Ok(Lines { texts, style })
+        let places = places_of(alloc, chart, style.event_positions)?;
+        Ok(Lines {
+            texts,
+            places,
+            style,
+        })
     }
 
-    /// Puts the line of a race behind a page.
+    /// The texts of the chart's events, if they were made.
+    pub fn texts(&self) -> Option<&EventTexts>
+        ensures { (d : Drawing) (t : List EventText) → FitsLines d self.now
+            → option_map (λ x. x.now) result ≡ Some t → AreTextsOf d t }
+    {
+        self.texts.as_ref()
+    }
+
+    /// Appends the line of a race to a page.
     #[inline(always)]
-    fn put_race(&self, page: &mut Page, chart: &Chart, e: Event, f: Event) -> Result<(), AllocError>
+    fn print_race(
+        &self,
+        page: &mut Page,
+        chart: &Chart,
+        e: Event,
+        f: Event,
+    ) -> Result<(), AllocError>
         requires fits { FitsLines chart.now self.now }
         requires e_known { e < length chart.now.events }
         requires f_known { f < length chart.now.events }
@@ -298,9 +407,50 @@ impl<'s> Lines<'s> {
             ≡ page.old.bytes.items ++ race_text chart.now e f None) }
     {
         if let Some(texts) = &self.texts {
-            return texts.put_race(&mut page.bytes, e, f);
+            return texts.print_race(&mut page.bytes, e, f);
         }
-        put_bare_race(page, chart, e, f)
+        print_bare_race(page, chart, e, f)
+    }
+
+    /// Appends the places of a race to a page, if places are printed.
+    fn print_places(
+        &self,
+        page: &mut Page,
+        chart: &Chart,
+        e: Event,
+        f: Event,
+    ) -> Result<(), AllocError>
+        requires fits { FitsLines chart.now self.now }
+        requires e_known { e < length chart.now.events }
+        requires f_known { f < length chart.now.events }
+        ensures { OnOk result (page.new.bytes.items ≡ page.old.bytes.items
+            ++ at_text (event_positions_in self.now.style) [] e f) }
+    {
+        if let Some(places) = &self.places {
+            return places.print_line(page, e, f);
+        }
+        print_places(page, self.style.event_positions, e, f)
+    }
+
+    /// Appends why a pair is a race to a page, if that is requested.
+    fn print_cause(
+        &self,
+        page: &mut Page,
+        chart: &Chart,
+        cause: Option<Cause>,
+    ) -> Result<(), AllocError>
+        requires fits { FitsLines chart.now self.now }
+        requires named { MatchOption cause (Unit {0}) (NamesCause chart.now) }
+        ensures { OnOk result (page.new.bytes.items ≡ page.old.bytes.items
+            ++ cause_text (event_positions_in self.now.style) chart.now cause) }
+    {
+        let Some(cause) = cause else {
+            return Ok(());
+        };
+        if let Some(texts) = &self.texts {
+            return print_made_why(page, texts, &cause, self.style.event_positions);
+        }
+        print_why(page, chart, &cause, self.style.event_positions)
     }
 
     /// The line of a run, by the numbers of its events.
@@ -322,11 +472,11 @@ impl<'s> Renderer for Lines<'s> {
 
     ghost run_text = { λ s d run. run_text s.style.words d run };
 
-    ghost finding_text = { λ s d f line. finding_text (sites_in s.style) d f line };
+    ghost finding_text = { λ s d f line. finding_text (event_positions_in s.style) d f line };
 
-    ghost end_text = { λ s d stale. stale_lines (sites_in s.style) d stale };
+    ghost end_text = { λ s d stale. stale_lines (event_positions_in s.style) d stale };
 
-    fn put_heading(
+    fn print_heading(
         &self,
         page: &mut Page,
         chart: &Chart,
@@ -346,24 +496,24 @@ impl<'s> Renderer for Lines<'s> {
     }
 
     #[inline(always)]
-    fn put_finding(
+    fn print_finding(
         &self,
         page: &mut Page,
         chart: &Chart,
         finding: Finding,
         line: Option<&[u8]>,
     ) -> Result<(), AllocError> {
-        self.put_race(page, chart, finding.first, finding.second)?;
-        put_places(page, self.style.sites, finding.first, finding.second)?;
-        put_lack(page, chart, finding.lack, self.style.sites)?;
+        self.print_race(page, chart, finding.first, finding.second)?;
+        self.print_places(page, chart, finding.first, finding.second)?;
+        self.print_cause(page, chart, finding.cause)?;
         if let Some(line) = line {
             page.bytes.extend_from_slice(line)?;
         }
         Ok(())
     }
 
-    fn put_end(&self, page: &mut Page, chart: &Chart, stale: &[Event]) -> Result<(), AllocError> {
-        match write_stale_lines(page, chart, self.style.sites, stale) {
+    fn print_end(&self, page: &mut Page, chart: &Chart, stale: &[Event]) -> Result<(), AllocError> {
+        match write_stale_lines(page, chart, self.style.event_positions, stale) {
             Ok(()) => Ok(()),
             Err(_) => Err(AllocError),
         }

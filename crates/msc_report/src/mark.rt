@@ -1,4 +1,4 @@
-//! The line of a comment that is to be a mark, and is none.
+//! The line of a comment that begins like a mark, and is none.
 
 ghost use Rattle.std.specs.Prelude.{OnOk};
 ghost use Rattle.std.specs.Io.KnownBytes.{Appends};

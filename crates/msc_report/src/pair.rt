@@ -7,22 +7,22 @@ ghost use Rattle.msc_report.specs.Texts.{event_word, pair_fault_line};
 use std::io;
 use std::io::Write;
 
-/// How an event is named: by its number, from 0, or as the first one whose statement begins on a
-/// line of the text, from 1.
+/// The name of an event: its number, from 0, or a line of the text, from 1, for the first event
+/// whose statement begins there.
 #[derive(Clone, Copy, Debug, PartialEq, Eq)]
 pub enum EventName {
     Number(u32),
     Line(u32),
 }
 
-/// Why two names are not what is asked for: two events of a chart, or a race.
+/// Why two names are not two events of a chart, or not a race.
 #[derive(Clone, Copy, Debug, PartialEq, Eq)]
 pub enum NamedFault {
-    /// This name is none of an event: the first such.
+    /// The first name that no event has.
     NoEvent(EventName),
     /// Both names are those of one event.
     OneEvent(EventName, EventName),
-    /// They are those of two events that are no race, where one is wanted.
+    /// The events are no race, and one is required.
     NoRace(EventName, EventName),
 }
 
@@ -37,7 +37,7 @@ fn write_name<W: Write>(writer: &mut W, name: EventName) -> io::Result<()>
     }
 }
 
-/// Writes the line of a name that is none of an event.
+/// Writes the line of a name that no event has.
 fn write_no_event<W: Write>(writer: &mut W, name: EventName) -> io::Result<()>
     ensures { OnOk result (Appends (W.contents writer.old) (W.contents writer.new)
         (pair_fault_line (NamedFault.NoEvent name))) }
@@ -71,7 +71,7 @@ fn write_no_race<W: Write>(writer: &mut W, e: EventName, f: EventName) -> io::Re
     writer.write_all(b" is no race\n")
 }
 
-/// Writes the line of why two names are not what is asked for.
+/// Writes the line of the fault of two names.
 pub fn write_pair_fault<W: Write>(writer: &mut W, fault: NamedFault) -> io::Result<()>
     ensures { OnOk result (Appends (W.contents writer.old) (W.contents writer.new)
         (pair_fault_line fault)) }

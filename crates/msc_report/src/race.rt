@@ -15,7 +15,7 @@ use msc_chart::{Chart, Event};
 use std::io;
 use std::io::Write;
 
-/// Writes a message instance name behind a comma, where there is one.
+/// Writes a message instance name after a comma, if there is one.
 fn write_number<W: Write>(writer: &mut W, number: Option<&[u8]>) -> io::Result<()>
     ensures { OnOk result (Appends (W.contents writer.old) (W.contents writer.new)
         (number_text (option_copied number.entry))) }
@@ -29,7 +29,7 @@ fn write_number<W: Write>(writer: &mut W, number: Option<&[u8]>) -> io::Result<(
     }
 }
 
-/// Writes what message `m` is called.
+/// Writes the name of message `m`.
 fn write_message<W: Write>(writer: &mut W, chart: &Chart, m: u32) -> io::Result<()>
     requires { m < length chart.now.messages }
     ensures { OnOk result (Appends (W.contents writer.old) (W.contents writer.new)
@@ -54,7 +54,7 @@ fn address_of(chart: &Chart, e: Event) -> u32
     ensures value { result ≡ line chart.now.events (partner chart.now.events e) }
     ensures known { result < length chart.now.instances }
 {
-    chart.accepted();
+    chart.facts();
     chart.instance_of(chart.other_end(e))
 }
 
@@ -93,8 +93,8 @@ fn write_message_end<W: Write>(writer: &mut W, chart: &Chart, e: Event) -> io::R
     }
 }
 
-/// Writes a byte of an action's text: an apostrophe doubled, and a question mark for what is no
-/// visible character of ASCII and no space.
+/// Writes a byte of an action's text: an apostrophe doubled, and a question mark for a byte that is
+/// neither a visible character of ASCII nor a space.
 fn write_byte<W: Write>(writer: &mut W, byte: u8) -> io::Result<()>
     ensures { OnOk result (Appends (W.contents writer.old) (W.contents writer.new)
         (shown_byte byte)) }
@@ -147,7 +147,7 @@ pub fn write_event_at<W: Write>(writer: &mut W, chart: &Chart, e: Event) -> io::
     ensures { OnOk result (Appends (W.contents writer.old) (W.contents writer.new)
         (event_at chart.now e)) }
 {
-    chart.accepted();
+    chart.facts();
     write_instance(writer, chart, chart.instance_of(e))?;
     writer.write_all(b" ")?;
     write_event(writer, chart, e)
@@ -176,7 +176,7 @@ pub fn write_run<W: Write>(writer: &mut W, run: &[Event]) -> io::Result<()>
     writer.write_all(b"\n")
 }
 
-/// Writes a word, two events of one line, and which line that is.
+/// Writes a word, two events of one line, and the name of their instance.
 pub(crate) fn write_pair_place<W: Write>(
     writer: &mut W,
     chart: &Chart,
@@ -188,8 +188,14 @@ pub(crate) fn write_pair_place<W: Write>(
     ensures { OnOk result (Appends (W.contents writer.old) (W.contents writer.new)
         (pair_place word.now chart.now e f)) }
 {
-    chart.accepted();
-    write!(writer, "{word} {e} {f} on ")?;
+    chart.facts();
+    let mut digits = Buffer::new();
+    writer.write_all(word.as_bytes())?;
+    writer.write_all(b" ")?;
+    writer.write_all(digits.format(e).as_bytes())?;
+    writer.write_all(b" ")?;
+    writer.write_all(digits.format(f).as_bytes())?;
+    writer.write_all(b" on ")?;
     write_instance(writer, chart, chart.instance_of(e))
 }
 
@@ -211,7 +217,7 @@ pub(crate) fn write_events<W: Write>(
     writer.write_all(b"\n")
 }
 
-/// Writes the line of a run, where one is shown.
+/// Writes the line of a run, if one is shown.
 fn write_shown<W: Write>(writer: &mut W, run: Option<&[Event]>) -> io::Result<()>
     ensures { OnOk result (Appends (W.contents writer.old) (W.contents writer.new)
         (run_line (option_map (λ r. r.now) run.entry))) }
@@ -223,7 +229,7 @@ fn write_shown<W: Write>(writer: &mut W, run: Option<&[Event]>) -> io::Result<()
 }
 
 /// Writes the race of `e` and `f`, two events of one line: their numbers, the instance's name and
-/// what they do; and below it a run that shows it, where one is given.
+/// what they do; and below it a run that shows it, if one is given.
 pub fn write_race<W: Write>(
     writer: &mut W,
     chart: &Chart,

@@ -1,8 +1,8 @@
-//! The line of a race, put together of the parts of its two events.
+//! The line of a race, made from the parts of its two events.
 //!
 //! Most parts are short. They are copied as blocks of a size that the compiler knows, which takes a
-//! few instructions for each, into room that was asked for once; what a block has too much is
-//! written over by the next one, and dropped behind the last.
+//! few instructions for each, into room that is reserved once. The bytes of a block that exceed its
+//! part are overwritten by the next block, and dropped after the last.
 
 ghost use Rattle.std.specs.Prelude.{◌≡◌, ◌+◌, ◌≤◌, ◌++◌, IsTrue, IfOk, OnOk, length, slice_range};
 ghost use Rattle.std.specs.Prelude.{take};
@@ -28,15 +28,15 @@ pub(crate) fn are_short(bytes: &[u8], one: &Span, two: &Span) -> bool
     requires two { IsSpanIn bytes.now two.now }
     ensures { IsTrue result → AreShort (length bytes.now) one.now two.now }
 {
-    one.first - one.opening <= NUMBER
-        && two.first - two.number <= NUMBER
-        && one.second - one.first <= WORDS
+    one.colon - one.opening <= NUMBER
+        && two.colon - two.number <= NUMBER
+        && one.placed - one.first <= WORDS
         && two.end - two.second <= WORDS
         && bytes.len() - one.first >= WORDS
         && bytes.len() - two.second >= WORDS
 }
 
-/// Whether that holds of each two of these texts.
+/// Whether this holds for each two of these texts.
 pub(crate) fn all_are_short(bytes: &[u8], spans: &[Span]) -> bool
     requires { All (IsSpanIn bytes.now) spans.now }
     ensures { IsTrue result → AllAreShort bytes.now spans.now }
@@ -49,10 +49,10 @@ pub(crate) fn all_are_short(bytes: &[u8], spans: &[Span]) -> bool
     true
 }
 
-/// Puts the bytes from one place to another into a room, as a block of N bytes. It answers the
-/// place behind them in the room.
+/// Puts the bytes from one place to another into a room, as a block of N bytes. It returns where
+/// they end.
 #[inline(always)]
-fn put_block<const N: usize>(
+fn print_block<const N: usize>(
     room: &mut [u8],
     at: usize,
     bytes: &[u8],
@@ -71,9 +71,9 @@ fn put_block<const N: usize>(
     at + (to - from)
 }
 
-/// Puts the parts of a race behind a page, as blocks. An error is a growth of memory that was
+/// Appends the parts of a race to a page, as blocks. An error is a growth of memory that was
 /// refused.
-pub(crate) fn put_blocks(
+pub(crate) fn print_blocks(
     page: &mut Vec<u8>,
     bytes: &[u8],
     one: &Span,
@@ -88,17 +88,17 @@ pub(crate) fn put_blocks(
     let at = page.len();
     page.extend_from_slice(&[0; ROOM])?;
     let room = page.as_mut_slice();
-    let at = put_block::<NUMBER>(room, at, bytes, one.opening, one.first);
-    let at = put_block::<NUMBER>(room, at, bytes, two.number, two.first);
-    let at = put_block::<WORDS>(room, at, bytes, one.first, one.second);
-    let at = put_block::<WORDS>(room, at, bytes, two.second, two.end);
+    let at = print_block::<NUMBER>(room, at, bytes, one.opening, one.colon);
+    let at = print_block::<NUMBER>(room, at, bytes, two.number, two.colon);
+    let at = print_block::<WORDS>(room, at, bytes, one.first, one.placed);
+    let at = print_block::<WORDS>(room, at, bytes, two.second, two.end);
     page.truncate(at);
     Ok(())
 }
 
-/// Puts the parts of a race behind a page, however long they are. An error is a growth of memory
+/// Appends the parts of a race to a page, however long they are. An error is a growth of memory
 /// that was refused.
-pub(crate) fn put_slices(
+pub(crate) fn print_slices(
     page: &mut Vec<u8>,
     bytes: &[u8],
     one: &Span,
@@ -109,18 +109,18 @@ pub(crate) fn put_slices(
     ensures { OnOk result (page.new.items
         ≡ with_parts page.old.items (text_at bytes.now one.now) (text_at bytes.now two.now)) }
 {
-    page.extend_from_slice(&bytes[one.opening..one.first])?;
-    page.extend_from_slice(&bytes[two.number..two.first])?;
-    page.extend_from_slice(&bytes[one.first..one.second])?;
+    page.extend_from_slice(&bytes[one.opening..one.colon])?;
+    page.extend_from_slice(&bytes[two.number..two.colon])?;
+    page.extend_from_slice(&bytes[one.first..one.placed])?;
     page.extend_from_slice(&bytes[two.second..two.end])?;
     Ok(())
 }
 
-/// Puts the number of an event behind the first `at` bytes of a line, as a block where one does not
-/// go past the bytes. It answers where the number ends; what stands behind it is room, which is
-/// asked for once for many numbers. An error is a growth of memory that was refused.
+/// Puts the number of an event after the first `at` bytes of a line, as a block if that does not
+/// exceed the bytes. It returns where the number ends; what follows is room, which is reserved once
+/// for many numbers. An error is a growth of memory that was refused.
 #[inline(always)]
-pub(crate) fn put_number(
+pub(crate) fn print_number(
     line: &mut Vec<u8>,
     at: usize,
     bytes: &[u8],
@@ -132,14 +132,14 @@ pub(crate) fn put_number(
     ensures put { IfOk result (λ end. take end line.new.items
         ≡ take at line.old.items ++ (text_at bytes.now span.now).number) }
 {
-    if span.first - span.number > NUMBER || bytes.len() - span.number < NUMBER {
+    if span.colon - span.number > NUMBER || bytes.len() - span.number < NUMBER {
         line.truncate(at);
-        line.extend_from_slice(&bytes[span.number..span.first])?;
+        line.extend_from_slice(&bytes[span.number..span.colon])?;
         return Ok(line.len());
     }
     if line.len() - at < NUMBER {
         line.extend_from_slice(&[0; ROOM])?;
     }
     let room = line.as_mut_slice();
-    Ok(put_block::<NUMBER>(room, at, bytes, span.number, span.first))
+    Ok(print_block::<NUMBER>(room, at, bytes, span.number, span.colon))
 }

@@ -7,54 +7,54 @@ ghost use Rattle.msc_report.specs.Stale.{stale_line, stale_lines, stale_warning,
 ghost use Rattle.msc_report.specs.Stale.{stale_words};
 
 use crate::race::{write_event, write_instance};
-use crate::style::write_site;
+use crate::style::write_event_position;
 use msc_chart::{Chart, Event};
-use msc_place::Sites;
+use msc_place::EventPositions;
 use std::io;
 use std::io::Write;
 
-/// Writes which event has a mark that accepts no race, on which line, and what it does.
+/// Writes the event of a mark that accepts no race, the name of its instance, and what it does.
 fn write_stale_words<W: Write>(writer: &mut W, chart: &Chart, e: Event) -> io::Result<()>
     requires { e < length chart.now.events }
     ensures { OnOk result (Appends (W.contents writer.old) (W.contents writer.new)
         (stale_words chart.now e)) }
 {
-    chart.accepted();
+    chart.facts();
     write!(writer, "stale {e} on ")?;
     write_instance(writer, chart, chart.instance_of(e))?;
     writer.write_all(b": ")?;
     write_event(writer, chart, e)
 }
 
-/// Writes the line of such an event, and that of its place, where places are told.
+/// Writes the line of such an event, and that of its place, if places are printed.
 fn write_stale<W: Write>(
     writer: &mut W,
     chart: &Chart,
-    sites: Option<&Sites<'_>>,
+    event_positions: Option<&EventPositions<'_>>,
     e: Event,
 ) -> io::Result<()>
     requires { e < length chart.now.events }
     ensures { OnOk result (Appends (W.contents writer.old) (W.contents writer.new)
-        (stale_line (option_map (λ s. s.now) sites.entry) chart.now e)) }
+        (stale_line (option_map (λ s. s.now) event_positions.entry) chart.now e)) }
 {
     write_stale_words(writer, chart, e)?;
     writer.write_all(b"\n")?;
-    write_site(writer, sites, e)
+    write_event_position(writer, event_positions, e)
 }
 
 /// Writes the lines of all such events.
 pub(crate) fn write_stale_lines<W: Write>(
     writer: &mut W,
     chart: &Chart,
-    sites: Option<&Sites<'_>>,
+    event_positions: Option<&EventPositions<'_>>,
     events: &[Event],
 ) -> io::Result<()>
     requires { AreEventsOf chart.now events.now }
     ensures { OnOk result (Appends (W.contents writer.old) (W.contents writer.new)
-        (stale_lines (option_map (λ s. s.now) sites.entry) chart.now events.now)) }
+        (stale_lines (option_map (λ s. s.now) event_positions.entry) chart.now events.now)) }
 {
     for event in events {
-        write_stale(writer, chart, sites, *event)?;
+        write_stale(writer, chart, event_positions, *event)?;
     }
     Ok(())
 }
@@ -63,14 +63,14 @@ pub(crate) fn write_stale_lines<W: Write>(
 fn write_stale_warning<W: Write>(
     writer: &mut W,
     chart: &Chart,
-    sites: &Sites<'_>,
+    event_positions: &EventPositions<'_>,
     e: Event,
 ) -> io::Result<()>
     requires { e < length chart.now.events }
     ensures { OnOk result (Appends (W.contents writer.old) (W.contents writer.new)
-        (stale_warning sites.now chart.now e)) }
+        (stale_warning event_positions.now chart.now e)) }
 {
-    sites.write_site(writer, e)?;
+    event_positions.write_event_position(writer, e)?;
     writer.write_all(b": warning: ")?;
     write_stale_words(writer, chart, e)?;
     writer.write_all(b" [stale]\n")
@@ -80,15 +80,15 @@ fn write_stale_warning<W: Write>(
 pub(crate) fn write_stale_warnings<W: Write>(
     writer: &mut W,
     chart: &Chart,
-    sites: &Sites<'_>,
+    event_positions: &EventPositions<'_>,
     events: &[Event],
 ) -> io::Result<()>
     requires { AreEventsOf chart.now events.now }
     ensures { OnOk result (Appends (W.contents writer.old) (W.contents writer.new)
-        (stale_warnings sites.now chart.now events.now)) }
+        (stale_warnings event_positions.now chart.now events.now)) }
 {
     for event in events {
-        write_stale_warning(writer, chart, sites, *event)?;
+        write_stale_warning(writer, chart, event_positions, *event)?;
     }
     Ok(())
 }

@@ -1,24 +1,35 @@
 //! The lines of answers on ready instances: whether a system of them can stick, and how.
 
-ghost use Rattle.std.specs.Prelude.{◌≡◌, ◌<◌, Bool, IsTrue, List, OnOk, Some, length, option_map};
+ghost use Rattle.std.specs.Prelude.{◌≡◌, ◌<◌, ◌++◌, Bool, IsTrue, List, OnOk, Some, length};
+ghost use Rattle.std.specs.Prelude.{option_map};
 ghost use Rattle.std.specs.Io.KnownBytes.{Appends};
 ghost use Rattle.std.specs.Option.{option_copied};
 ghost use Rattle.msc_chart.specs.Charts.{is_input};
-ghost use Rattle.msc_report.specs.Sticks.{bare_stick, behind_line, coming_text, finishing_line};
-ghost use Rattle.msc_report.specs.Sticks.{left_line, left_race, needs_text, owner_text, ready_head};
-ghost use Rattle.msc_report.specs.Sticks.{ready_line, ready_name, ready_names, stick_lines, told_pair};
-ghost use Rattle.msc_report.specs.Sticks.{waits_line};
+ghost use Rattle.msc_chart.specs.Drawings.{Drawing};
+ghost use Rattle.msc_report.specs.EventTexts.{AreTextsOf};
+ghost use Rattle.msc_report.specs.BlockedPairs.{bare_stick, behind_line, coming_text};
+ghost use Rattle.msc_report.specs.BlockedPairs.{finishing_line};
+ghost use Rattle.msc_report.specs.BlockedPairs.{left_race, owner_text, ready_head};
+ghost use Rattle.msc_report.specs.BlockedPairs.{ready_line, ready_name, ready_names, stick_lines};
+ghost use Rattle.msc_report.specs.BlockedPairs.{told_pair};
+ghost use Rattle.msc_report.specs.BlockedPairs.{waits_line, waits_text};
+ghost use Rattle.msc_report.specs.Styles.{run_text};
 
-use crate::lines::write_placed_pair;
-use crate::race::{write_events, write_instance, write_pair_place, write_race, write_signal};
+use crate::event_texts::EventTexts;
+use crate::lines::{print_placed_pair, print_places};
+use crate::names::EventNames;
+use crate::race::{write_events, write_instance, write_pair_place, write_signal};
+use crate::reasons::write_run_in;
 use crate::style::{Style, write_at};
 use crate::verdict::{write_name_line, write_queues_line};
 use msc_chart::{Chart, Event, Queues};
-use msc_place::Sites;
+use msc_place::EventPositions;
+use msc_print::Page;
+use std::alloc::AllocError;
 use std::io;
 use std::io::Write;
 
-/// Writes the name of an instance, where it is ready.
+/// Writes the name of an instance, if it is ready.
 fn write_ready_name<W: Write>(
     writer: &mut W,
     chart: &Chart,
@@ -49,7 +60,7 @@ fn write_ready_names<W: Write>(writer: &mut W, chart: &Chart, lines: &[bool]) ->
     Ok(())
 }
 
-/// Writes the line of the instances that are ready, where not all are.
+/// Writes the line of the ready instances, if not all are.
 fn write_ready_line<W: Write>(
     writer: &mut W,
     chart: &Chart,
@@ -70,7 +81,7 @@ fn write_ready_line<W: Write>(
     }
 }
 
-/// Writes whether a system with so many sticks finishes, may stick, or never finishes.
+/// Writes whether a system with `count` sticks finishes, may stick, or never finishes.
 fn write_finishing<W: Write>(writer: &mut W, count: u32, may: bool) -> io::Result<()>
     ensures { OnOk result (Appends (W.contents writer.old) (W.contents writer.new)
         (finishing_line count may)) }
@@ -84,9 +95,9 @@ fn write_finishing<W: Write>(writer: &mut W, count: u32, may: bool) -> io::Resul
     writeln!(writer, "never finishes {count}")
 }
 
-/// Writes what stands before sticks: the chart's name, the architecture, which instances are ready,
-/// where not all are, and whether a system with so many sticks finishes, may stick, or never
-/// finishes.
+/// Writes the lines that precede the sticks: the chart's name, the architecture, the ready
+/// instances, if not all are, and whether a system with `count` sticks finishes, may stick, or
+/// never finishes.
 pub fn write_ready_head<W: Write>(
     writer: &mut W,
     chart: &Chart,
@@ -106,12 +117,12 @@ pub fn write_ready_head<W: Write>(
     write_finishing(writer, count, may)
 }
 
-/// Writes a word, two events of one line, which line that is, what both of them do, and where they
-/// stand, where places are told.
+/// Writes a word, two events of one line, the name of their instance, what both of them do, and
+/// their places, if places are printed.
 pub(crate) fn write_told_pair<W: Write>(
     writer: &mut W,
     chart: &Chart,
-    sites: Option<&Sites<'_>>,
+    event_positions: Option<&EventPositions<'_>>,
     word: &str,
     e: Event,
     f: Event,
@@ -119,50 +130,35 @@ pub(crate) fn write_told_pair<W: Write>(
     requires e_known { e < length chart.now.events }
     requires f_known { f < length chart.now.events }
     ensures { OnOk result (Appends (W.contents writer.old) (W.contents writer.new)
-        (told_pair (option_map (λ s. s.now) sites.entry) word.now chart.now e f)) }
+        (told_pair (option_map (λ s. s.now) event_positions.entry) word.now chart.now e f)) }
 {
     write_pair_place(writer, chart, word, e, f)?;
     writer.write_all(b": ")?;
     write_events(writer, chart, e, f)?;
-    write_at(writer, sites, "", e, f)
+    write_at(writer, event_positions, "", e, f)
 }
 
-/// Writes the outputs of two inputs, of which the first would have to stand before the other.
-fn write_needs<W: Write>(
-    writer: &mut W,
-    chart: &Chart,
-    sites: Option<&Sites<'_>>,
+/// Appends a word, two events of one line, the name of their instance, what both of them do, and
+/// their places, if places are printed.
+pub(crate) fn print_told_pair(
+    page: &mut Page,
+    texts: &EventTexts,
+    event_positions: Option<&EventPositions<'_>>,
+    word: &str,
     e: Event,
     f: Event,
-) -> io::Result<()>
-    requires e_known { e < length chart.now.events }
-    requires f_known { f < length chart.now.events }
-    ensures { OnOk result (Appends (W.contents writer.old) (W.contents writer.new)
-        (needs_text (option_map (λ s. s.now) sites.entry) chart.now e f)) }
+) -> Result<(), AllocError>
+    requires e_known { e < length texts.now }
+    requires f_known { f < length texts.now }
+    ensures { (d : Drawing) → AreTextsOf d texts.now
+        → OnOk result (page.new.bytes.items ≡ page.old.bytes.items
+        ++ told_pair (option_map (λ s. s.now) event_positions.entry) word.now d e f) }
 {
-    chart.accepted();
-    let (s, t) = (chart.other_end(e), chart.other_end(f));
-    write_placed_pair(writer, chart, sites, "", "needs", s, t)
+    texts.print_told(page, word, e, f)?;
+    print_places(page, event_positions, e, f)
 }
 
-/// Writes a stick and its two outputs, with their places, where places are told.
-fn write_stick_lines<W: Write>(
-    writer: &mut W,
-    chart: &Chart,
-    sites: Option<&Sites<'_>>,
-    e: Event,
-    f: Event,
-) -> io::Result<()>
-    requires e_known { e < length chart.now.events }
-    requires f_known { f < length chart.now.events }
-    ensures { OnOk result (Appends (W.contents writer.old) (W.contents writer.new)
-        (stick_lines (option_map (λ s. s.now) sites.entry) chart.now e f)) }
-{
-    write_told_pair(writer, chart, sites, "stick", e, f)?;
-    write_needs(writer, chart, sites, e, f)
-}
-
-/// Writes what comes at an input: its message, and from whom.
+/// Writes the message of an input, and its sender.
 fn write_coming<W: Write>(writer: &mut W, chart: &Chart, e: Event) -> io::Result<()>
     requires { IsTrue (is_input chart.now.events e) }
     ensures { OnOk result (Appends (W.contents writer.old) (W.contents writer.new)
@@ -177,11 +173,11 @@ fn write_owner<W: Write>(writer: &mut W, chart: &Chart, e: Event) -> io::Result<
     ensures { OnOk result (Appends (W.contents writer.old) (W.contents writer.new)
         (owner_text chart.now e)) }
 {
-    chart.accepted();
+    chart.facts();
     write_instance(writer, chart, chart.instance_of(e))
 }
 
-/// Writes what the instance of two inputs waits for, and what stands before that in its queue.
+/// Writes what the instance of two inputs waits for, and the message that precedes it in its queue.
 pub(crate) fn write_waits<W: Write>(
     writer: &mut W,
     chart: &Chart,
@@ -201,57 +197,106 @@ pub(crate) fn write_waits<W: Write>(
     writer.write_all(b" stands first\n")
 }
 
-/// Writes a stick, two inputs of one line, in a style: their numbers, the instance's name and what
-/// they do; the two outputs, of which the first would have to stand before the other; and in words
-/// what the instance waits for.
-pub fn write_stick<W: Write>(
-    writer: &mut W,
+/// Appends what the instance of two inputs waits for, if answers are in words.
+pub(crate) fn print_waits(
+    page: &mut Page,
     chart: &Chart,
+    words: bool,
     e: Event,
     f: Event,
-    style: Style<'_>,
-) -> io::Result<()>
+) -> Result<(), AllocError>
     requires e_input { IsTrue (is_input chart.now.events e) }
     requires f_input { IsTrue (is_input chart.now.events f) }
-    ensures { OnOk result (Appends (W.contents writer.old) (W.contents writer.new)
-        (bare_stick style.entry chart.now e f)) }
+    ensures { OnOk result (page.new.bytes.items
+        ≡ page.old.bytes.items ++ waits_text words chart.now e f) }
 {
-    write_stick_lines(writer, chart, style.sites, e, f)?;
-    if style.words {
-        return write_waits(writer, chart, e, f);
+    if !words {
+        return Ok(());
     }
-    Ok(())
+    match write_waits(page, chart, e, f) {
+        Ok(()) => Ok(()),
+        Err(_) => Err(AllocError),
+    }
 }
 
-/// Writes that a stick is not first: this one is ahead of it.
-pub fn write_behind<W: Write>(writer: &mut W, g: Event, h: Event) -> io::Result<()>
-    ensures { OnOk result (Appends (W.contents writer.old) (W.contents writer.new)
-        (behind_line (g, h))) }
-{
-    writeln!(writer, "behind {g} {h}")
+/// The events of a chart, by their numbers, with their texts.
+#[derive(Clone, Copy)]
+pub struct OneRound<'c> {
+    pub chart: &'c Chart,
+    pub texts: &'c EventTexts,
+    ghost made: { AreTextsOf chart.now texts.now },
 }
 
-/// Writes how many races are left.
-pub fn write_left_count<W: Write>(writer: &mut W, count: u32) -> io::Result<()>
-    ensures { OnOk result (Appends (W.contents writer.old) (W.contents writer.new)
-        (left_line count)) }
-{
-    writeln!(writer, "races {count}")
+impl OneRound<'_> {
+    /// Appends a stick and its two outputs, with their places, if places are printed.
+    fn print_blocked_pair_lines(
+        &self,
+        page: &mut Page,
+        event_positions: Option<&EventPositions<'_>>,
+        e: Event,
+        f: Event,
+    ) -> Result<(), AllocError>
+        requires e_known { e < length self.now.chart.now.events }
+        requires f_known { f < length self.now.chart.now.events }
+        ensures { OnOk result (page.new.bytes.items ≡ page.old.bytes.items
+            ++ stick_lines (option_map (λ s. s.now) event_positions.entry) self.now.chart.now e f) }
+    {
+        self.chart.facts();
+        print_told_pair(page, self.texts, event_positions, "stick", e, f)?;
+        let (s, t) = (self.chart.other_end(e), self.chart.other_end(f));
+        print_placed_pair(page, self.texts, event_positions, "needs", s, t)
+    }
 }
 
-/// Writes a race that is left, with its place, where places are told.
-pub fn write_left_race<W: Write>(
-    writer: &mut W,
-    chart: &Chart,
+impl EventNames for OneRound<'_> {
+    ghost drawing = { λ s. s.chart.now };
+
+    ghost stick_text = { λ s style p. bare_stick style s.chart.now p.0 p.1 };
+
+    ghost behind_text = { λ s p. behind_line p };
+
+    ghost run_lines = { λ s words run. run_text words s.chart.now run };
+
+    fn print_blocked_pair(
+        &self,
+        page: &mut Page,
+        stick: (Event, Event),
+        style: Style<'_>,
+    ) -> Result<(), AllocError> {
+        let (e, f) = stick;
+        self.print_blocked_pair_lines(page, style.event_positions, e, f)?;
+        print_waits(page, self.chart, style.words, e, f)
+    }
+
+    fn print_behind(&self, page: &mut Page, ahead: (Event, Event)) -> Result<(), AllocError> {
+        page.bytes.extend_from_slice(b"behind")?;
+        page.bytes.extend_from_slice(self.texts.number(ahead.0))?;
+        page.bytes.extend_from_slice(self.texts.number(ahead.1))?;
+        page.bytes.extend_from_slice(b"\n")
+    }
+
+    fn print_run(&self, page: &mut Page, words: bool, run: &[Event]) -> Result<(), AllocError> {
+        match write_run_in(page, self.chart, words, run) {
+            Ok(()) => Ok(()),
+            Err(_) => Err(AllocError),
+        }
+    }
+}
+
+/// Appends a race that is left, made from the texts of events, with its place, if places are
+/// printed.
+pub fn print_left_race(
+    page: &mut Page,
+    texts: &EventTexts,
     e: Event,
     f: Event,
     style: Style<'_>,
-) -> io::Result<()>
-    requires e_known { e < length chart.now.events }
-    requires f_known { f < length chart.now.events }
-    ensures { OnOk result (Appends (W.contents writer.old) (W.contents writer.new)
-        (left_race style.entry chart.now (e, f))) }
+) -> Result<(), AllocError>
+    requires e_known { e < length texts.now }
+    requires f_known { f < length texts.now }
+    ensures { (d : Drawing) → AreTextsOf d texts.now → OnOk result
+        (page.new.bytes.items ≡ page.old.bytes.items ++ left_race style.entry d (e, f)) }
 {
-    write_race(writer, chart, e, f, None)?;
-    write_at(writer, style.sites, "", e, f)
+    texts.print_race(&mut page.bytes, e, f)?;
+    print_places(page, style.event_positions, e, f)
 }

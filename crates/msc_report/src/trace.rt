@@ -10,6 +10,7 @@ ghost use Rattle.msc_report.specs.Traces.{trace_text};
 
 use crate::race::{write_event_at, write_instance};
 use crate::verdict::{write_name_line, write_queues_line};
+use itoa::Buffer;
 use msc_chart::{Chart, Event, Queues};
 use msc_ending::End;
 use std::io;
@@ -48,7 +49,7 @@ fn write_end_lines<W: Write>(writer: &mut W, chart: &Chart, ends: &[End]) -> io:
     ensures { OnOk result (Appends (W.contents writer.old) (W.contents writer.new)
         (end_lines chart.now 0 ends.now)) }
 {
-    chart.accepted();
+    chart.facts();
     for (i, end) in ends.iter().enumerate() {
         write_end_line(writer, chart, i as u32, *end)?;
     }
@@ -61,7 +62,9 @@ pub(crate) fn write_event_line<W: Write>(writer: &mut W, chart: &Chart, e: Event
     ensures { OnOk result (Appends (W.contents writer.old) (W.contents writer.new)
         (event_line chart.now e)) }
 {
-    write!(writer, "{e} ")?;
+    let mut digits = Buffer::new();
+    writer.write_all(digits.format(e).as_bytes())?;
+    writer.write_all(b" ")?;
     write_event_at(writer, chart, e)?;
     writer.write_all(b"\n")
 }
@@ -78,7 +81,7 @@ fn write_event_lines<W: Write>(writer: &mut W, chart: &Chart, events: &[Event]) 
     Ok(())
 }
 
-/// Writes a run in words: how many events it has, and a line for each of them, in their order.
+/// Writes a run in words: the number of its events, and a line for each of them, in their order.
 pub(crate) fn write_steps<W: Write>(writer: &mut W, chart: &Chart, run: &[Event]) -> io::Result<()>
     requires { All (λ e. e < length chart.now.events) run.now }
     ensures { OnOk result (Appends (W.contents writer.old) (W.contents writer.new)
@@ -110,8 +113,8 @@ fn write_trace_lines<W: Write>(
 }
 
 /// Writes an execution of a chart under an architecture: the chart's name, the architecture, how
-/// the run of each instance ended, of which there is one for each instance, and the trace, events
-/// of the chart in the order in which they happened, or that there is none.
+/// the run of each instance ended, and the trace, events of the chart in the order in which they
+/// happened, or that there is none. There is an end for each instance.
 pub fn write_trace<W: Write>(
     writer: &mut W,
     chart: &Chart,

@@ -67,7 +67,7 @@ pub fn write_verdict<W: Write>(
     write_outcome(writer, verdict)
 }
 
-/// Writes that a chart passes where it has no races, or how many it has.
+/// Writes that a chart passes, if it has no races, or how many it has.
 fn write_count<W: Write>(writer: &mut W, count: u32) -> io::Result<()>
     ensures { OnOk result (Appends (W.contents writer.old) (W.contents writer.new)
         (count_line count)) }
@@ -79,7 +79,7 @@ fn write_count<W: Write>(writer: &mut W, count: u32) -> io::Result<()>
 }
 
 /// Writes the head of a verdict on a chart under an architecture by the number of its races. It is
-/// what [`write_verdict`] writes of a verdict that lists so many.
+/// what [`write_verdict`] writes of a verdict with this many races.
 pub(crate) fn write_head<W: Write>(
     writer: &mut W,
     chart: &Chart,

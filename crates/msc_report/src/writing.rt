@@ -1,7 +1,7 @@
-//! What the program prints: canonical texts and fault lines.
+//! Writes canonical texts and fault lines.
 //!
-//! Each call writes exactly its bytes or answers an `io::Error`. How much went out before an error
-//! is not said.
+//! Each call writes exactly its bytes or answers an `io::Error`. No contract says how much was
+//! written before an error.
 
 ghost use Rattle.std.specs.Prelude.{◌≡◌, IfNone, IfSome, OnOk};
 ghost use Rattle.std.specs.Io.KnownBytes.{Appends};
@@ -89,8 +89,8 @@ fn write_expected<W: Write>(writer: &mut W, at: usize, what: What) -> io::Result
     writeln!(writer, "grammar fault 3 at {at}: expected {what}")
 }
 
-/// A chart's fault in words: its number, what stands before its place, its place where it has one,
-/// and what stands behind it. Want of memory has no number.
+/// A chart's fault in words: its number, the words before its place, its place if it has one, and
+/// the words after it. Want of memory has no number.
 fn chart_words(fault: ChartFault) -> Option<(u32, &'static str, Option<u32>, &'static str)>
     ensures words { IfSome result
         (λ w. chart_fault_line fault ≡ numbered w.0 w.1.now w.2 w.3.now) }
@@ -149,9 +149,9 @@ fn write_not_started<W: Write>(writer: &mut W, i: u32) -> io::Result<()>
     writeln!(writer, "run fault 1: instance {i} could not be started")
 }
 
-/// Writes the line of a fault. The printed words of faults come from here, from
-/// [`crate::write_pair_fault`], [`crate::write_mark_fault`] and [`crate::write_instance_fault`]
-/// alone.
+/// Writes the line of a fault. Only this call, [`crate::write_pair_fault`],
+/// [`crate::write_mark_fault`], [`crate::write_instance_fault`] and [`crate::write_unroll_fault`]
+/// word faults of charts.
 pub fn write_fault<W: Write>(writer: &mut W, fault: &Fault) -> io::Result<()>
     ensures { OnOk result (Appends (W.contents writer.old) (W.contents writer.new)
         (fault_line fault.now)) }

@@ -2,18 +2,19 @@
 use Rattle.std.proofs.Common.{◌≡◌, inl, inr, ◌<◌, ◌≤◌, ℕ, zero, suc, ◌+◌, Bool, true, false, cond, List, [], ◌∷◌, ◌++◌, length, map, take, drop, refl, sym, subst, arith}
 use Rattle.std.specs.List.{AllByRecursion}
 use Rattle.std.proofs.lemmas.List.{append-nil}
-use Rattle.msc_scenarios.specs.declared.way.Way.{Way}
-use Rattle.msc_scenarios.specs.declared.course.Form.{Form}
-use Rattle.msc_scenarios.specs.declared.course.Form.TheVariants as forms
+use Rattle.msc_scenarios.specs.declared.path.Path.{Path}
+use Rattle.msc_scenarios.specs.declared.steps.Passage.{Passage}
+use Rattle.msc_scenarios.specs.declared.steps.Passage.TheVariants as passages
 use Rattle.msc_mermaid.specs.declared.row.Kind.{Kind}
 use Rattle.msc_mermaid.specs.declared.statement.Placed.{Placed}
 use Rattle.msc_mermaid.specs.declared.statement.Statement.{Statement}
 use Rattle.msc_mermaid.specs.declared.statement.Statement.TheVariants.{Declares, Says, Begins, Closes}
 use Rattle.msc_scenarios.specs.Choosing.{Chooser, behind, block, by_branches, by_fate, by_options, by_rounds, by_sides, choose, choose_on, chosen, formed, goes_on, healed, joined, one, repeated, straight, under, with_end}
-use Rattle.msc_scenarios.specs.Courses.{branch_at, branches_in, extent, form_of, is_choice, is_there, owned_by}
+use Rattle.msc_scenarios.specs.Steps.{branch_at, branches_in, extent, passage_of, is_choice, is_there, owned_by}
 use Rattle.msc_scenarios.specs.Laws.{ComesBefore, InOrder}
 use Rattle.msc_scenarios.proofs.ChoiceLemmas as choices
-use Rattle.msc_scenarios.proofs.FollowListLemmas.{all_append, all_map, all_same}
+use Rattle.msc_scenarios.proofs.FollowListLemmas.{all_map, all_same}
+use Rattle.msc_place.proofs.Walks.{AllByRecursion-append as all_append}
 
 -- lists of choices with the same in front, or with more behind
 before_front : (cs xs ys : List ℕ) → ComesBefore xs ys → ComesBefore (cs ++ xs) (cs ++ ys)
@@ -26,30 +27,30 @@ before_more (x ∷ xs) [] us vs h = absurd h
 before_more (x ∷ xs) (y ∷ ys) us vs (inl h) = inl h
 before_more (x ∷ xs) (y ∷ ys) us vs (inr h) = inr (h.0, before_more xs ys us vs h.1)
 
--- ways by their choices
-abbrev pub Sooner : Way → Way → Type 0
+-- paths by their choices
+abbrev pub Sooner : Path → Path → Type 0
 Sooner w v = ComesBefore w.choices v.choices
 
-abbrev pub Ordered : List Way → Type 0
+abbrev pub Ordered : List Path → Type 0
 Ordered ws = InOrder Sooner ws
 
 order_map : {X Y : Type 0} (R : X → X → Type 0) (S : Y → Y → Type 0) (f : X → Y) → ((x y : X) → R x y → S (f x) (f y)) → (xs : List X) → InOrder R xs → InOrder S (map f xs)
 order_map R S f e [] h = tt
 order_map R S f e (x ∷ xs) h = (all_map (R x) (S (f x)) f (e x) xs h.0, order_map R S f e xs h.1)
 
-order_append : (ws vs : List Way) → Ordered ws → Ordered vs → AllByRecursion (λ w. AllByRecursion (Sooner w) vs) ws → Ordered (ws ++ vs)
+order_append : (ws vs : List Path) → Ordered ws → Ordered vs → AllByRecursion (λ w. AllByRecursion (Sooner w) vs) ws → Ordered (ws ++ vs)
 order_append [] vs h k all = k
 order_append (w ∷ ws) vs h k all = (all_append (Sooner w) ws vs h.0 all.0, order_append ws vs h.1 k all.1)
 
-units : (vs : List Way) → AllByRecursion (λ v. Unit {0}) vs
+units : (vs : List Path) → AllByRecursion (λ v. Unit {0}) vs
 units [] = tt
 units (v ∷ vs) = (tt, units vs)
 
--- what begins with a way's choices
-abbrev Extends : Way → Way → Type 0
+-- what begins with a path's choices
+abbrev Extends : Path → Path → Type 0
 Extends w u = (us : List ℕ) × (u.choices ≡ w.choices ++ us)
 
-module _ (vs : List Way) (w : Way) where
+module _ (vs : List Path) (w : Path) where
   extended_by : (b : Bool) → AllByRecursion (Extends w) (cond b (w ∷ []) (map (joined w) vs))
   extended_by true = (([], sym (append-nil w.choices)), tt)
   extended_by false = all_map (λ v. Unit {0}) (Extends w) (joined w) (λ v h. (v.choices, refl)) vs (units vs)
@@ -58,23 +59,23 @@ module _ (vs : List Way) (w : Way) where
   ordered_by h true = (tt, tt)
   ordered_by h false = order_map Sooner Sooner (joined w) (λ u v k. before_front w.choices u.choices v.choices k) vs h
 
--- from a way on: what comes behind it, whatever it goes on with
-abbrev Past : Way → Way → Type 0
+-- from a path on: what comes behind it, whatever it goes on with
+abbrev Past : Path → Path → Type 0
 Past w u = (us : List ℕ) → ComesBefore (w.choices ++ us) u.choices
 
-past_one : (w v u : Way) → Sooner w v → Extends v u → Past w u
+past_one : (w v u : Path) → Sooner w v → Extends v u → Past w u
 past_one w v u h e = λ us. subst (ComesBefore (w.choices ++ us)) (sym e.1) (before_more w.choices v.choices us e.0 h)
 
-module _ (vs : List Way) where
-  past_all : (w : Way) (ws : List Way) → AllByRecursion (Sooner w) ws → AllByRecursion (Past w) (behind ws vs)
+module _ (vs : List Path) where
+  past_all : (w : Path) (ws : List Path) → AllByRecursion (Sooner w) ws → AllByRecursion (Past w) (behind ws vs)
   past_all w [] h = tt
   past_all w (v ∷ ws) h =
       all_append (Past w) (goes_on vs v) (behind ws vs) (all_same (Extends v) (Past w) (λ u e. past_one w v u h.0 e) (goes_on vs v) (extended_by vs v v.broken)) (past_all w ws h.1)
 
-  sooner_than : (w x : Way) (us : List Way) → Extends w x → AllByRecursion (Past w) us → AllByRecursion (Sooner x) us
+  sooner_than : (w x : Path) (us : List Path) → Extends w x → AllByRecursion (Past w) us → AllByRecursion (Sooner x) us
   sooner_than w x us e h = all_same (Past w) (Sooner x) (λ u k. subst (λ cs. ComesBefore cs u.choices) (sym e.1) (k e.0)) us h
 
-  pub order_behind : Ordered vs → (ws : List Way) → Ordered ws → Ordered (behind ws vs)
+  pub order_behind : Ordered vs → (ws : List Path) → Ordered ws → Ordered (behind ws vs)
   order_behind k [] h = tt
   order_behind k (w ∷ ws) h =
       let rest = behind ws vs in
@@ -82,36 +83,36 @@ module _ (vs : List Way) where
       order_append (goes_on vs w) rest (ordered_by vs w k w.broken) (order_behind k ws h.1) apart
 
 -- behind one choice, and then behind greater ones
-abbrev From : ℕ → Way → Type 0
+abbrev From : ℕ → Path → Type 0
 From c w = (d : ℕ) × (c ≤ d) × (cs : List ℕ) × (w.choices ≡ d ∷ cs)
 
-module _ (c : ℕ) (b : Bool) (ws : List Way) where
+module _ (c : ℕ) (b : Bool) (ws : List Path) where
   order_chosen : Ordered ws → Ordered (chosen c b ws)
   order_chosen h = order_map Sooner Sooner (under c b) (λ u v k. inr (refl, k)) ws h
 
   from_chosen : (m : ℕ) → m ≤ c → AllByRecursion (From m) (chosen c b ws)
   from_chosen m h = all_map (λ v. Unit {0}) (From m) (under c b) (λ v k. (c, h, v.choices, refl)) ws (units ws)
 
-  sooner_chosen : (w : Way) (u : Way) → From (c + 1) u → Sooner (under c b w) u
+  sooner_chosen : (w : Path) (u : Path) → From (c + 1) u → Sooner (under c b w) u
   sooner_chosen w u k = let less : c < k.0 = omega (arith, k.1) in subst (ComesBefore (c ∷ w.choices)) (sym k.3) (inl less)
 
-  order_then : (rest : List Way) → Ordered ws → Ordered rest → AllByRecursion (From (c + 1)) rest → Ordered (chosen c b ws ++ rest)
+  order_then : (rest : List Path) → Ordered ws → Ordered rest → AllByRecursion (From (c + 1)) rest → Ordered (chosen c b ws ++ rest)
   order_then rest h k more =
       let apart = all_map (λ v. Unit {0}) (λ x. AllByRecursion (Sooner x) rest) (under c b) (λ w e. all_same (From (c + 1)) (Sooner (under c b w)) (sooner_chosen w) rest more) ws (units ws) in
       order_append (chosen c b ws) rest (order_chosen h) k apart
 
-from_more : (c : ℕ) (ws : List Way) → AllByRecursion (From (c + 1)) ws → AllByRecursion (From c) ws
+from_more : (c : ℕ) (ws : List Path) → AllByRecursion (From (c + 1)) ws → AllByRecursion (From c) ws
 from_more c ws h = all_same (From (c + 1)) (From c) (λ w k. (k.0, omega (arith, k.1), k.2, k.3)) ws h
 
 order_straight : Ordered straight
 order_straight = (tt, tt)
 
-order_healed : (ws : List Way) → Ordered ws → Ordered (healed ws)
+order_healed : (ws : List Path) → Ordered ws → Ordered (healed ws)
 order_healed ws h = order_map Sooner Sooner (with_end false) (λ u v k. k) ws h
 
 -- rounds of a loop
-module _ (body : List Way) (h : Ordered body) where
-  order_repeated : (n : ℕ) (ws : List Way) → Ordered ws → Ordered (repeated body n ws)
+module _ (body : List Path) (h : Ordered body) where
+  order_repeated : (n : ℕ) (ws : List Path) → Ordered ws → Ordered (repeated body n ws)
   order_repeated zero ws k = subst Ordered (sym (choices.repeated_none body 0 ws refl)) k
   order_repeated (suc n) ws k = subst Ordered (sym (choices.repeated_more body (suc n) n ws refl)) (order_repeated n (behind ws body) (order_behind body h ws k))
 
@@ -132,9 +133,9 @@ order_fate : Ordered by_fate
 order_fate =
     order_then 0 false straight (chosen 1 false straight) order_straight (order_chosen 1 false straight order_straight) (from_chosen 1 false straight 1 (omega arith))
 
--- branches, each of whose ways are in order
+-- branches, each of whose paths are in order
 module _ (inner : Chooser) (same : (b : List Placed) → Ordered (inner b)) where
-  module _ (first : List Way) where
+  module _ (first : List Path) where
     from_branches : (c : ℕ) (bs : List (List Placed)) → AllByRecursion (From c) (by_branches inner first c bs)
     from_branches c [] = subst (AllByRecursion (From c)) (sym (choices.branches_none inner first c)) tt
     from_branches c (b ∷ bs) =
@@ -150,35 +151,35 @@ module _ (inner : Chooser) (same : (b : List Placed) → Ordered (inner b)) wher
     order_options : Ordered first → (bs : List (List Placed)) → Ordered (by_options inner first bs)
     order_options h bs = order_then 0 false first (by_branches inner first 1 bs) h (order_branches h 1 bs) (from_branches 1 bs)
 
-  order_sides : (bs : List (List Placed)) (ws : List Way) → Ordered ws → Ordered (by_sides inner bs ws)
+  order_sides : (bs : List (List Placed)) (ws : List Path) → Ordered ws → Ordered (by_sides inner bs ws)
   order_sides [] ws h = subst Ordered (sym (choices.sides_none inner ws)) h
   order_sides (b ∷ bs) ws h =
       let vs = healed (inner b) in
       subst Ordered (sym (choices.sides_cons inner b bs ws)) (order_sides bs (behind ws vs) (order_behind vs (order_healed (inner b) (same b)) ws h))
 
   module _ (rounds : List ℕ) (rising : InOrder (λ m n. m < n) rounds) where
-    order_formed : (form : Form) (bs : List (List Placed)) → Ordered (formed inner rounds form bs)
+    order_formed : (passage : Passage) (bs : List (List Placed)) → Ordered (formed inner rounds passage bs)
     unfolding formed
-    order_formed forms.OneOf bs = order_branches straight order_straight 0 bs
-    order_formed forms.Maybe bs = order_options straight order_straight bs
-    order_formed forms.Rounds bs = order_rounds (inner (branch_at bs 0)) (same (branch_at bs 0)) rounds rising
-    order_formed forms.Break bs =
+    order_formed passages.OneOf bs = order_branches straight order_straight 0 bs
+    order_formed passages.Maybe bs = order_options straight order_straight bs
+    order_formed passages.Rounds bs = order_rounds (inner (branch_at bs 0)) (same (branch_at bs 0)) rounds rising
+    order_formed passages.Break bs =
         let ws = inner (branch_at bs 0) in
         order_then 0 false straight (chosen 1 true ws) order_straight (order_chosen 1 true ws (same (branch_at bs 0))) (from_chosen 1 true ws 1 (omega arith))
-    order_formed forms.First bs = order_options (inner (branch_at bs 0)) (same (branch_at bs 0)) (drop 1 bs)
-    order_formed forms.Par bs = order_sides bs straight order_straight
-    order_formed forms.Plain bs = same (branch_at bs 0)
+    order_formed passages.First bs = order_options (inner (branch_at bs 0)) (same (branch_at bs 0)) (drop 1 bs)
+    order_formed passages.Par bs = order_sides bs straight order_straight
+    order_formed passages.Plain bs = same (branch_at bs 0)
 
-    order_block : (kind : Kind) (inside : List Placed) (ws : List Way) → Ordered ws → Ordered (block inner rounds kind inside ws)
+    order_block : (kind : Kind) (inside : List Placed) (ws : List Path) → Ordered ws → Ordered (block inner rounds kind inside ws)
     unfolding block
     order_block kind inside ws h =
-        let bs = branches_in 0 inside in let form = form_of kind (length bs) in let found = formed inner rounds form bs in
+        let bs = branches_in 0 inside in let passage = passage_of kind (length bs) in let found = formed inner rounds passage bs in
         elim (is_there kind inside) as (λ t. Ordered (cond t (behind ws found) ws)) [
-          | true ↦ order_behind found (order_formed form bs) ws h
+          | true ↦ order_behind found (order_formed passage bs) ws h
           | false ↦ h
         ]
 
-    order_one : (s : Statement) (ps : List Placed) (ws : List Way) → Ordered ws → Ordered (one inner rounds s ps ws)
+    order_one : (s : Statement) (ps : List Placed) (ws : List Path) → Ordered ws → Ordered (one inner rounds s ps ws)
     order_one (Begins kind) ps ws h = order_block kind (take (extent 0 ps) ps) ws h
     order_one (Declares ident shown) ps ws h = h
     order_one (Says arrow) ps ws h =
@@ -188,7 +189,7 @@ module _ (inner : Chooser) (same : (b : List Placed) → Ordered (inner b)) wher
         ]
     order_one (Closes closer) ps ws h = h
 
-    order_on : (n : ℕ) (ps : List Placed) (ws : List Way) → Ordered ws → Ordered (choose_on inner rounds n ps ws)
+    order_on : (n : ℕ) (ps : List Placed) (ws : List Path) → Ordered ws → Ordered (choose_on inner rounds n ps ws)
     order_on n [] ws h = subst Ordered (sym (choices.on_none inner rounds n ws)) h
     order_on (suc n) (p ∷ ps) ws h = subst Ordered (sym (choices.on_skip inner rounds n p ps ws)) (order_on n ps ws h)
     order_on zero (p ∷ ps) ws h =

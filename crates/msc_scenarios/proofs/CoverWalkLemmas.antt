@@ -1,14 +1,14 @@
--- What a walk through statements takes is one of the ways through them, or it stops.
+-- What a walk through statements takes is one of the paths through them, or it stops.
 use Rattle.std.proofs.Common.{◌≡◌, ◌⊎◌, inl, inr, ◌<◌, ◌≤◌, ℕ, zero, suc, ◌+◌, Bool, true, false, cond, nat_le, ◌==◌, Result, Ok, Err, List, [], ◌∷◌, ◌++◌, length, map, take, refl, sym, ap, ◌∙◌, subst, arith}
 use Rattle.std.specs.List.{Contains, onto_first, slice_index_or}
 use Rattle.std.proofs.lemmas.Bool.{false≢true, leb-true}
 use Rattle.msc_place.specs.declared.position.Position.{Position}
 use Rattle.msc_mermaid.specs.declared.TheConstants.{DEPTH_LIMIT}
 use Rattle.msc_scenarios.specs.declared.TheConstants.{ARROW_LIMIT, ROUND_LIMIT}
-use Rattle.msc_scenarios.specs.declared.way.Way.{Way}
-use Rattle.msc_scenarios.specs.declared.course.Ending.{Ending}
-use Rattle.msc_scenarios.specs.declared.course.Ending.TheVariants as ends
-use Rattle.msc_scenarios.specs.declared.course.Step.TheVariants as steps
+use Rattle.msc_scenarios.specs.declared.path.Path.{Path}
+use Rattle.msc_scenarios.specs.declared.steps.Ending.{Ending}
+use Rattle.msc_scenarios.specs.declared.steps.Ending.TheVariants as ends
+use Rattle.msc_scenarios.specs.declared.steps.Step.TheVariants as steps
 use Rattle.msc_mermaid.specs.declared.fault.ImportFault.{ImportFault}
 use Rattle.msc_mermaid.specs.declared.fault.ImportFault.TheVariants.{TooManyArrows}
 use Rattle.msc_mermaid.specs.declared.row.Kind.{Kind}
@@ -19,8 +19,8 @@ use Rattle.msc_mermaid.specs.declared.statement.Statement.{Statement}
 use Rattle.msc_mermaid.specs.declared.statement.Statement.TheVariants.{Declares, Says, Begins, Closes}
 use Rattle.msc_scenarios.specs.Choosing as choosing
 use Rattle.msc_scenarios.specs.Choosing.{Chooser, all_choices, behind, by_fate, chosen, straight}
-use Rattle.msc_scenarios.specs.Courses as courses
-use Rattle.msc_scenarios.specs.Courses.{Walk, Walker, branches_in, choice_of, choose, deeper, ended, extent, form_of, heads, is_choice, is_loss, is_there, joins_at, meet, message_of, owned_by, said, then, unbroken, walk, walk_on, at_rest, unended, start_of}
+use Rattle.msc_scenarios.specs.Steps as passing
+use Rattle.msc_scenarios.specs.Steps.{Walk, Walker, branches_in, choice_of, choose, deeper, ended, extent, passage_of, heads, is_choice, is_loss, is_there, joins_at, meet, message_of, owned_by, said, then, unbroken, walk, walk_on, at_rest, unended, start_of}
 use Rattle.msc_scenarios.specs.Laws.{Takes, walked}
 use Rattle.msc_scenarios.proofs.ChoiceLemmas as choices
 use Rattle.msc_scenarios.proofs.CoverFormLemmas.{cover_formed}
@@ -94,7 +94,7 @@ module _ (p : Placed) (a : Arrow) (rs : List ℕ) where
   each_fate (suc zero) small = cover_more 1 (by_choice 1) (chosen 1 false straight) by_fate (λ P k. has_right P (chosen 0 false straight) (chosen 1 false straight) k) (cover_met 1)
   each_fate (suc (suc c)) small = let most = leb-true (suc (suc c)) 1 small in absurd (omega (arith, most))
 
-  cover_said : (f : Walk → Walk) (ws : List Way) → Covers f ws → Covers (λ w. then (f w) (said p a rs)) (cond (is_choice a) (behind ws by_fate) ws)
+  cover_said : (f : Walk → Walk) (ws : List Path) → Covers f ws → Covers (λ w. then (f w) (said p a rs)) (cond (is_choice a) (behind ws by_fate) ws)
   unfolding said
   cover_said f ws h =
       let lost = is_loss a.fate in let taken = λ (v : Walk). then (choose (start_of p) 1 0 v) (by_choice (choice_of 0 v)) in
@@ -104,27 +104,27 @@ module _ (p : Placed) (a : Arrow) (rs : List ℕ) where
       ]
 
 module _ (inner : Chooser) (walker : Walker) (same : (b : List Placed) (rs : List ℕ) → Covers (walker b rs) (inner b)) (rs rounds : List ℕ) (full : (r : ℕ) → r ≤ ROUND_LIMIT → Has (λ s. s ≡ r) rounds) where
-  module _ (f : Walk → Walk) (ws : List Way) (h : Covers f ws) where
+  module _ (f : Walk → Walk) (ws : List Path) (h : Covers f ws) where
     cover_nothing : Covers (λ w. then (f w) (λ v. v)) ws
     cover_nothing = cover_when f (λ w. then (f w) (λ v. v)) ws (λ w e. then_same (f w)) h
 
-    cover_block : (line : Position) (kind : Kind) (inside : List Placed) → Covers (λ w. then (f w) (courses.block walker line kind inside rs)) (choosing.block inner rounds kind inside ws)
-    unfolding courses.block choosing.block
+    cover_block : (line : Position) (kind : Kind) (inside : List Placed) → Covers (λ w. then (f w) (passing.block walker line kind inside rs)) (choosing.block inner rounds kind inside ws)
+    unfolding passing.block choosing.block
     cover_block line kind inside =
-        let bs = branches_in 0 inside in let form = form_of kind (length bs) in
-        let through = courses.formed walker line form bs rs in let found = choosing.formed inner rounds form bs in
+        let bs = branches_in 0 inside in let passage = passage_of kind (length bs) in
+        let through = passing.formed walker line passage bs rs in let found = choosing.formed inner rounds passage bs in
         elim (is_there kind inside) as (λ t. Covers (λ w. then (f w) (λ v. cond t (through v) v)) (cond t (behind ws found) ws)) [
-          | true ↦ cover_behind f through ws found h (cover_formed inner walker same rs line bs rounds full (some_branch 0 inside) form)
+          | true ↦ cover_behind f through ws found h (cover_formed inner walker same rs line bs rounds full (some_branch 0 inside) passage)
           | false ↦ cover_nothing
         ]
 
-    cover_one : (p : Placed) (s : Statement) (ps : List Placed) → Covers (λ w. then (f w) (courses.one walker p s ps rs)) (choosing.one inner rounds s ps ws)
+    cover_one : (p : Placed) (s : Statement) (ps : List Placed) → Covers (λ w. then (f w) (passing.one walker p s ps rs)) (choosing.one inner rounds s ps ws)
     cover_one p (Begins kind) ps = cover_block (start_of p) kind (take (extent 0 ps) ps)
     cover_one p (Says arrow) ps = cover_said p arrow rs f ws h
     cover_one p (Declares ident shown) ps = cover_nothing
     cover_one p (Closes closer) ps = cover_nothing
 
-  cover_on : (n : ℕ) (ps : List Placed) (f : Walk → Walk) (ws : List Way) → Covers f ws → Covers (λ w. then (f w) (walk_on walker n ps rs)) (choosing.choose_on inner rounds n ps ws)
+  cover_on : (n : ℕ) (ps : List Placed) (f : Walk → Walk) (ws : List Path) → Covers f ws → Covers (λ w. then (f w) (walk_on walker n ps rs)) (choosing.choose_on inner rounds n ps ws)
   cover_on n [] f ws h =
       let on = walk_on walker n [] rs in
       subst (Covers (λ w. then (f w) on)) (sym (choices.on_none inner rounds n ws)) (cover_when f (λ w. then (f w) on) ws (λ w e. then_as (f w) on (λ v. v) (walks.on_none walker n rs (f w)) ∙ then_same (f w)) h)
@@ -133,7 +133,7 @@ module _ (inner : Chooser) (walker : Walker) (same : (b : List Placed) (rs : Lis
       subst (Covers (λ w. then (f w) on)) (sym (choices.on_skip inner rounds n p ps ws)) (cover_when (λ w. then (f w) rest) (λ w. then (f w) on) (choosing.choose_on inner rounds n ps ws) (λ w e. then_as (f w) on rest (walks.on_skip walker n p ps rs (f w))) (cover_on n ps f ws h))
   cover_on zero (p ∷ ps) f ws h =
       let on = walk_on walker 0 (p ∷ ps) rs in let n = owned_by p.statement ps in let rest = walk_on walker n ps rs in
-      let step = courses.one walker p p.statement ps rs in let more = choosing.one inner rounds p.statement ps ws in
+      let step = passing.one walker p p.statement ps rs in let more = choosing.one inner rounds p.statement ps ws in
       let next = cover_on n ps (λ w. then (f w) step) more (cover_one f ws h p p.statement ps) in
       let is = λ (w : Walk) (e : w.ending ≡ ends.Goes). then_as (f w) on (λ v. then (step v) rest) (walks.on_one walker p ps rs (f w)) ∙ sym (then_then (f w) step rest) in
       subst (Covers (λ w. then (f w) on)) (sym (choices.on_one inner rounds p ps ws)) (cover_when (λ w. then (then (f w) step) rest) (λ w. then (f w) on) (choosing.choose_on inner rounds n ps more) is next)
@@ -171,12 +171,12 @@ pub no_draft : (f : ImportFault) (v : Walk) (e : Ending) → e ≡ ends.Stopped 
 no_draft f v e stopped ok = err_ok f v (sym (ap (unended v) stopped) ∙ ok)
 
 -- what is taken from rest is one of the lists
-taken_all : (lines : List (List ℕ)) (given : List ℕ) (v : Walk) (ws : List Way) → Takes given v → Ended (at_rest lines given) v ws → Contains (map (λ w. w.choices) ws) given
+taken_all : (lines : List (List ℕ)) (given : List ℕ) (v : Walk) (ws : List Path) → Takes given v → Ended (at_rest lines given) v ws → Contains (map (λ w. w.choices) ws) given
 taken_all lines given v ws t (inl stopped) = absurd (no_draft stopped.0 v v.ending stopped.1 t.1)
 taken_all lines given v ws t (inr h) =
-    to_place (map (λ w. w.choices) ws) given (has_map (Went (at_rest lines given) v) (λ cs. cs ≡ given) (λ w. w.choices) (λ way k. sym k.taken ∙ t.0) ws h)
+    to_place (map (λ w. w.choices) ws) given (has_map (Went (at_rest lines given) v) (λ cs. cs ≡ given) (λ w. w.choices) (λ path k. sym k.taken ∙ t.0) ws h)
 
 pub none_missing : (rounds : List ℕ) (d : Diagram) (given : List ℕ) → ((r : ℕ) → r ≤ ROUND_LIMIT → Contains rounds r) → Takes given (walked d given) → Contains (all_choices rounds d) given
 none_missing rounds d given full t =
     let covered = cover_walk rounds (λ r most. let k = full r most in from_place rounds r k.0 k.1 k.2) (DEPTH_LIMIT + 1) d.statements [] in
-    taken_all d.lines given (walked d given) (choosing.choose (DEPTH_LIMIT + 1) rounds d.statements) t (covered.ways (at_rest d.lines given) refl)
+    taken_all d.lines given (walked d given) (choosing.choose (DEPTH_LIMIT + 1) rounds d.statements) t (covered.paths (at_rest d.lines given) refl)

@@ -1,16 +1,17 @@
--- A walk that is given the choices of a way by one of some branches takes them.
+-- A walk that is given the choices of a path by one of some branches takes them.
 use Rattle.std.proofs.Common.{◌≡◌, ◌<◌, ◌≤◌, ℕ, ◌+◌, true, false, nat_le, unwrap_or, List, [], ◌∷◌, length, get_or, drop, sym, ap, ◌∙◌, subst, arith}
 use Rattle.std.proofs.lemmas.List.{drop_more, length-drop}
 use Rattle.std.proofs.lemmas.Option.{slice_get-get_or}
-use Rattle.msc_scenarios.specs.declared.way.Way.{Way}
-use Rattle.msc_scenarios.specs.declared.course.Ending.TheVariants as ends
+use Rattle.msc_scenarios.specs.declared.path.Path.{Path}
+use Rattle.msc_scenarios.specs.declared.steps.Ending.TheVariants as ends
 use Rattle.msc_place.specs.declared.position.Position.{Position}
 use Rattle.msc_mermaid.specs.declared.statement.Placed.{Placed}
 use Rattle.msc_scenarios.specs.Choosing.{Chooser, behind, by_branches, chosen}
-use Rattle.msc_scenarios.specs.Courses.{Walk, Walker, branch_at, then, unbroken}
+use Rattle.msc_scenarios.specs.Steps.{Walk, Walker, branch_at, then, unbroken}
 use Rattle.msc_scenarios.proofs.ChoiceLemmas as choices
 use Rattle.msc_scenarios.proofs.FollowLemmas.{Follows}
-use Rattle.msc_scenarios.proofs.FollowListLemmas.{AllFollow, all_append, follow_behind, follow_choice, taking}
+use Rattle.msc_scenarios.proofs.FollowListLemmas.{AllFollow, follow_behind, follow_choice, taking}
+use Rattle.msc_place.proofs.Walks.{AllByRecursion-append as all_append}
 
 -- the branch at a place, where these are left from there on
 module _ (all : List (List Placed)) (k : ℕ) (b : List Placed) (rest : List (List Placed)) (left : drop k all ≡ b ∷ rest) where
@@ -27,9 +28,9 @@ module _ (all : List (List Placed)) (k : ℕ) (b : List Placed) (rest : List (Li
   behind_it = ap (drop 1) parts
 
 module _ (inner : Chooser) (walker : Walker) (same : (b : List Placed) (rs : List ℕ) → AllFollow (walker b rs) (inner b)) (rs : List ℕ) where
-  -- The ways by each of the branches. From start on, the choice of the branch at a place is that place and
-  -- so many more, and what follows is to take the first ways and then that branch.
-  module _ (line : Position) (most main : ℕ) (h : ℕ → Walk → Walk) (f : Walk → Walk) (first : List Way) (firsts : AllFollow f first) (all : List (List Placed)) (start more : ℕ) (small : (i : ℕ) → i < length all → nat_le (i + more) most ≡ true) (is : (i : ℕ) → start ≤ i → (w : Walk) → w.ending ≡ ends.Goes → h (i + more) w ≡ unbroken (then (f w) (walker (branch_at all i) rs))) where
+  -- The paths by each of the branches. From start on, the choice of the branch at a place is that
+  -- place and so many more, and what follows is to take the first paths and then that branch.
+  module _ (line : Position) (most main : ℕ) (h : ℕ → Walk → Walk) (f : Walk → Walk) (first : List Path) (firsts : AllFollow f first) (all : List (List Placed)) (start more : ℕ) (small : (i : ℕ) → i < length all → nat_le (i + more) most ≡ true) (is : (i : ℕ) → start ≤ i → (w : Walk) → w.ending ≡ ends.Goes → h (i + more) w ≡ unbroken (then (f w) (walker (branch_at all i) rs))) where
     follow_branch : (k : ℕ) → start ≤ k → k < length all → AllFollow (taking line most main h) (chosen (k + more) false (behind first (inner (branch_at all k))))
     follow_branch k from within =
         let b = branch_at all k in

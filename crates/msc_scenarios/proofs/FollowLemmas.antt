@@ -1,16 +1,16 @@
--- Walks that are given the choices of a way take them.
+-- Walks that are given the choices of a path take them.
 use Rattle.std.proofs.Common.{◌≡◌, ◌⊎◌, inl, inr, ℕ, ◌+◌, Bool, true, false, cond, nat_le, Some, unwrap_or, List, [], ◌∷◌, ◌++◌, length, slice_get, refl, sym, ap, ◌∙◌, subst, append_assoc}
 use Rattle.std.proofs.lemmas.List.{append-nil}
-use Rattle.msc_scenarios.specs.declared.way.Way.{Way}
-use Rattle.msc_scenarios.specs.declared.course.Ending.{Ending}
-use Rattle.msc_scenarios.specs.declared.course.Ending.TheVariants as ends
+use Rattle.msc_scenarios.specs.declared.path.Path.{Path}
+use Rattle.msc_scenarios.specs.declared.steps.Ending.{Ending}
+use Rattle.msc_scenarios.specs.declared.steps.Ending.TheVariants as ends
 use Rattle.msc_place.specs.declared.position.Position.{Position}
 use Rattle.msc_mermaid.specs.declared.fault.ImportFault.TheVariants.{Choice}
 use Rattle.msc_scenarios.specs.Choosing.{joined, under, with_end}
-use Rattle.msc_scenarios.specs.Courses.{Walk, broken, choice_of, choose, cut_off, ended, go_on, healed, then, unbroken, with_choice}
+use Rattle.msc_scenarios.specs.Steps.{Walk, broken, choice_of, choose, cut_off, ended, go_on, healed, then, unbroken, with_choice}
 use Rattle.msc_scenarios.specs.Laws.{IsTooLong}
 
--- how a way ends a walk
+-- how a path ends a walk
 abbrev pub ending_of : Bool → Ending
 ending_of true = ends.Broke
 ending_of false = ends.Goes
@@ -27,16 +27,16 @@ pub record IsGiven (w : Walk) (choices : List ℕ) : Type 0 where
   pub rest : List ℕ
   pub given : w.given ≡ w.taken ++ (choices ++ rest)
 
--- from w on v took the way, or stopped
-abbrev pub Ends : Walk → Walk → Way → Type 0
-Ends w v way = IsTooLong v ⊎ Took w v way.choices (ending_of way.broken)
+-- from w on v took the path, or stopped
+abbrev pub Ends : Walk → Walk → Path → Type 0
+Ends w v path = IsTooLong v ⊎ Took w v path.choices (ending_of path.broken)
 
-pub record Follows (f : Walk → Walk) (way : Way) : Type 0 where
-  pub ends : (w : Walk) → IsGiven w way.choices → Ends w (f w) way
+pub record Follows (f : Walk → Walk) (path : Path) : Type 0 where
+  pub ends : (w : Walk) → IsGiven w path.choices → Ends w (f w) path
 
 -- the same of a walk that is another one
-at_walk : (w : Walk) (way : Way) (v u : Walk) → v ≡ u → Ends w u way → Ends w v way
-at_walk w way v u e h = subst (λ x. Ends w x way) (sym e) h
+at_walk : (w : Walk) (path : Path) (v u : Walk) → v ≡ u → Ends w u path → Ends w v path
+at_walk w path v u e h = subst (λ x. Ends w x path) (sym e) h
 
 -- what has stopped or is broken stays
 module _ (x : Walk) (g : Walk → Walk) where
@@ -70,8 +70,8 @@ pub then_same : (x : Walk) → then x (λ v. v) ≡ x
 then_same x = same_by x x.ending
 
 -- another walk that does the same where it goes on
-pub follows_when : (f g : Walk → Walk) (way : Way) → ((w : Walk) → w.ending ≡ ends.Goes → g w ≡ f w) → Follows f way → Follows g way
-follows_when f g way e h = record { ends = λ w i. at_walk w way (g w) (f w) (e w i.going) (h.ends w i) }
+pub follows_when : (f g : Walk → Walk) (path : Path) → ((w : Walk) → w.ending ≡ ends.Goes → g w ≡ f w) → Follows f path → Follows g path
+follows_when f g path e h = record { ends = λ w i. at_walk w path (g w) (f w) (e w i.going) (h.ends w i) }
 
 -- nothing is done, and no choice taken
 pub follows_none : Follows (λ w. w) (record { choices = []; broken = false })
@@ -95,8 +95,8 @@ module _ (w : Walk) (cs ds : List ℕ) where
   }
 
 -- one way, and then the other
-module _ (f g : Walk → Walk) (a : Way) where
-  module _ (b : Way) where
+module _ (f g : Walk → Walk) (a : Path) where
+  module _ (b : Path) where
     join_end : (w v u : Walk) → Took w v a.choices ends.Goes → Ends v u b → Ends w u (joined a b)
     join_end w v u t (inl long) = inl long
     join_end w v u t (inr s) = inr (both w a.choices b.choices v u (ending_of b.broken) t s)
@@ -138,12 +138,12 @@ module _ (f g : Walk → Walk) (passes : (v : Walk) → v.ending ≡ ends.Goes �
   pass_by w v cs true t = subst (λ u. IsTooLong u ⊎ Took w u cs ends.Broke) (sym (then_broke v g t.ending)) (inr t)
   pass_by w v cs false t = subst (λ u. IsTooLong u ⊎ Took w u cs ends.Goes) (sym (then_going v g t.ending)) (pass_end w v (g v) cs t (passes v t.ending))
 
-  pass_on : (w v : Walk) (way : Way) → Ends w v way → Ends w (then v g) way
-  pass_on w v way (inl long) = inl (subst IsTooLong (sym (then_long v g long)) long)
-  pass_on w v way (inr t) = pass_by w v way.choices way.broken t
+  pass_on : (w v : Walk) (path : Path) → Ends w v path → Ends w (then v g) path
+  pass_on w v path (inl long) = inl (subst IsTooLong (sym (then_long v g long)) long)
+  pass_on w v path (inr t) = pass_by w v path.choices path.broken t
 
-  pub follows_passed : (way : Way) → Follows f way → Follows (λ w. then (f w) g) way
-  follows_passed way h = record { ends = λ w i. pass_on w (f w) way (h.ends w i) }
+  pub follows_passed : (path : Path) → Follows f path → Follows (λ w. then (f w) g) path
+  follows_passed path h = record { ends = λ w i. pass_on w (f w) path (h.ends w i) }
 
 -- a break ends nothing further out
 pub healed_of : (b : Bool) → healed (ending_of b) ≡ ends.Goes
@@ -154,19 +154,19 @@ pub cut_of : (b : Bool) → cut_off (ending_of b) ≡ ends.Broke
 cut_of true = refl
 cut_of false = refl
 
-heal_by : (w v : Walk) (way : Way) → Ends w v way → Ends w (unbroken v) (with_end false way)
-heal_by w v way (inl long) = inl (long.0, ap healed long.1)
-heal_by w v way (inr t) = inr (record { given = t.given; taken = t.taken; ending = ap healed t.ending ∙ healed_of way.broken })
+heal_by : (w v : Walk) (path : Path) → Ends w v path → Ends w (unbroken v) (with_end false path)
+heal_by w v path (inl long) = inl (long.0, ap healed long.1)
+heal_by w v path (inr t) = inr (record { given = t.given; taken = t.taken; ending = ap healed t.ending ∙ healed_of path.broken })
 
-pub follows_healed : (f : Walk → Walk) (way : Way) → Follows f way → Follows (λ w. unbroken (f w)) (with_end false way)
-follows_healed f way h = record { ends = λ w i. heal_by w (f w) way (h.ends w (record { going = i.going; rest = i.rest; given = i.given })) }
+pub follows_healed : (f : Walk → Walk) (path : Path) → Follows f path → Follows (λ w. unbroken (f w)) (with_end false path)
+follows_healed f path h = record { ends = λ w i. heal_by w (f w) path (h.ends w (record { going = i.going; rest = i.rest; given = i.given })) }
 
-cut_by : (w v : Walk) (way : Way) → Ends w v way → Ends w (broken v) (with_end true way)
-cut_by w v way (inl long) = inl (long.0, ap cut_off long.1)
-cut_by w v way (inr t) = inr (record { given = t.given; taken = t.taken; ending = ap cut_off t.ending ∙ cut_of way.broken })
+cut_by : (w v : Walk) (path : Path) → Ends w v path → Ends w (broken v) (with_end true path)
+cut_by w v path (inl long) = inl (long.0, ap cut_off long.1)
+cut_by w v path (inr t) = inr (record { given = t.given; taken = t.taken; ending = ap cut_off t.ending ∙ cut_of path.broken })
 
-pub follows_cut : (f : Walk → Walk) (way : Way) → Follows f way → Follows (λ w. broken (f w)) (with_end true way)
-follows_cut f way h = record { ends = λ w i. cut_by w (f w) way (h.ends w (record { going = i.going; rest = i.rest; given = i.given })) }
+pub follows_cut : (f : Walk → Walk) (path : Path) → Follows f path → Follows (λ w. broken (f w)) (with_end true path)
+follows_cut f path h = record { ends = λ w i. cut_by w (f w) path (h.ends w (record { going = i.going; rest = i.rest; given = i.given })) }
 
 pub unbroken_going : (w : Walk) → w.ending ≡ ends.Goes → unbroken w ≡ w
 unbroken_going w e = ap (λ t. ended (healed t) w) e ∙ ap (λ t. ended t w) (sym e)
@@ -177,7 +177,7 @@ get_seam [] ys c = refl
 get_seam (x ∷ xs) ys c = get_seam xs ys c
 
 -- a block takes its choice, and goes on by it
-module _ (line : Position) (most main : ℕ) (h : ℕ → Walk → Walk) (c : ℕ) (small : nat_le c most ≡ true) (v : Way) where
+module _ (line : Position) (most main : ℕ) (h : ℕ → Walk → Walk) (c : ℕ) (small : nat_le c most ≡ true) (v : Path) where
   given_is : (w : Walk) → IsGiven w (c ∷ v.choices) → choice_of main w ≡ c
   given_is w i = ap (λ x. unwrap_or (slice_get x (length w.taken)) main) i.given ∙ ap (λ x. unwrap_or x main) (get_seam w.taken (v.choices ++ i.rest) c)
 

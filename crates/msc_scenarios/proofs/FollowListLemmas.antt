@@ -1,23 +1,19 @@
--- Walks that are given the choices of one of some ways take them.
+-- Walks that are given the choices of one of some paths take them.
 use Rattle.std.proofs.Common.{◌≡◌, ◌⊎◌, inr, ℕ, zero, suc, ◌+◌, Bool, true, false, cond, nat_le, List, [], ◌∷◌, ◌++◌, map, refl, sym, ap, ◌∙◌, subst}
 use Rattle.std.specs.List.{AllByRecursion}
-use Rattle.msc_scenarios.specs.declared.way.Way.{Way}
-use Rattle.msc_scenarios.specs.declared.course.Ending.TheVariants as ends
-use Rattle.msc_scenarios.specs.declared.course.Step.{Step}
-use Rattle.msc_scenarios.specs.declared.course.Step.TheVariants as steps
+use Rattle.msc_scenarios.specs.declared.path.Path.{Path}
+use Rattle.msc_scenarios.specs.declared.steps.Ending.TheVariants as ends
+use Rattle.msc_scenarios.specs.declared.steps.Step.{Step}
+use Rattle.msc_scenarios.specs.declared.steps.Step.TheVariants as steps
 use Rattle.msc_place.specs.declared.position.Position.{Position}
 use Rattle.msc_mermaid.specs.declared.statement.Placed.{Placed}
 use Rattle.msc_scenarios.specs.Choosing.{Chooser, behind, by_sides, chosen, goes_on, healed, joined, repeated, straight, under, with_end}
-use Rattle.msc_scenarios.specs.Courses.{Walk, Walker, choice_of, choose, go_on, put, rounds_from, side_by_side, then, unbroken}
+use Rattle.msc_scenarios.specs.Steps.{Walk, Walker, choice_of, choose, go_on, put, rounds_from, side_by_side, then, unbroken}
 use Rattle.msc_scenarios.specs.Laws.{IsTooLong}
 use Rattle.msc_scenarios.proofs.ChoiceLemmas.{repeated_more, repeated_none, sides_cons, sides_none}
 use Rattle.msc_scenarios.proofs.FollowLemmas.{Follows, Kept, follows_healed, follows_joined, follows_none, follows_passed, follows_stopped, follows_under, follows_when, then_same, then_then}
 use Rattle.msc_scenarios.proofs.WalkLemmas as walks
-
--- facts of each item of a list
-pub all_append : {X : Type 0} (P : X → Type 0) (xs ys : List X) → AllByRecursion P xs → AllByRecursion P ys → AllByRecursion P (xs ++ ys)
-all_append P [] ys h k = k
-all_append P (x ∷ xs) ys h k = (h.0, all_append P xs ys h.1 k)
+use Rattle.msc_place.proofs.Walks.{AllByRecursion-append as all_append}
 
 pub all_map : {X Y : Type 0} (P : X → Type 0) (Q : Y → Type 0) (f : X → Y) → ((x : X) → P x → Q (f x)) → (xs : List X) → AllByRecursion P xs → AllByRecursion Q (map f xs)
 all_map P Q f e [] h = tt
@@ -27,23 +23,23 @@ pub all_same : {X : Type 0} (P Q : X → Type 0) → ((x : X) → P x → Q x) �
 all_same P Q e [] h = tt
 all_same P Q e (x ∷ xs) h = (e x h.0, all_same P Q e xs h.1)
 
-abbrev pub AllFollow : (Walk → Walk) → List Way → Type 0
+abbrev pub AllFollow : (Walk → Walk) → List Path → Type 0
 AllFollow f ws = AllByRecursion (Follows f) ws
 
 -- another walk that does the same where it goes on
-pub retold : (f g : Walk → Walk) (ws : List Way) → ((w : Walk) → w.ending ≡ ends.Goes → g w ≡ f w) → AllFollow f ws → AllFollow g ws
-retold f g ws e h = all_same (Follows f) (Follows g) (λ way k. follows_when f g way e k) ws h
+pub retold : (f g : Walk → Walk) (ws : List Path) → ((w : Walk) → w.ending ≡ ends.Goes → g w ≡ f w) → AllFollow f ws → AllFollow g ws
+retold f g ws e h = all_same (Follows f) (Follows g) (λ path k. follows_when f g path e k) ws h
 
 pub follow_straight : AllFollow (λ w. w) straight
 follow_straight = (follows_none, tt)
 
--- a walk that takes some ways and goes on with others
-module _ (f g : Walk → Walk) (vs : List Way) (next : AllFollow g vs) where
-  on_by : (w : Way) (b : Bool) → w.broken ≡ b → Follows f w → AllFollow (λ x. then (f x) g) (cond b (w ∷ []) (map (joined w) vs))
+-- a walk that takes some paths and goes on with others
+module _ (f g : Walk → Walk) (vs : List Path) (next : AllFollow g vs) where
+  on_by : (w : Path) (b : Bool) → w.broken ≡ b → Follows f w → AllFollow (λ x. then (f x) g) (cond b (w ∷ []) (map (joined w) vs))
   on_by w true e h = (follows_stopped f g w e h, tt)
   on_by w false e h = all_map (Follows g) (Follows (λ x. then (f x) g)) (joined w) (λ v k. follows_joined f g w v e h k) vs next
 
-  pub follow_behind : (ws : List Way) → AllFollow f ws → AllFollow (λ x. then (f x) g) (behind ws vs)
+  pub follow_behind : (ws : List Path) → AllFollow f ws → AllFollow (λ x. then (f x) g) (behind ws vs)
   follow_behind [] h = tt
   follow_behind (w ∷ ws) h =
       all_append (Follows (λ x. then (f x) g)) (goes_on vs w) (behind ws vs) (on_by w w.broken refl h.0) (follow_behind ws h.1)
@@ -57,7 +53,7 @@ then_as x g h e = ap (go_on x.ending x) e
 
 module _ (inner : Chooser) (walker : Walker) (same : (b : List Placed) (rs : List ℕ) → AllFollow (walker b rs) (inner b)) (rs : List ℕ) where
   -- rounds of a loop
-  pub follow_rounds : (body : List Placed) (n k : ℕ) (f : Walk → Walk) (ws : List Way) → AllFollow f ws → AllFollow (λ w. then (f w) (rounds_from walker body rs k n)) (repeated (inner body) n ws)
+  pub follow_rounds : (body : List Placed) (n k : ℕ) (f : Walk → Walk) (ws : List Path) → AllFollow f ws → AllFollow (λ w. then (f w) (rounds_from walker body rs k n)) (repeated (inner body) n ws)
   follow_rounds body zero k f ws h =
       let on = rounds_from walker body rs k 0 in
       subst (AllFollow (λ w. then (f w) on)) (sym (repeated_none (inner body) 0 ws refl)) (retold f (λ w. then (f w) on) ws (λ w e. then_as (f w) on (λ v. v) (walks.round_none walker body rs k 0 (f w) refl) ∙ then_same (f w)) h)
@@ -74,7 +70,7 @@ module _ (inner : Chooser) (walker : Walker) (same : (b : List Placed) (rs : Lis
       let step = λ (w : Walk). then (unbroken (walker b rs w)) (put steps.Next) in
       all_map (Follows (walker b rs)) (Follows step) (with_end false) (λ v h. follows_passed (λ w. unbroken (walker b rs w)) (put steps.Next) (put_keeps steps.Next) (with_end false v) (follows_healed (walker b rs) v h)) (inner b) (same b rs)
 
-  pub follow_sides : (bs : List (List Placed)) (f : Walk → Walk) (ws : List Way) → AllFollow f ws → AllFollow (λ w. then (f w) (side_by_side walker bs rs)) (by_sides inner bs ws)
+  pub follow_sides : (bs : List (List Placed)) (f : Walk → Walk) (ws : List Path) → AllFollow f ws → AllFollow (λ w. then (f w) (side_by_side walker bs rs)) (by_sides inner bs ws)
   follow_sides [] f ws h =
       let on = side_by_side walker [] rs in
       subst (AllFollow (λ w. then (f w) on)) (sym (sides_none inner ws)) (retold f (λ w. then (f w) on) ws (λ w e. then_as (f w) on (λ v. v) (walks.side_none walker rs (f w)) ∙ then_same (f w)) h)
@@ -90,10 +86,10 @@ module _ (line : Position) (most main : ℕ) (h : ℕ → Walk → Walk) where
   abbrev pub taking : Walk → Walk
   taking w = then (choose line most main w) (h (choice_of main w))
 
-  pub follow_chosen : (c : ℕ) (b : Bool) → nat_le c most ≡ true → (ws : List Way) → AllByRecursion (λ v. Follows (h c) (with_end b v)) ws → AllFollow taking (chosen c b ws)
+  pub follow_chosen : (c : ℕ) (b : Bool) → nat_le c most ≡ true → (ws : List Path) → AllByRecursion (λ v. Follows (h c) (with_end b v)) ws → AllFollow taking (chosen c b ws)
   follow_chosen c b small ws k =
       all_map (λ v. Follows (h c) (with_end b v)) (Follows taking) (under c b) (λ v e. follows_under line most main h c small (with_end b v) e) ws k
 
-  pub follow_choice : (c : ℕ) → nat_le c most ≡ true → (f : Walk → Walk) → ((w : Walk) → w.ending ≡ ends.Goes → h c w ≡ unbroken (f w)) → (ws : List Way) → AllFollow f ws → AllFollow taking (chosen c false ws)
+  pub follow_choice : (c : ℕ) → nat_le c most ≡ true → (f : Walk → Walk) → ((w : Walk) → w.ending ≡ ends.Goes → h c w ≡ unbroken (f w)) → (ws : List Path) → AllFollow f ws → AllFollow taking (chosen c false ws)
   follow_choice c small f is ws k =
       follow_chosen c false small ws (all_same (Follows f) (λ v. Follows (h c) (with_end false v)) (λ v e. follows_when (λ w. unbroken (f w)) (h c) (with_end false v) is (follows_healed f v e)) ws k)

@@ -1,4 +1,4 @@
--- A walk that is given the choices of a way through statements takes them.
+-- A walk that is given the choices of a path through statements takes them.
 use Rattle.std.proofs.Common.{◌≡◌, ◌⊎◌, inl, inr, ℕ, zero, suc, ◌+◌, Bool, true, false, cond, nat_le, Ok, Err, List, [], ◌∷◌, ◌++◌, length, take, refl, sym, ap, ◌∙◌, subst, ◌==◌, arith}
 use Rattle.std.specs.List.{AllByRecursion, list_all}
 use Rattle.std.proofs.lemmas.Bool.Decides.{nat_tests}
@@ -6,9 +6,9 @@ use Rattle.std.proofs.lemmas.List.{append-nil}
 use Rattle.msc_place.specs.declared.position.Position.{Position}
 use Rattle.msc_mermaid.specs.declared.TheConstants.{DEPTH_LIMIT}
 use Rattle.msc_scenarios.specs.declared.TheConstants.{ARROW_LIMIT, ROUND_LIMIT}
-use Rattle.msc_scenarios.specs.declared.way.Way.{Way}
-use Rattle.msc_scenarios.specs.declared.course.Ending.TheVariants as ends
-use Rattle.msc_scenarios.specs.declared.course.Step.TheVariants as steps
+use Rattle.msc_scenarios.specs.declared.path.Path.{Path}
+use Rattle.msc_scenarios.specs.declared.steps.Ending.TheVariants as ends
+use Rattle.msc_scenarios.specs.declared.steps.Step.TheVariants as steps
 use Rattle.msc_mermaid.specs.declared.fault.ImportFault.TheVariants.{TooManyArrows, TooManyChoices}
 use Rattle.msc_mermaid.specs.declared.row.Kind.{Kind}
 use Rattle.msc_mermaid.specs.declared.statement.Arrow.{Arrow}
@@ -18,8 +18,8 @@ use Rattle.msc_mermaid.specs.declared.statement.Statement.{Statement}
 use Rattle.msc_mermaid.specs.declared.statement.Statement.TheVariants.{Declares, Says, Begins, Closes}
 use Rattle.msc_scenarios.specs.Choosing as choosing
 use Rattle.msc_scenarios.specs.Choosing.{Chooser, all_choices, behind, by_fate, straight}
-use Rattle.msc_scenarios.specs.Courses as courses
-use Rattle.msc_scenarios.specs.Courses.{Walk, Walker, branches_in, choice_of, choose, ended, extent, form_of, heads, is_choice, is_loss, is_there, meet, message_of, owned_by, said, then, walk, walk_on, at_rest, unended, start_of}
+use Rattle.msc_scenarios.specs.Steps as passing
+use Rattle.msc_scenarios.specs.Steps.{Walk, Walker, branches_in, choice_of, choose, ended, extent, passage_of, heads, is_choice, is_loss, is_there, meet, message_of, owned_by, said, then, walk, walk_on, at_rest, unended, start_of}
 use Rattle.msc_scenarios.specs.Laws.{IsTooLong, IsWhole, Takes, walked}
 use Rattle.msc_scenarios.proofs.ChoiceLemmas as choices
 use Rattle.msc_scenarios.proofs.FollowLemmas.{Ends, Follows, IsGiven, Kept, ending_of, follows_none, follows_passed, follows_under, follows_when, then_going, then_same, then_then}
@@ -50,7 +50,7 @@ module _ (p : Placed) (a : Arrow) (rs : List ℕ) where
   abbrev by_choice : ℕ → Walk → Walk
   by_choice c = meet p a (c == 0) rs
 
-  abbrev alone : Way
+  abbrev alone : Path
   alone = record { choices = []; broken = false }
 
   follow_met : (c : ℕ) → Follows (by_choice c) alone
@@ -61,7 +61,7 @@ module _ (p : Placed) (a : Arrow) (rs : List ℕ) where
   follow_fate =
       (follows_under (start_of p) 1 0 by_choice 0 refl alone (follow_met 0), (follows_under (start_of p) 1 0 by_choice 1 refl alone (follow_met 1), tt))
 
-  follow_said : (f : Walk → Walk) (ws : List Way) → AllFollow f ws → AllFollow (λ w. then (f w) (said p a rs)) (cond (is_choice a) (behind ws by_fate) ws)
+  follow_said : (f : Walk → Walk) (ws : List Path) → AllFollow f ws → AllFollow (λ w. then (f w) (said p a rs)) (cond (is_choice a) (behind ws by_fate) ws)
   unfolding said
   follow_said f ws h =
       let lost = is_loss a.fate in
@@ -72,27 +72,27 @@ module _ (p : Placed) (a : Arrow) (rs : List ℕ) where
 
 module _ (inner : Chooser) (walker : Walker) (same : (b : List Placed) (rs : List ℕ) → AllFollow (walker b rs) (inner b)) (rs rounds : List ℕ) (few : list_all (λ r. nat_le r ROUND_LIMIT) rounds ≡ true) where
   -- nothing is done
-  module _ (f : Walk → Walk) (ws : List Way) (h : AllFollow f ws) where
+  module _ (f : Walk → Walk) (ws : List Path) (h : AllFollow f ws) where
     follow_nothing : AllFollow (λ w. then (f w) (λ v. v)) ws
     follow_nothing = retold f (λ w. then (f w) (λ v. v)) ws (λ w e. then_same (f w)) h
 
-    follow_block : (line : Position) (kind : Kind) (inside : List Placed) → AllFollow (λ w. then (f w) (courses.block walker line kind inside rs)) (choosing.block inner rounds kind inside ws)
-    unfolding courses.block choosing.block
+    follow_block : (line : Position) (kind : Kind) (inside : List Placed) → AllFollow (λ w. then (f w) (passing.block walker line kind inside rs)) (choosing.block inner rounds kind inside ws)
+    unfolding passing.block choosing.block
     follow_block line kind inside =
-        let bs = branches_in 0 inside in let form = form_of kind (length bs) in
-        let walked = courses.formed walker line form bs rs in let found = choosing.formed inner rounds form bs in
+        let bs = branches_in 0 inside in let passage = passage_of kind (length bs) in
+        let walked = passing.formed walker line passage bs rs in let found = choosing.formed inner rounds passage bs in
         elim (is_there kind inside) as (λ t. AllFollow (λ w. then (f w) (λ v. cond t (walked v) v)) (cond t (behind ws found) ws)) [
-          | true ↦ follow_behind f walked found (follow_formed inner walker same rs line bs rounds few form) ws h
+          | true ↦ follow_behind f walked found (follow_formed inner walker same rs line bs rounds few passage) ws h
           | false ↦ follow_nothing
         ]
 
-    follow_one : (p : Placed) (s : Statement) (ps : List Placed) → AllFollow (λ w. then (f w) (courses.one walker p s ps rs)) (choosing.one inner rounds s ps ws)
+    follow_one : (p : Placed) (s : Statement) (ps : List Placed) → AllFollow (λ w. then (f w) (passing.one walker p s ps rs)) (choosing.one inner rounds s ps ws)
     follow_one p (Begins kind) ps = follow_block (start_of p) kind (take (extent 0 ps) ps)
     follow_one p (Says arrow) ps = follow_said p arrow rs f ws h
     follow_one p (Declares ident shown) ps = follow_nothing
     follow_one p (Closes closer) ps = follow_nothing
 
-  follow_on : (n : ℕ) (ps : List Placed) (f : Walk → Walk) (ws : List Way) → AllFollow f ws → AllFollow (λ w. then (f w) (walk_on walker n ps rs)) (choosing.choose_on inner rounds n ps ws)
+  follow_on : (n : ℕ) (ps : List Placed) (f : Walk → Walk) (ws : List Path) → AllFollow f ws → AllFollow (λ w. then (f w) (walk_on walker n ps rs)) (choosing.choose_on inner rounds n ps ws)
   follow_on n [] f ws h =
       let on = walk_on walker n [] rs in
       subst (AllFollow (λ w. then (f w) on)) (sym (choices.on_none inner rounds n ws)) (retold f (λ w. then (f w) on) ws (λ w e. then_as (f w) on (λ v. v) (walks.on_none walker n rs (f w)) ∙ then_same (f w)) h)
@@ -101,7 +101,7 @@ module _ (inner : Chooser) (walker : Walker) (same : (b : List Placed) (rs : Lis
       subst (AllFollow (λ w. then (f w) on)) (sym (choices.on_skip inner rounds n p ps ws)) (retold (λ w. then (f w) rest) (λ w. then (f w) on) (choosing.choose_on inner rounds n ps ws) (λ w e. then_as (f w) on rest (walks.on_skip walker n p ps rs (f w))) (follow_on n ps f ws h))
   follow_on zero (p ∷ ps) f ws h =
       let on = walk_on walker 0 (p ∷ ps) rs in let n = owned_by p.statement ps in let rest = walk_on walker n ps rs in
-      let step = courses.one walker p p.statement ps rs in let more = choosing.one inner rounds p.statement ps ws in
+      let step = passing.one walker p p.statement ps rs in let more = choosing.one inner rounds p.statement ps ws in
       let next = follow_on n ps (λ w. then (f w) step) more (follow_one f ws h p p.statement ps) in
       let is = λ (w : Walk) (e : w.ending ≡ ends.Goes). then_as (f w) on (λ v. then (step v) rest) (walks.on_one walker p ps rs (f w)) ∙ sym (then_then (f w) step rest) in
       subst (AllFollow (λ w. then (f w) on)) (sym (choices.on_one inner rounds p ps ws)) (retold (λ w. then (then (f w) step) rest) (λ w. then (f w) on) (choosing.choose_on inner rounds n ps more) is next)
@@ -124,15 +124,15 @@ whole_by v false all = ap (λ t. cond t (Ok v) (Err (TooManyChoices (length v.gi
 pub all_taken : (m n : ℕ) → m ≡ n → nat_le m n ≡ true
 all_taken m n e = grind (arith, nat_tests)
 
-takes_them : (lines : List (List ℕ)) (v : Walk) (way : Way) → Ends (at_rest lines way.choices) v way → IsTooLong v ⊎ Takes way.choices v
-takes_them lines v way (inl long) = inl long
-takes_them lines v way (inr t) =
+takes_them : (lines : List (List ℕ)) (v : Walk) (path : Path) → Ends (at_rest lines path.choices) v path → IsTooLong v ⊎ Takes path.choices v
+takes_them lines v path (inl long) = inl long
+takes_them lines v path (inr t) =
     let all = all_taken (length v.given) (length v.taken) (ap length (t.given ∙ sym t.taken)) in
-    inr (t.taken, ap (unended v) t.ending ∙ whole_by v way.broken all)
+    inr (t.taken, ap (unended v) t.ending ∙ whole_by v path.broken all)
 
 pub given_all : (lines : List (List ℕ)) (cs : List ℕ) → IsGiven (at_rest lines cs) cs
 given_all lines cs = record { going = refl; rest = []; given = sym (append-nil cs) }
 
 pub each_is_whole : (rounds : List ℕ) (d : Diagram) → list_all (λ r. nat_le r ROUND_LIMIT) rounds ≡ true → AllByRecursion (IsWhole d) (all_choices rounds d)
 each_is_whole rounds d few =
-    all_map (Follows (walk (DEPTH_LIMIT + 1) d.statements [])) (IsWhole d) (λ w. w.choices) (λ way h. takes_them d.lines (walked d way.choices) way (h.ends (at_rest d.lines way.choices) (given_all d.lines way.choices))) (choosing.choose (DEPTH_LIMIT + 1) rounds d.statements) (follow_walk rounds few (DEPTH_LIMIT + 1) d.statements [])
+    all_map (Follows (walk (DEPTH_LIMIT + 1) d.statements [])) (IsWhole d) (λ w. w.choices) (λ path h. takes_them d.lines (walked d path.choices) path (h.ends (at_rest d.lines path.choices) (given_all d.lines path.choices))) (choosing.choose (DEPTH_LIMIT + 1) rounds d.statements) (follow_walk rounds few (DEPTH_LIMIT + 1) d.statements [])

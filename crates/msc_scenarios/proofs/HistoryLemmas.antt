@@ -1,34 +1,35 @@
--- The ways of a list are those of some histories.
+-- The paths of a list are those of some histories.
 use Rattle.std.proofs.Common.{◌≡◌, ◌⊎◌, inl, inr, ℕ, Bool, true, false, cond, List, [], ◌∷◌, ◌++◌, map, refl, sym, ap, ◌∙◌, subst, append_assoc}
 use Rattle.std.specs.List.{AllByRecursion}
 use Rattle.std.proofs.lemmas.Bool.{false≢true}
 use Rattle.std.proofs.lemmas.List.{append-nil}
-use Rattle.msc_scenarios.specs.declared.way.Way.{Way}
-use Rattle.msc_scenarios.specs.declared.course.Step.{Step}
+use Rattle.msc_scenarios.specs.declared.path.Path.{Path}
+use Rattle.msc_scenarios.specs.declared.steps.Step.{Step}
 use Rattle.msc_scenarios.specs.Choosing as choosing
 use Rattle.msc_scenarios.specs.Choosing.{behind, chosen, goes_on, healed, straight, with_end}
 use Rattle.msc_scenarios.specs.Histories.{Histories, History, Made, Only, Then, joined, marked, only, under}
 use Rattle.msc_scenarios.proofs.CoverLemmas.{Has, has_left, has_map, has_right, has_same}
-use Rattle.msc_scenarios.proofs.FollowListLemmas.{all_append, all_map, all_same}
+use Rattle.msc_scenarios.proofs.FollowListLemmas.{all_map, all_same}
+use Rattle.msc_place.proofs.Walks.{AllByRecursion-append as all_append}
 
 -- choices and steps
 abbrev with_both : List ℕ → List Step → History
 with_both cs ss = record { choices = cs; steps = ss }
 
--- a way with steps
-abbrev pub with_steps : Way → List Step → History
+-- a path with steps
+abbrev pub with_steps : Path → List Step → History
 with_steps w ss = record { choices = w.choices; steps = ss }
 
--- a way has the choices of a history, and is so ended
-abbrev pub Is : History → Bool → Way → Type 0
+-- a path has the choices of a history, and is so ended
+abbrev pub Is : History → Bool → Path → Type 0
 Is h cut w = (w.choices ≡ h.choices) × (w.broken ≡ cut)
 
--- with some steps a way is a history
-abbrev pub Told : Histories → Way → Type 0
+-- with some steps a path is a history
+abbrev pub Told : Histories → Path → Type 0
 Told P w = (ss : List Step) × P (with_steps w ss) w.broken
 
--- each way is one of the histories, and each of these is a way
-pub record Lists (ws : List Way) (P : Histories) : Type 0 where
+-- each path is one of the histories, and each of these is a path
+pub record Lists (ws : List Path) (P : Histories) : Type 0 where
   pub each : AllByRecursion (Told P) ws
   pub all : (h : History) (cut : Bool) → P h cut → Has (Is h cut) ws
 
@@ -37,7 +38,7 @@ pub record Same (P Q : Histories) : Type 0 where
   pub there : (h : History) (cut : Bool) → P h cut → Q h cut
   pub back : (h : History) (cut : Bool) → Q h cut → P h cut
 
-pub lists_same : (P Q : Histories) (ws : List Way) → Same P Q → Lists ws P → Lists ws Q
+pub lists_same : (P Q : Histories) (ws : List Path) → Same P Q → Lists ws P → Lists ws Q
 lists_same P Q ws s l = record {
   each = all_same (Told P) (Told Q) (λ w t. (t.0, s.there (with_steps w t.0) w.broken t.1)) ws l.each;
   all = λ h cut q. l.all h cut (s.back h cut q);
@@ -50,14 +51,14 @@ lists_only ss = record {
   all = λ h cut p. inl (sym (ap (λ (x : History). x.choices) p.0), sym p.1);
 }
 
--- no ways, and those of two lists
+-- no paths, and those of two lists
 pub lists_none : (P : Histories) → ((h : History) (cut : Bool) → P h cut → ⊥) → Lists [] P
 lists_none P never = record { each = tt; all = λ h cut p. absurd (never h cut p) }
 
 abbrev pub Either : Histories → Histories → Histories
 Either P Q h cut = P h cut ⊎ Q h cut
 
-module _ (P Q : Histories) (ws vs : List Way) (l : Lists ws P) (m : Lists vs Q) where
+module _ (P Q : Histories) (ws vs : List Path) (l : Lists ws P) (m : Lists vs Q) where
   either_all : (h : History) (cut : Bool) → Either P Q h cut → Has (Is h cut) (ws ++ vs)
   either_all h cut (inl p) = has_left (Is h cut) ws vs (l.all h cut p)
   either_all h cut (inr q) = has_right (Is h cut) ws vs (m.all h cut q)
@@ -68,7 +69,7 @@ module _ (P Q : Histories) (ws vs : List Way) (l : Lists ws P) (m : Lists vs Q) 
     all = either_all;
   }
 
-module _ (P : Histories) (ws : List Way) (l : Lists ws P) where
+module _ (P : Histories) (ws : List Path) (l : Lists ws P) where
   -- behind a choice
   pub lists_under : (c : ℕ) (ends : Bool) → Lists (chosen c ends ws) (Made (under c) ends P)
   lists_under c ends = record {
@@ -84,53 +85,53 @@ module _ (P : Histories) (ws : List Way) (l : Lists ws P) where
   }
 
 -- the ones, and then the others
-module _ (P Q : Histories) (vs : List Way) (m : Lists vs Q) where
-  then_by : (w : Way) (b : Bool) → w.broken ≡ b → Told P w → AllByRecursion (Told (Then P Q)) (cond b (w ∷ []) (map (choosing.joined w) vs))
+module _ (P Q : Histories) (vs : List Path) (m : Lists vs Q) where
+  then_by : (w : Path) (b : Bool) → w.broken ≡ b → Told P w → AllByRecursion (Told (Then P Q)) (cond b (w ∷ []) (map (choosing.joined w) vs))
   then_by w true e t = ((t.0, inl (subst (P (with_steps w t.0)) e t.1, e)), tt)
   then_by w false e t =
       all_map (Told Q) (Told (Then P Q)) (choosing.joined w) (λ v s. ((joined (with_steps w t.0) (with_steps v s.0)).steps, inr (with_steps w t.0, with_steps v s.0, refl, subst (P (with_steps w t.0)) e t.1, s.1))) vs m.each
 
-  then_each : (ws : List Way) → AllByRecursion (Told P) ws → AllByRecursion (Told (Then P Q)) (behind ws vs)
+  then_each : (ws : List Path) → AllByRecursion (Told P) ws → AllByRecursion (Told (Then P Q)) (behind ws vs)
   then_each [] k = tt
   then_each (w ∷ ws) k = all_append (Told (Then P Q)) (goes_on vs w) (behind ws vs) (then_by w w.broken refl k.0) (then_each ws k.1)
 
   module _ (h : History) (cut : Bool) where
-    on_left : (w : Way) (ws : List Way) (b : Bool) → w.broken ≡ b → Has (Is h cut) (cond b (w ∷ []) (map (choosing.joined w) vs)) → Has (Is h cut) (behind (w ∷ ws) vs)
+    on_left : (w : Path) (ws : List Path) (b : Bool) → w.broken ≡ b → Has (Is h cut) (cond b (w ∷ []) (map (choosing.joined w) vs)) → Has (Is h cut) (behind (w ∷ ws) vs)
     on_left w ws b e k =
         has_left (Is h cut) (goes_on vs w) (behind ws vs) (subst (λ t. Has (Is h cut) (cond t (w ∷ []) (map (choosing.joined w) vs))) (sym e) k)
 
-    stopped : (ws : List Way) → cut ≡ true → Has (Is h true) ws → Has (Is h cut) (behind ws vs)
+    stopped : (ws : List Path) → cut ≡ true → Has (Is h true) ws → Has (Is h cut) (behind ws vs)
     stopped [] e k = absurd k
     stopped (w ∷ ws) e (inl i) = on_left w ws true i.1 (inl (i.0, i.1 ∙ sym e))
     stopped (w ∷ ws) e (inr k) = has_right (Is h cut) (goes_on vs w) (behind ws vs) (stopped ws e k)
 
     module _ (x y : History) (is : h ≡ joined x y) (q : Q y cut) where
-      both_choices : (w v : Way) → w.choices ≡ x.choices → v.choices ≡ y.choices → w.choices ++ v.choices ≡ h.choices
+      both_choices : (w v : Path) → w.choices ≡ x.choices → v.choices ≡ y.choices → w.choices ++ v.choices ≡ h.choices
       both_choices w v a b =
           ap (λ z. z ++ v.choices) a ∙ ap (λ z. x.choices ++ z) b ∙ sym (ap (λ (z : History). z.choices) is)
 
-      went_on : (ws : List Way) → Has (Is x false) ws → Has (Is h cut) (behind ws vs)
+      went_on : (ws : List Path) → Has (Is x false) ws → Has (Is h cut) (behind ws vs)
       went_on [] k = absurd k
       went_on (w ∷ ws) (inl i) =
           on_left w ws false i.1 (has_map (Is y cut) (Is h cut) (choosing.joined w) (λ v j. (both_choices w v i.0 j.0, j.1)) vs (m.all y cut q))
       went_on (w ∷ ws) (inr k) = has_right (Is h cut) (goes_on vs w) (behind ws vs) (went_on ws k)
 
-    then_all : (ws : List Way) → Lists ws P → Then P Q h cut → Has (Is h cut) (behind ws vs)
+    then_all : (ws : List Path) → Lists ws P → Then P Q h cut → Has (Is h cut) (behind ws vs)
     then_all ws l (inl t) = stopped ws t.1 (l.all h true t.0)
     then_all ws l (inr t) = went_on t.0 t.1 t.2 t.4 ws (l.all t.0 false t.3)
 
-  pub lists_then : (ws : List Way) → Lists ws P → Lists (behind ws vs) (Then P Q)
+  pub lists_then : (ws : List Path) → Lists ws P → Lists (behind ws vs) (Then P Q)
   lists_then ws l = record { each = then_each ws l.each; all = λ h cut t. then_all h cut ws l t }
 
 -- steps and no choice behind
 module _ (P : Histories) (ss : List Step) where
-  stepped_by : (w : Way) (b : Bool) → w.broken ≡ b → Told P w → Told (Then P (Only (only ss))) w
+  stepped_by : (w : Path) (b : Bool) → w.broken ≡ b → Told P w → Told (Then P (Only (only ss))) w
   stepped_by w true e t = (t.0, inl (subst (P (with_steps w t.0)) e t.1, e))
   stepped_by w false e t =
       let is = ap (λ (cs : List ℕ). with_both cs (t.0 ++ ss)) (sym (append-nil w.choices)) in
       (t.0 ++ ss, inr (with_steps w t.0, only ss, is, subst (P (with_steps w t.0)) e t.1, (refl, e)))
 
-  module _ (ws : List Way) (l : Lists ws P) where
+  module _ (ws : List Path) (l : Lists ws P) where
     stepped_all : (h : History) (cut : Bool) → Then P (Only (only ss)) h cut → Has (Is h cut) ws
     stepped_all h cut (inl t) = has_same (Is h true) (Is h cut) (λ w i. (i.0, i.1 ∙ sym t.1)) ws (l.all h true t.0)
     stepped_all h cut (inr t) =

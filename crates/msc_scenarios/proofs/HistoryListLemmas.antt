@@ -1,14 +1,14 @@
--- The ways through statements are the histories of these.
+-- The paths through statements are the histories of these.
 use Rattle.std.proofs.Common.{◌≡◌, ◌⊎◌, inl, inr, ◌<◌, ℕ, zero, suc, ◌+◌, Bool, true, false, cond, List, [], ◌∷◌, ◌++◌, length, drop, map, take, refl, sym, ap, subst, eq-or-lt_of_le, arith}
 use Rattle.std.specs.List.{AllByRecursion, Contains}
 use Rattle.std.proofs.lemmas.Bool.{false≢true}
 use Rattle.std.proofs.lemmas.List.{length-drop}
 use Rattle.msc_mermaid.specs.declared.TheConstants.{DEPTH_LIMIT}
 use Rattle.msc_place.specs.declared.position.Position.{Position}
-use Rattle.msc_scenarios.specs.declared.way.Way.{Way}
-use Rattle.msc_scenarios.specs.declared.course.Form.{Form}
-use Rattle.msc_scenarios.specs.declared.course.Form.TheVariants as forms
-use Rattle.msc_scenarios.specs.declared.course.Step.{Step}
+use Rattle.msc_scenarios.specs.declared.path.Path.{Path}
+use Rattle.msc_scenarios.specs.declared.steps.Passage.{Passage}
+use Rattle.msc_scenarios.specs.declared.steps.Passage.TheVariants as passages
+use Rattle.msc_scenarios.specs.declared.steps.Step.{Step}
 use Rattle.msc_mermaid.specs.declared.row.Kind.{Kind}
 use Rattle.msc_mermaid.specs.declared.statement.Arrow.{Arrow}
 use Rattle.msc_mermaid.specs.declared.statement.Diagram.{Diagram}
@@ -17,7 +17,7 @@ use Rattle.msc_mermaid.specs.declared.statement.Statement.{Statement}
 use Rattle.msc_mermaid.specs.declared.statement.Statement.TheVariants.{Declares, Says, Begins, Closes}
 use Rattle.msc_scenarios.specs.Choosing as choosing
 use Rattle.msc_scenarios.specs.Choosing.{Chooser, all_choices, behind, by_branches, by_fate, by_rounds, by_sides, chosen, healed, repeated, straight}
-use Rattle.msc_scenarios.specs.Courses.{branch_at, branches_in, extent, form_of, is_choice, is_loss, is_there, owned_by, start_of}
+use Rattle.msc_scenarios.specs.Steps.{branch_at, branches_in, extent, passage_of, is_choice, is_loss, is_there, owned_by, start_of}
 use Rattle.msc_scenarios.specs.Histories.{Block, Branch, Formed, Histories, History, IsHistory, Made, One, OneOf, Only, Rounds, Row, Said, Sides, Then, Through, enclosed, marked, met, only, under}
 use Rattle.msc_scenarios.proofs.ChoiceLemmas as choices
 use Rattle.msc_scenarios.proofs.CoverLemmas.{Has, has_map}
@@ -69,8 +69,8 @@ module _ (P Q R : Histories) (s : Same Q R) where
   same_then : Same (Then P Q) (Then P R)
   same_then = record { there = on_there; back = on_back }
 
--- behind ways of P stand those of Q, as nothing follows
-module _ (P Q : Histories) (ws : List Way) where
+-- behind paths of P stand those of Q, as nothing follows
+module _ (P Q : Histories) (ws : List Path) where
   lists_more : Same (Only (only [])) Q → Lists ws P → Lists ws (Then P Q)
   lists_more s l = lists_same (Then P (Only (only []))) (Then P Q) ws (same_then P (Only (only [])) Q s) (lists_stepped P [] ws l)
 
@@ -79,12 +79,12 @@ module _ (P Q : Histories) (ws : List Way) where
     lists_moved l = lists_same (Then P (Then Q R)) (Then P S) ws (same_then P (Then Q R) S s) (lists_same (Then (Then P Q) R) (Then P (Then Q R)) ws (then_assoc P Q R) l)
 
 -- none before
-lists_first : (P : Histories) (ws : List Way) → Lists ws (Then (Only (only [])) P) → Lists ws P
+lists_first : (P : Histories) (ws : List Path) → Lists ws (Then (Only (only [])) P) → Lists ws P
 lists_first P ws l = lists_same (Then (Only (only [])) P) P ws (nothing_then P) l
 
 module _ (chooser : Chooser) (inner : Branch) (alike : (rs : List ℕ) (b : List Placed) → Lists (chooser b) (inner rs b)) (rs : List ℕ) where
   -- rounds of a loop
-  lists_repeated : (body : List Placed) (n k : ℕ) (P : Histories) (ws : List Way) → Lists ws P → Lists (repeated (chooser body) n ws) (Then P (Rounds inner body rs k n))
+  lists_repeated : (body : List Placed) (n k : ℕ) (P : Histories) (ws : List Path) → Lists ws P → Lists (repeated (chooser body) n ws) (Then P (Rounds inner body rs k n))
   lists_repeated body zero k P ws l =
       subst (λ vs. Lists vs (Then P (Rounds inner body rs k 0))) (sym (choices.repeated_none (chooser body) 0 ws refl)) (lists_more P (Rounds inner body rs k 0) ws (round_none inner body rs k) l)
   lists_repeated body (suc n) k P ws l =
@@ -121,15 +121,15 @@ module _ (chooser : Chooser) (inner : Branch) (alike : (rs : List ℕ) (b : List
       (lists_same (Either M (ByRounds body rounds)) (ByRounds body (s ∷ rounds)) (first ++ rest) (rounds_same body s rounds) (lists_either M (ByRounds body rounds) first rest (lists_round body s) (lists_rounds body rounds)))
 
   -- parallel branches
-  lists_sides : (bs : List (List Placed)) (P : Histories) (ws : List Way) → Lists ws P → Lists (by_sides chooser bs ws) (Then P (Sides inner rs bs))
+  lists_sides : (bs : List (List Placed)) (P : Histories) (ws : List Path) → Lists ws P → Lists (by_sides chooser bs ws) (Then P (Sides inner rs bs))
   lists_sides [] P ws l = subst (λ vs. Lists vs (Then P (Sides inner rs []))) (sym (choices.sides_none chooser ws)) (lists_more P (Sides inner rs []) ws (side_none inner rs) l)
   lists_sides (b ∷ bs) P ws l =
       let M = Made marked false (inner rs b) in let vs = healed (chooser b) in let more = behind ws vs in
       let next = lists_sides bs (Then P M) more (lists_then P M vs (lists_marked (inner rs b) (chooser b) (alike rs b)) ws l) in
       subst (λ us. Lists us (Then P (Sides inner rs (b ∷ bs)))) (sym (choices.sides_cons chooser b bs ws)) (lists_moved P M (by_sides chooser bs more) (Sides inner rs bs) (Sides inner rs (b ∷ bs)) (side_one inner rs b bs) next)
 
-  -- one of the branches behind the first ways
-  module _ (all : List (List Placed)) (first : List Way) (F : Histories) (firsts : Lists first F) (more : ℕ) where
+  -- one of the branches behind the first paths
+  module _ (all : List (List Placed)) (first : List Path) (F : Histories) (firsts : Lists first F) (more : ℕ) where
     abbrev By : ℕ → Histories
     By i = Made (under (i + more)) false (Then F (inner rs (branch_at all i)))
 
@@ -167,41 +167,41 @@ module _ (chooser : Chooser) (inner : Branch) (alike : (rs : List ℕ) (b : List
 
   -- blocks
   module _ (rounds : List ℕ) (place : Position) (bs : List (List Placed)) where
-    loop_there : (h : History) (cut : Bool) → ByRounds (branch_at bs 0) rounds h cut → Formed inner rounds place forms.Rounds bs rs h cut
+    loop_there : (h : History) (cut : Bool) → ByRounds (branch_at bs 0) rounds h cut → Formed inner rounds place passages.Rounds bs rs h cut
     unfolding Formed
     loop_there h cut m = (m.0, to_place rounds m.0 m.1, m.2)
 
-    loop_back : (h : History) (cut : Bool) → Formed inner rounds place forms.Rounds bs rs h cut → ByRounds (branch_at bs 0) rounds h cut
+    loop_back : (h : History) (cut : Bool) → Formed inner rounds place passages.Rounds bs rs h cut → ByRounds (branch_at bs 0) rounds h cut
     unfolding Formed
     loop_back h cut m = (m.0, (let k = m.1 in from_place rounds m.0 k.0 k.1 k.2), m.2)
 
-    lists_par : Lists (by_sides chooser bs straight) (Formed inner rounds place forms.Par bs rs)
+    lists_par : Lists (by_sides chooser bs straight) (Formed inner rounds place passages.Par bs rs)
     unfolding Formed
     lists_par =
         let S = Sides inner rs bs in let ws = by_sides chooser bs straight in
         let l = lists_first S ws (lists_sides bs (Only (only [])) straight (lists_only [])) in
         record {
           each = all_same (Told S) (Told (λ h cut. (x : History) × (h ≡ enclosed place x) × S x cut)) (λ w t. ((enclosed place (with_steps w t.0)).steps, (with_steps w t.0, refl, t.1))) ws l.each;
-          all = λ h cut m. subst (λ (cs : List ℕ). Has (λ (w : Way). (w.choices ≡ cs) × (w.broken ≡ cut)) ws) (sym (ap (λ (x : History). x.choices) m.1)) (l.all m.0 cut m.2);
+          all = λ h cut m. subst (λ (cs : List ℕ). Has (λ (w : Path). (w.choices ≡ cs) × (w.broken ≡ cut)) ws) (sym (ap (λ (x : History). x.choices) m.1)) (l.all m.0 cut m.2);
         }
 
-    pub lists_formed : (form : Form) → Lists (choosing.formed chooser rounds form bs) (Formed inner rounds place form bs rs)
+    pub lists_formed : (passage : Passage) → Lists (choosing.formed chooser rounds passage bs) (Formed inner rounds place passage bs rs)
     unfolding choosing.formed Formed
-    lists_formed forms.OneOf = lists_branches bs straight (Only (only [])) (lists_only []) 0 bs 0 refl
-    lists_formed forms.Maybe =
+    lists_formed passages.OneOf = lists_branches bs straight (Only (only [])) (lists_only []) 0 bs 0 refl
+    lists_formed passages.Maybe =
         lists_either (Made (under 0) false (Only (only []))) (OneOf inner bs rs (Only (only [])) 0 1) (chosen 0 false straight) (by_branches chooser straight 1 bs) (lists_under (Only (only [])) straight (lists_only []) 0 false) (lists_branches bs straight (Only (only [])) (lists_only []) 1 bs 0 refl)
-    lists_formed forms.Rounds =
-        lists_same (ByRounds (branch_at bs 0) rounds) (Formed inner rounds place forms.Rounds bs rs) (by_rounds (chooser (branch_at bs 0)) rounds) (record { there = loop_there; back = loop_back }) (lists_rounds (branch_at bs 0) rounds)
-    lists_formed forms.Break =
+    lists_formed passages.Rounds =
+        lists_same (ByRounds (branch_at bs 0) rounds) (Formed inner rounds place passages.Rounds bs rs) (by_rounds (chooser (branch_at bs 0)) rounds) (record { there = loop_there; back = loop_back }) (lists_rounds (branch_at bs 0) rounds)
+    lists_formed passages.Break =
         let b = branch_at bs 0 in
         lists_either (Made (under 0) false (Only (only []))) (Made (under 1) true (inner rs b)) (chosen 0 false straight) (chosen 1 true (chooser b)) (lists_under (Only (only [])) straight (lists_only []) 0 false) (lists_under (inner rs b) (chooser b) (alike rs b) 1 true)
-    lists_formed forms.First =
+    lists_formed passages.First =
         let b = branch_at bs 0 in
         lists_either (Made (under 0) false (inner rs b)) (OneOf inner bs rs (inner rs b) 1 0) (chosen 0 false (chooser b)) (by_branches chooser (chooser b) 1 (drop 1 bs)) (lists_under (inner rs b) (chooser b) (alike rs b) 0 false) (lists_branches bs (chooser b) (inner rs b) (alike rs b) 0 (drop 1 bs) 1 refl)
-    lists_formed forms.Par = lists_par
-    lists_formed forms.Plain = alike rs (branch_at bs 0)
+    lists_formed passages.Par = lists_par
+    lists_formed passages.Plain = alike rs (branch_at bs 0)
 
-  module _ (lines : List (List ℕ)) (rounds : List ℕ) (P : Histories) (ws : List Way) (l : Lists ws P) where
+  module _ (lines : List (List ℕ)) (rounds : List ℕ) (P : Histories) (ws : List Path) (l : Lists ws P) where
     -- a test tells which histories there are
     abbrev Tested : Bool → Histories → List Step → Histories
     Tested t Q ss h cut = ((t ≡ true) × Q h cut) ⊎ ((t ≡ false) × Only (only ss) h cut)
@@ -215,7 +215,7 @@ module _ (chooser : Chooser) (inner : Branch) (alike : (rs : List ℕ) (b : List
       false_back h cut (inl q) = absurd (false≢true q.0)
       false_back h cut (inr q) = q.1
 
-      lists_tested : (t : Bool) (vs : List Way) → Lists vs Q → Lists (cond t (behind ws vs) ws) (Then P (Tested t Q ss))
+      lists_tested : (t : Bool) (vs : List Path) → Lists vs Q → Lists (cond t (behind ws vs) ws) (Then P (Tested t Q ss))
       lists_tested true vs k =
           lists_same (Then P Q) (Then P (Tested true Q ss)) (behind ws vs) (same_then P Q (Tested true Q ss) (record { there = λ h cut q. inl (refl, q); back = true_back })) (lists_then P Q vs k ws l)
       lists_tested false vs k =
@@ -224,8 +224,8 @@ module _ (chooser : Chooser) (inner : Branch) (alike : (rs : List ℕ) (b : List
     lists_block : (place : Position) (kind : Kind) (inside : List Placed) → Lists (choosing.block chooser rounds kind inside ws) (Then P (Block inner rounds place kind inside rs))
     unfolding choosing.block
     lists_block place kind inside =
-        let bs = branches_in 0 inside in let form = form_of kind (length bs) in
-        lists_tested (Formed inner rounds place form bs rs) [] (is_there kind inside) (choosing.formed chooser rounds form bs) (lists_formed rounds place bs form)
+        let bs = branches_in 0 inside in let passage = passage_of kind (length bs) in
+        lists_tested (Formed inner rounds place passage bs rs) [] (is_there kind inside) (choosing.formed chooser rounds passage bs) (lists_formed rounds place bs passage)
 
     lists_said : (p : Placed) (a : Arrow) → Lists (cond (is_choice a) (behind ws by_fate) ws) (Then P (Said lines p a rs))
     lists_said p a =
@@ -239,7 +239,7 @@ module _ (chooser : Chooser) (inner : Branch) (alike : (rs : List ℕ) (b : List
     lists_one p (Declares ident shown) ps = lists_stepped P [] ws l
     lists_one p (Closes closer) ps = lists_stepped P [] ws l
 
-  lists_row : (lines : List (List ℕ)) (rounds : List ℕ) (n : ℕ) (ps : List Placed) (P : Histories) (ws : List Way) → Lists ws P → Lists (choosing.choose_on chooser rounds n ps ws) (Then P (Row lines inner rounds n ps rs))
+  lists_row : (lines : List (List ℕ)) (rounds : List ℕ) (n : ℕ) (ps : List Placed) (P : Histories) (ws : List Path) → Lists ws P → Lists (choosing.choose_on chooser rounds n ps ws) (Then P (Row lines inner rounds n ps rs))
   lists_row lines rounds n [] P ws l =
       let R = Row lines inner rounds n [] rs in
       subst (λ vs. Lists vs (Then P R)) (sym (choices.on_none chooser rounds n ws)) (lists_more P R ws (row_none lines inner rounds rs n) l)
@@ -270,25 +270,25 @@ lists_through lines rounds (suc d) rs ps =
     let rows = lists_row chooser inner (lists_through lines rounds d) rs lines rounds 0 ps (Only (only [])) straight (lists_only []) in
     subst (λ vs. Lists vs (Through lines rounds (suc d) rs ps)) (sym (choices.choose_some (suc d) d rounds ps refl)) (lists_same R (Through lines rounds (suc d) rs ps) ws (through_some lines rounds d rs ps) (lists_first R ws rows))
 
--- the choices of a way are those of a history
-found_in : (P : Histories) (given : List ℕ) (ws : List Way) → AllByRecursion (Told P) ws → Has (λ cs. cs ≡ given) (map (λ w. w.choices) ws) → (ss : List Step) × (cut : Bool) × P (record { choices = given; steps = ss }) cut
+-- the choices of a path are those of a history
+found_in : (P : Histories) (given : List ℕ) (ws : List Path) → AllByRecursion (Told P) ws → Has (λ cs. cs ≡ given) (map (λ w. w.choices) ws) → (ss : List Step) × (cut : Bool) × P (record { choices = given; steps = ss }) cut
 found_in P given [] all h = absurd h
 found_in P given (w ∷ ws) all (inl e) = (all.0.0, w.broken, subst (λ cs. P (record { choices = cs; steps = all.0.0 }) w.broken) e all.0.1)
 found_in P given (w ∷ ws) all (inr h) = found_in P given ws all.1 h
 
 module _ (rounds : List ℕ) (d : Diagram) (given : List ℕ) where
-  abbrev ways : List Way
-  ways = choosing.choose (DEPTH_LIMIT + 1) rounds d.statements
+  abbrev paths : List Path
+  paths = choosing.choose (DEPTH_LIMIT + 1) rounds d.statements
 
-  abbrev are : Lists ways (Through d.lines rounds (DEPTH_LIMIT + 1) [] d.statements)
+  abbrev are : Lists paths (Through d.lines rounds (DEPTH_LIMIT + 1) [] d.statements)
   are = lists_through d.lines rounds (DEPTH_LIMIT + 1) [] d.statements
 
   pub listed_history : Contains (all_choices rounds d) given → (ss : List Step) × IsHistory rounds d (record { choices = given; steps = ss })
   listed_history k =
-      let h = found_in (Through d.lines rounds (DEPTH_LIMIT + 1) [] d.statements) given ways are.each (from_place (all_choices rounds d) given k.0 k.1 k.2) in
+      let h = found_in (Through d.lines rounds (DEPTH_LIMIT + 1) [] d.statements) given paths are.each (from_place (all_choices rounds d) given k.0 k.1 k.2) in
       (h.0, (h.1, h.2))
 
   pub history_listed : (ss : List Step) → IsHistory rounds d (record { choices = given; steps = ss }) → Contains (all_choices rounds d) given
   history_listed ss h =
       let x : History = record { choices = given; steps = ss } in
-      to_place (all_choices rounds d) given (has_map (Is x h.0) (λ cs. cs ≡ given) (λ (w : Way). w.choices) (λ w i. i.0) ways (are.all x h.0 h.1))
+      to_place (all_choices rounds d) given (has_map (Is x h.0) (λ cs. cs ≡ given) (λ (w : Path). w.choices) (λ w i. i.0) paths (are.all x h.0 h.1))

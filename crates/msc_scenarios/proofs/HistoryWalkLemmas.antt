@@ -6,12 +6,12 @@ use Rattle.std.proofs.lemmas.List.{append-nil}
 use Rattle.msc_mermaid.specs.declared.TheConstants.{DEPTH_LIMIT}
 use Rattle.msc_place.specs.declared.position.Position.{Position}
 use Rattle.msc_scenarios.specs.declared.TheConstants.{ARROW_LIMIT, ROUND_LIMIT}
-use Rattle.msc_scenarios.specs.declared.way.Way.{Way}
-use Rattle.msc_scenarios.specs.declared.course.Ending.TheVariants as ends
-use Rattle.msc_scenarios.specs.declared.course.Form.{Form}
-use Rattle.msc_scenarios.specs.declared.course.Form.TheVariants as forms
-use Rattle.msc_scenarios.specs.declared.course.Step.{Step}
-use Rattle.msc_scenarios.specs.declared.course.Step.TheVariants as steps
+use Rattle.msc_scenarios.specs.declared.path.Path.{Path}
+use Rattle.msc_scenarios.specs.declared.steps.Ending.TheVariants as ends
+use Rattle.msc_scenarios.specs.declared.steps.Passage.{Passage}
+use Rattle.msc_scenarios.specs.declared.steps.Passage.TheVariants as passages
+use Rattle.msc_scenarios.specs.declared.steps.Step.{Step}
+use Rattle.msc_scenarios.specs.declared.steps.Step.TheVariants as steps
 use Rattle.msc_mermaid.specs.declared.fault.ImportFault.TheVariants.{TooManyArrows}
 use Rattle.msc_mermaid.specs.declared.row.Kind.{Kind}
 use Rattle.msc_mermaid.specs.declared.statement.Arrow.{Arrow}
@@ -19,8 +19,8 @@ use Rattle.msc_mermaid.specs.declared.statement.Diagram.{Diagram}
 use Rattle.msc_mermaid.specs.declared.statement.Placed.{Placed}
 use Rattle.msc_mermaid.specs.declared.statement.Statement.{Statement}
 use Rattle.msc_mermaid.specs.declared.statement.Statement.TheVariants.{Declares, Says, Begins, Closes}
-use Rattle.msc_scenarios.specs.Courses as courses
-use Rattle.msc_scenarios.specs.Courses.{Walk, Walker, at_rest, branch_at, branches_in, broken, choice_of, choose, cut_off, ended, extent, follow, form_of, heads, is_choice, is_loss, is_there, main_of, meet, message_of, most_of, owned_by, put, rounds_from, said, side_by_side, start_of, then, unbroken, unended, walk, walk_on, with_choice}
+use Rattle.msc_scenarios.specs.Steps as passing
+use Rattle.msc_scenarios.specs.Steps.{Walk, Walker, at_rest, branch_at, branches_in, broken, choice_of, choose, cut_off, ended, extent, follow, passage_of, heads, is_choice, is_loss, is_there, main_of, meet, message_of, most_of, owned_by, put, rounds_from, said, side_by_side, start_of, then, unbroken, unended, walk, walk_on, with_choice}
 use Rattle.msc_scenarios.specs.Histories.{Block, Branch, Formed, Histories, History, IsHistory, Made, One, OneOf, Only, Rounds, Row, Said, Sides, Then, Through, enclosed, joined, marked, met, only, under}
 use Rattle.msc_scenarios.specs.Laws.{IsTooLong, Takes, walked}
 use Rattle.msc_scenarios.proofs.CoverWalkLemmas.{meet_unbroken, no_draft, none_missing}
@@ -99,8 +99,8 @@ module _ (lines : List (List ℕ)) where
 
   -- a break ends nothing further out, or what it stands in
   heal_end : (w v : Walk) (x : History) (broke : Bool) → Ends w v x broke → Ends w (unbroken v) x false
-  heal_end w v x broke (inl long) = inl (long.0, ap courses.healed long.1)
-  heal_end w v x broke (inr t) = inr (record { given = t.given; lines = t.lines; taken = t.taken; steps = t.steps; ending = ap courses.healed t.ending ∙ healed_of broke })
+  heal_end w v x broke (inl long) = inl (long.0, ap passing.healed long.1)
+  heal_end w v x broke (inr t) = inr (record { given = t.given; lines = t.lines; taken = t.taken; steps = t.steps; ending = ap passing.healed t.ending ∙ healed_of broke })
 
   cut_end : (w v : Walk) (x : History) (broke : Bool) → Ends w v x broke → Ends w (broken v) x true
   cut_end w v x broke (inl long) = inl (long.0, ap cut_off long.1)
@@ -115,9 +115,9 @@ module _ (lines : List (List ℕ)) where
     module _ (c : ℕ) (small : nat_le c most ≡ true) (f : Walk → Walk) (P : Histories) (F : Does f P) (is : (w : Walk) → w.ending ≡ ends.Goes → after_it c w ≡ closed (f w)) where
       chosen_end : (w : Walk) (x : History) (broke : Bool) → P x broke → IsGiven w (c ∷ x.choices) → w.lines ≡ lines → Ends w (taking place most main after_it w) (under c x) so
       chosen_end w x broke p i l =
-          let way : Way = record { choices = x.choices; broken = broke } in let u = with_choice c w in
-          let same = block_is place most main after_it c small way w i ∙ is u i.going in
-          let here = F.ends u x broke p (after place most main after_it c small way w i) l in
+          let path : Path = record { choices = x.choices; broken = broke } in let u = with_choice c w in
+          let same = block_is place most main after_it c small path w i ∙ is u i.going in
+          let here = F.ends u x broke p (after place most main after_it c small path w i) l in
           subst (λ v. Ends w v (under c x) so) (sym same) (under_end c w (closed (f u)) x (close u (f u) x broke here))
 
       does_chosen : Does (taking place most main after_it) (Made (under c) so P)
@@ -248,57 +248,57 @@ module _ (lines : List (List ℕ)) where
         does_cut : (c : ℕ) → nat_le c most ≡ true → ((w : Walk) → w.ending ≡ ends.Goes → after_it c w ≡ broken (f w)) → Does (taking place most main after_it) (Made (under c) true P)
         does_cut c small is = does_chosen place most main after_it broken true cut_end c small f P F is
 
-      abbrev takes : Form → Walk → Walk
-      takes form = taking place (most_of form (length bs)) (main_of form) (follow walker form bs rs)
+      abbrev takes : Passage → Walk → Walk
+      takes passage = taking place (most_of passage (length bs)) (main_of passage) (follow walker passage bs rs)
 
       module _ (rounds : List ℕ) (few : (r : ℕ) → Contains rounds r → r ≤ ROUND_LIMIT) where
-        does_loop : Does (takes forms.Rounds) (λ h cut. (r : ℕ) × Contains rounds r × Made (under r) false (Rounds inner (branch_at bs 0) rs 0 r) h cut)
+        does_loop : Does (takes passages.Rounds) (λ h cut. (r : ℕ) × Contains rounds r × Made (under r) false (Rounds inner (branch_at bs 0) rs 0 r) h cut)
         does_loop = record {
           ends = λ w h cut m i l.
               let r = m.0 in let body = branch_at bs 0 in
-              (does_healed ROUND_LIMIT 1 (follow walker forms.Rounds bs rs) (λ v. then v (rounds_from walker body rs 0 r)) (Rounds inner body rs 0 r)
+              (does_healed ROUND_LIMIT 1 (follow walker passages.Rounds bs rs) (λ v. then v (rounds_from walker body rs 0 r)) (Rounds inner body rs 0 r)
               (does_when (rounds_from walker body rs 0 r) (λ v. then v (rounds_from walker body rs 0 r)) (Rounds inner body rs 0 r) (λ v e. then_going v (rounds_from walker body rs 0 r) e) (does_rounds body r 0))
               r (le-leb r ROUND_LIMIT (few r m.1)) (λ v e. rounds_are walker bs rs v e r)).ends w h cut m.2 i l;
         }
 
-        does_formed : (form : Form) → Does (courses.formed walker place form bs rs) (Formed inner rounds place form bs rs)
-        unfolding courses.formed Formed
-        does_formed forms.OneOf =
-            does_one_of (length bs - 1) 0 (follow walker forms.OneOf bs rs) (λ w. w) (Only (only [])) does_nothing 0 0 (small_less (length bs)) (λ i from w e. one_of_is walker bs rs w e i)
-        does_formed forms.Maybe =
-            let h = follow walker forms.Maybe bs rs in
-            does_either (takes forms.Maybe) (Made (under 0) false (Only (only []))) (OneOf inner bs rs (Only (only [])) 0 1)
+        does_formed : (passage : Passage) → Does (passing.formed walker place passage bs rs) (Formed inner rounds place passage bs rs)
+        unfolding passing.formed Formed
+        does_formed passages.OneOf =
+            does_one_of (length bs - 1) 0 (follow walker passages.OneOf bs rs) (λ w. w) (Only (only [])) does_nothing 0 0 (small_less (length bs)) (λ i from w e. one_of_is walker bs rs w e i)
+        does_formed passages.Maybe =
+            let h = follow walker passages.Maybe bs rs in
+            does_either (takes passages.Maybe) (Made (under 0) false (Only (only []))) (OneOf inner bs rs (Only (only [])) 0 1)
             (does_healed (length bs) 1 h (λ w. w) (Only (only [])) does_nothing 0 (least (length bs)) (λ w e. maybe_not walker bs rs w e))
             (does_one_of (length bs) 1 h (λ w. w) (Only (only [])) does_nothing 0 1 (small_next (length bs)) (λ i from w e. maybe_is walker bs rs w e i))
-        does_formed forms.Rounds = does_loop
-        does_formed forms.Break =
-            let h = follow walker forms.Break bs rs in let b = branch_at bs 0 in
-            does_either (takes forms.Break) (Made (under 0) false (Only (only []))) (Made (under 1) true (inner rs b))
+        does_formed passages.Rounds = does_loop
+        does_formed passages.Break =
+            let h = follow walker passages.Break bs rs in let b = branch_at bs 0 in
+            does_either (takes passages.Break) (Made (under 0) false (Only (only []))) (Made (under 1) true (inner rs b))
             (does_healed 1 0 h (λ w. w) (Only (only [])) does_nothing 0 refl (λ w e. break_not walker bs rs w e))
             (does_cut 1 0 h (walker b rs) (inner rs b) (alike rs b) 1 refl (λ w e. break_is walker bs rs w))
-        does_formed forms.First =
-            let h = follow walker forms.First bs rs in let b = branch_at bs 0 in
-            does_either (takes forms.First) (Made (under 0) false (inner rs b)) (OneOf inner bs rs (inner rs b) 1 0)
+        does_formed passages.First =
+            let h = follow walker passages.First bs rs in let b = branch_at bs 0 in
+            does_either (takes passages.First) (Made (under 0) false (inner rs b)) (OneOf inner bs rs (inner rs b) 1 0)
             (does_healed (length bs - 1) 0 h (walker b rs) (inner rs b) (alike rs b) 0 (least (length bs - 1)) (λ w e. first_not walker bs rs w))
             (does_one_of (length bs - 1) 0 h (walker b rs) (inner rs b) (alike rs b) 1 0 (small_less (length bs)) (λ i from w e. first_is walker bs rs w i from))
-        does_formed forms.Par = record {
+        does_formed passages.Par = record {
           ends = λ w h cut m i l.
               subst (λ z. Ends w (then (side_by_side walker bs rs (put (steps.Opens place) w)) (put steps.Closes)) z cut) (sym m.1)
               (par_end w m.0 cut m.2 (subst (λ (z : History). IsGiven w z.choices) m.1 i) l);
         }
-        does_formed forms.Plain = alike rs (branch_at bs 0)
+        does_formed passages.Plain = alike rs (branch_at bs 0)
 
     module _ (rounds : List ℕ) (few : (r : ℕ) → Contains rounds r → r ≤ ROUND_LIMIT) where
-      block_end : (place : Position) (kind : Kind) (inside : List Placed) (w : Walk) (h : History) (cut : Bool) → Block inner rounds place kind inside rs h cut → IsGiven w h.choices → w.lines ≡ lines → Ends w (courses.block walker place kind inside rs w) h cut
-      unfolding courses.block
+      block_end : (place : Position) (kind : Kind) (inside : List Placed) (w : Walk) (h : History) (cut : Bool) → Block inner rounds place kind inside rs h cut → IsGiven w h.choices → w.lines ≡ lines → Ends w (passing.block walker place kind inside rs w) h cut
+      unfolding passing.block
       block_end place kind inside w h cut (inl q) i l =
-          let bs = branches_in 0 inside in let form = form_of kind (length bs) in
-          subst (λ t. Ends w (cond t (courses.formed walker place form bs rs w) w) h cut) (sym q.0) ((does_formed place bs rounds few form).ends w h cut q.1 i l)
+          let bs = branches_in 0 inside in let passage = passage_of kind (length bs) in
+          subst (λ t. Ends w (cond t (passing.formed walker place passage bs rs w) w) h cut) (sym q.0) ((does_formed place bs rounds few passage).ends w h cut q.1 i l)
       block_end place kind inside w h cut (inr q) i l =
-          let bs = branches_in 0 inside in let form = form_of kind (length bs) in
-          subst (λ t. Ends w (cond t (courses.formed walker place form bs rs w) w) h cut) (sym q.0) (does_nothing.ends w h cut q.1 i l)
+          let bs = branches_in 0 inside in let passage = passage_of kind (length bs) in
+          subst (λ t. Ends w (cond t (passing.formed walker place passage bs rs w) w) h cut) (sym q.0) (does_nothing.ends w h cut q.1 i l)
 
-      does_one : (p : Placed) (s : Statement) (ps : List Placed) → Does (courses.one walker p s ps rs) (One lines inner rounds p s ps rs)
+      does_one : (p : Placed) (s : Statement) (ps : List Placed) → Does (passing.one walker p s ps rs) (One lines inner rounds p s ps rs)
       does_one p (Begins kind) ps = record { ends = block_end (start_of p) kind (take (extent 0 ps) ps) }
       does_one p (Says arrow) ps = record { ends = said_end p arrow rs }
       does_one p (Declares ident shown) ps = does_nothing
@@ -311,7 +311,7 @@ module _ (lines : List (List ℕ)) where
           does_when (walk_on walker n ps rs) (walk_on walker (suc n) (p ∷ ps) rs) (Row lines inner rounds (suc n) (p ∷ ps) rs) (λ w e. walks.on_skip walker n p ps rs w)
           (does_same (walk_on walker n ps rs) (Row lines inner rounds n ps rs) (Row lines inner rounds (suc n) (p ∷ ps) rs) (row_skip lines inner rounds rs n p ps) (does_row n ps))
       does_row zero (p ∷ ps) =
-          let n = owned_by p.statement ps in let one = courses.one walker p p.statement ps rs in let rest = walk_on walker n ps rs in
+          let n = owned_by p.statement ps in let one = passing.one walker p p.statement ps rs in let rest = walk_on walker n ps rs in
           let O = One lines inner rounds p p.statement ps rs in let R = Row lines inner rounds n ps rs in
           does_when (λ w. then (one w) rest) (walk_on walker 0 (p ∷ ps) rs) (Row lines inner rounds 0 (p ∷ ps) rs) (λ w e. walks.on_one walker p ps rs w)
           (does_same (λ w. then (one w) rest) (Then O R) (Row lines inner rounds 0 (p ∷ ps) rs) (row_one lines inner rounds rs p ps) (does_then one rest O R (does_one p p.statement ps) (does_row n ps)))

@@ -1,5 +1,5 @@
 pub mod NamingLemmas
-pub mod CourseLemmas
+pub mod StepLemmas
 pub mod WalkLemmas
 pub mod CountLemmas
 pub mod ChoiceLemmas
@@ -20,4 +20,4 @@ pub mod HistoryLemmas
 pub mod HistoryListLemmas
 pub mod HistoryWalkLemmas
 pub mod OutsideLemmas
-pub mod WayLemmas
+pub mod PathLemmas

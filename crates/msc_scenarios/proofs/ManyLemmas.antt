@@ -2,14 +2,14 @@
 use Rattle.std.proofs.Common.{◌≡◌, ℕ, zero, suc, ◌+◌, ◌*◌, true, false, cond, List, [], ◌∷◌, ◌++◌, length, take, drop, map, refl, sym, ap, ◌∙◌, arith}
 use Rattle.std.proofs.lemmas.List.{length-append, length-map}
 use Rattle.std.proofs.Math.Nat.{mul-zero}
-use Rattle.msc_scenarios.specs.declared.way.Way.{Way}
-use Rattle.msc_scenarios.specs.declared.course.Form.{Form}
-use Rattle.msc_scenarios.specs.declared.course.Form.TheVariants as forms
+use Rattle.msc_scenarios.specs.declared.path.Path.{Path}
+use Rattle.msc_scenarios.specs.declared.steps.Passage.{Passage}
+use Rattle.msc_scenarios.specs.declared.steps.Passage.TheVariants as passages
 use Rattle.msc_mermaid.specs.declared.row.Kind.{Kind}
 use Rattle.msc_mermaid.specs.declared.statement.Placed.{Placed}
 use Rattle.msc_mermaid.specs.declared.statement.Statement.{Statement}
 use Rattle.msc_mermaid.specs.declared.statement.Statement.TheVariants.{Declares, Says, Begins, Closes}
-use Rattle.msc_scenarios.specs.Courses.{branch_at, branches_in, extent, form_of, is_choice, is_there, owned_by}
+use Rattle.msc_scenarios.specs.Steps.{branch_at, branches_in, extent, passage_of, is_choice, is_there, owned_by}
 use Rattle.msc_scenarios.specs.Counting as counting
 use Rattle.msc_scenarios.specs.Counting.{Counter, all, capped, plus, times, unbroken}
 use Rattle.msc_scenarios.specs.Choosing as choosing
@@ -23,7 +23,7 @@ alike : (m n : ℕ) → m ≡ n → capped m ≡ capped n
 alike m n e = ap capped e
 
 -- rounds of a loop
-pub tally_repeated : (body : List Way) (n : ℕ) (ws : List Way) → tally (choosing.repeated body n ws) ≡ counting.repeated (tally body) n (tally ws)
+pub tally_repeated : (body : List Path) (n : ℕ) (ws : List Path) → tally (choosing.repeated body n ws) ≡ counting.repeated (tally body) n (tally ws)
 tally_repeated body zero ws = ap tally (choices.repeated_none body 0 ws refl) ∙ sym (counts.repeated_none (tally body) 0 (tally ws) refl)
 tally_repeated body (suc n) ws =
     ap tally (choices.repeated_more body (suc n) n ws refl)
@@ -31,8 +31,8 @@ tally_repeated body (suc n) ws =
     ∙ ap (counting.repeated (tally body) n) (tally_behind ws body)
     ∙ sym (counts.repeated_more (tally body) (suc n) n (tally ws) refl)
 
--- some ways behind others: so many before them, and these
-module _ (m c : ℕ) (ws vs : List Way) where
+-- some paths behind others: so many before them, and these
+module _ (m c : ℕ) (ws vs : List Path) where
   put_more : plus (capped m) (capped (length ws)) ≡ capped (m + length ws)
   put_more = plus_capped m (length ws)
 
@@ -42,7 +42,7 @@ module _ (m c : ℕ) (ws vs : List Way) where
   whole_put : broke vs ≡ 0 → broke (chosen c false ws ++ vs) ≡ 0
   whole_put none = omega (arith, broke_append (chosen c false ws) vs, chosen_whole c ws, none)
 
-module _ (body : List Way) where
+module _ (body : List Path) where
   round_all : (r : ℕ) → all (counting.repeated (tally body) r (unbroken 1)) ≡ capped (length (choosing.repeated body r straight))
   round_all r = ap all (sym (tally_repeated body r straight)) ∙ all_tally (choosing.repeated body r straight)
 
@@ -60,12 +60,12 @@ module _ (body : List Way) where
   whole_rounds [] = ap broke (choices.rounds_none body)
   whole_rounds (r ∷ rs) = ap broke (choices.rounds_cons body r rs) ∙ whole_put 0 r (choosing.repeated body r straight) (choosing.by_rounds body rs) (whole_rounds rs)
 
--- the ways through branches are counted so
+-- the paths through branches are counted so
 module _ (inner : Chooser) (counter : Counter) (same : (b : List Placed) → tally (inner b) ≡ counter b) where
-  branch_all : (first : List Way) (b : List Placed) → all (counting.behind (tally first) (counter b)) ≡ capped (length (behind first (inner b)))
+  branch_all : (first : List Path) (b : List Placed) → all (counting.behind (tally first) (counter b)) ≡ capped (length (behind first (inner b)))
   branch_all first b = ap (λ w. all (counting.behind (tally first) w)) (sym (same b)) ∙ ap all (sym (tally_behind first (inner b))) ∙ all_tally (behind first (inner b))
 
-  module _ (first : List Way) where
+  module _ (first : List Path) where
     tally_branches : (c : ℕ) (bs : List (List Placed)) (m : ℕ) → counting.by_branches counter (tally first) bs (capped m) ≡ capped (m + length (choosing.by_branches inner first c bs))
     tally_branches c [] m = counts.branches_none counter (tally first) (capped m) ∙ alike m (m + length (choosing.by_branches inner first c [])) (omega (arith, ap length (choices.branches_none inner first c)))
     tally_branches c (b ∷ bs) m =
@@ -83,13 +83,13 @@ module _ (inner : Chooser) (counter : Counter) (same : (b : List Placed) → tal
 
     tally_options : (bs : List (List Placed)) → tally (choosing.by_options inner first bs) ≡ unbroken (counting.by_branches counter (tally first) bs (all (tally first)))
     tally_options bs =
-        let rest = choosing.by_branches inner first 1 bs in let ways = choosing.by_options inner first bs in
-        let parts : length ways ≡ length first + length rest = omega (arith, length_put 0 0 first rest) in
-        tally_whole ways (whole_put 0 0 first rest (whole_branches 1 bs))
+        let rest = choosing.by_branches inner first 1 bs in let paths = choosing.by_options inner first bs in
+        let parts : length paths ≡ length first + length rest = omega (arith, length_put 0 0 first rest) in
+        tally_whole paths (whole_put 0 0 first rest (whole_branches 1 bs))
         ∙ ap unbroken (ap capped parts ∙ sym (tally_branches 1 bs (length first)) ∙ ap (counting.by_branches counter (tally first) bs) (sym (all_tally first)))
 
   -- parallel branches
-  length_side : (ws vs : List Way) → broke ws ≡ 0 → length (behind ws (healed vs)) ≡ length ws * length vs
+  length_side : (ws vs : List Path) → broke ws ≡ 0 → length (behind ws (healed vs)) ≡ length ws * length vs
   length_side ws vs none =
       let all_through : through ws ≡ length ws = omega (arith, length_is ws, none) in
       let all_healed : through (healed vs) ≡ length vs = omega (arith, length_is (healed vs), healed_whole vs, length_healed vs) in
@@ -97,10 +97,10 @@ module _ (inner : Chooser) (counter : Counter) (same : (b : List Placed) → tal
       let product : through ws * through (healed vs) ≡ length ws * length vs = ap (λ n. n * through (healed vs)) all_through ∙ ap (λ n. length ws * n) all_healed in
       omega (arith, length_is (behind ws (healed vs)), through_behind ws (healed vs), broke_behind ws (healed vs), none, on, product)
 
-  whole_side : (ws vs : List Way) → broke ws ≡ 0 → broke (behind ws (healed vs)) ≡ 0
+  whole_side : (ws vs : List Path) → broke ws ≡ 0 → broke (behind ws (healed vs)) ≡ 0
   whole_side ws vs none = broke_behind ws (healed vs) ∙ ap (λ n. n + through ws * broke (healed vs)) none ∙ ap (λ n. 0 + through ws * n) (healed_whole vs) ∙ omega (arith, mul-zero (through ws))
 
-  tally_sides : (bs : List (List Placed)) (ws : List Way) → broke ws ≡ 0 → tally (choosing.by_sides inner bs ws) ≡ unbroken (counting.by_sides counter bs (capped (length ws)))
+  tally_sides : (bs : List (List Placed)) (ws : List Path) → broke ws ≡ 0 → tally (choosing.by_sides inner bs ws) ≡ unbroken (counting.by_sides counter bs (capped (length ws)))
   tally_sides [] ws none = ap tally (choices.sides_none inner ws) ∙ tally_whole ws none ∙ ap unbroken (sym (counts.sides_none counter (capped (length ws))))
   tally_sides (b ∷ bs) ws none =
       let vs = inner b in
@@ -110,46 +110,46 @@ module _ (inner : Chooser) (counter : Counter) (same : (b : List Placed) → tal
       ∙ ap unbroken (ap (counting.by_sides counter bs) (sym more) ∙ sym (counts.sides_cons counter b bs (capped (length ws))))
 
   module _ (rounds : List ℕ) where
-    tally_formed : (form : Form) (bs : List (List Placed)) → tally (choosing.formed inner rounds form bs) ≡ counting.formed counter rounds form bs
+    tally_formed : (passage : Passage) (bs : List (List Placed)) → tally (choosing.formed inner rounds passage bs) ≡ counting.formed counter rounds passage bs
     unfolding choosing.formed counting.formed
-    tally_formed forms.OneOf bs =
-        let ways = choosing.by_branches inner straight 0 bs in
-        tally_whole ways (whole_branches straight 0 bs)
-        ∙ ap unbroken (alike (length ways) (0 + length ways) (omega arith) ∙ sym (tally_branches straight 0 bs 0))
-    tally_formed forms.Maybe bs = tally_options straight bs
-    tally_formed forms.Rounds bs =
-        let body = inner (branch_at bs 0) in let ways = choosing.by_rounds body rounds in
-        tally_whole ways (whole_rounds body rounds)
-        ∙ ap unbroken (alike (length ways) (0 + length ways) (omega arith) ∙ sym (tally_rounds body rounds 0) ∙ ap (λ w. counting.by_rounds w rounds 0) (same (branch_at bs 0)))
-    tally_formed forms.Break bs =
+    tally_formed passages.OneOf bs =
+        let paths = choosing.by_branches inner straight 0 bs in
+        tally_whole paths (whole_branches straight 0 bs)
+        ∙ ap unbroken (alike (length paths) (0 + length paths) (omega arith) ∙ sym (tally_branches straight 0 bs 0))
+    tally_formed passages.Maybe bs = tally_options straight bs
+    tally_formed passages.Rounds bs =
+        let body = inner (branch_at bs 0) in let paths = choosing.by_rounds body rounds in
+        tally_whole paths (whole_rounds body rounds)
+        ∙ ap unbroken (alike (length paths) (0 + length paths) (omega arith) ∙ sym (tally_rounds body rounds 0) ∙ ap (λ w. counting.by_rounds w rounds 0) (same (branch_at bs 0)))
+    tally_formed passages.Break bs =
         let ws = inner (branch_at bs 0) in
         let to_the_end : through (chosen 0 false straight ++ chosen 1 true ws) ≡ 1 = omega (arith, through_append (chosen 0 false straight) (chosen 1 true ws), chosen_ended 1 ws) in
         let to_a_break : broke (chosen 0 false straight ++ chosen 1 true ws) ≡ length ws = omega (arith, broke_append (chosen 0 false straight) (chosen 1 true ws), length_is (chosen 1 true ws), chosen_ended 1 ws, length_chosen 1 true ws) in
         pair (ap capped to_the_end) (ap capped to_a_break ∙ sym (all_tally ws) ∙ ap all (same (branch_at bs 0)))
-    tally_formed forms.First bs =
+    tally_formed passages.First bs =
         tally_options (inner (branch_at bs 0)) (drop 1 bs)
         ∙ ap (λ w. unbroken (counting.by_branches counter w (drop 1 bs) (all w))) (same (branch_at bs 0))
-    tally_formed forms.Par bs = tally_sides bs straight refl
-    tally_formed forms.Plain bs = same (branch_at bs 0)
+    tally_formed passages.Par bs = tally_sides bs straight refl
+    tally_formed passages.Plain bs = same (branch_at bs 0)
 
-    -- a statement that is no block adds no way
-    on_straight : (ws : List Way) → tally ws ≡ counting.behind (tally ws) (unbroken 1)
+    -- a statement that is no block adds no path
+    on_straight : (ws : List Path) → tally ws ≡ counting.behind (tally ws) (unbroken 1)
     on_straight ws =
         let t = through ws in let b = broke ws in
         pair (alike t (t * 1) (omega arith) ∙ sym (times_capped t 1)) (alike b (b + t * 0) (omega arith) ∙ sym (plus_capped b (t * 0)) ∙ ap (plus (capped b)) (sym (times_capped t 0)))
 
-    tally_block : (kind : Kind) (inside : List Placed) (ws : List Way) → tally (choosing.block inner rounds kind inside ws) ≡ counting.behind (tally ws) (counting.block counter rounds kind inside)
+    tally_block : (kind : Kind) (inside : List Placed) (ws : List Path) → tally (choosing.block inner rounds kind inside ws) ≡ counting.behind (tally ws) (counting.block counter rounds kind inside)
     unfolding choosing.block counting.block
     tally_block kind inside ws =
-        let form = form_of kind (length (branches_in 0 inside)) in
-        let found = choosing.formed inner rounds form (branches_in 0 inside) in
-        let number = counting.formed counter rounds form (branches_in 0 inside) in
+        let passage = passage_of kind (length (branches_in 0 inside)) in
+        let found = choosing.formed inner rounds passage (branches_in 0 inside) in
+        let number = counting.formed counter rounds passage (branches_in 0 inside) in
         elim (is_there kind inside) as (λ t. tally (cond t (behind ws found) ws) ≡ counting.behind (tally ws) (cond t number (unbroken 1))) [
-          | true ↦ tally_behind ws found ∙ ap (counting.behind (tally ws)) (tally_formed form (branches_in 0 inside))
+          | true ↦ tally_behind ws found ∙ ap (counting.behind (tally ws)) (tally_formed passage (branches_in 0 inside))
           | false ↦ on_straight ws
         ]
 
-    tally_one : (s : Statement) (ps : List Placed) (ws : List Way) → tally (choosing.one inner rounds s ps ws) ≡ counting.behind (tally ws) (counting.one counter rounds s ps)
+    tally_one : (s : Statement) (ps : List Placed) (ws : List Path) → tally (choosing.one inner rounds s ps ws) ≡ counting.behind (tally ws) (counting.one counter rounds s ps)
     tally_one (Begins kind) ps ws = tally_block kind (take (extent 0 ps) ps) ws
     tally_one (Declares ident shown) ps ws = on_straight ws
     tally_one (Says arrow) ps ws =
@@ -159,7 +159,7 @@ module _ (inner : Chooser) (counter : Counter) (same : (b : List Placed) → tal
         ]
     tally_one (Closes closer) ps ws = on_straight ws
 
-    tally_on : (n : ℕ) (ps : List Placed) (ws : List Way) → tally (choosing.choose_on inner rounds n ps ws) ≡ counting.count_on counter rounds n ps (tally ws)
+    tally_on : (n : ℕ) (ps : List Placed) (ws : List Path) → tally (choosing.choose_on inner rounds n ps ws) ≡ counting.count_on counter rounds n ps (tally ws)
     tally_on n [] ws = ap tally (choices.on_none inner rounds n ws) ∙ sym (counts.on_none counter rounds n (tally ws))
     tally_on (suc n) (p ∷ ps) ws = ap tally (choices.on_skip inner rounds n p ps ws) ∙ tally_on n ps ws ∙ sym (counts.on_skip counter rounds n p ps (tally ws))
     tally_on zero (p ∷ ps) ws =
@@ -169,7 +169,7 @@ module _ (inner : Chooser) (counter : Counter) (same : (b : List Placed) → tal
         ∙ ap (counting.count_on counter rounds (owned_by p.statement ps) ps) (tally_one p.statement ps ws)
         ∙ sym (counts.on_one counter rounds p ps (tally ws))
 
--- the ways through statements are counted so
+-- the paths through statements are counted so
 pub tally_choose : (d : ℕ) (rounds : List ℕ) (ps : List Placed) → tally (choosing.choose d rounds ps) ≡ counting.count d rounds ps
 tally_choose zero rounds ps = ap tally (choices.choose_zero 0 rounds ps refl) ∙ sym (counts.count_zero 0 rounds ps refl)
 tally_choose (suc d) rounds ps =

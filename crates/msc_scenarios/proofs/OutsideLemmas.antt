@@ -7,9 +7,9 @@ use Rattle.msc_mermaid.specs.declared.statement.Diagram.{Diagram}
 use Rattle.msc_mermaid.specs.declared.statement.Placed.{Placed}
 use Rattle.msc_mermaid.specs.declared.statement.Statement.{Statement}
 use Rattle.msc_mermaid.specs.declared.statement.Statement.TheVariants.{Declares, Says, Begins, Closes}
-use Rattle.msc_scenarios.specs.declared.course.Step.{Step}
-use Rattle.msc_scenarios.specs.declared.course.Step.TheVariants as steps
-use Rattle.msc_scenarios.specs.Courses.{is_loss, message_of, owned_by}
+use Rattle.msc_scenarios.specs.declared.steps.Step.{Step}
+use Rattle.msc_scenarios.specs.declared.steps.Step.TheVariants as steps
+use Rattle.msc_scenarios.specs.Steps.{is_loss, message_of, owned_by}
 use Rattle.msc_scenarios.specs.Histories.{Branch, History, One, Row, Said, Through}
 use Rattle.msc_scenarios.specs.Outside.{AreMet, outer, with_arrow}
 

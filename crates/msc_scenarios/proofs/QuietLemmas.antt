@@ -10,7 +10,7 @@ use Rattle.msc_mermaid.specs.declared.statement.Placed.{Placed}
 use Rattle.msc_mermaid.specs.declared.statement.Statement.{Statement}
 use Rattle.msc_mermaid.specs.declared.statement.Statement.TheVariants.{Declares, Says, Begins, Closes}
 use Rattle.msc_scenarios.specs.Choosing.{Chooser, behind, block, by_fate, by_sides, choose, choose_on, formed, healed, one, straight}
-use Rattle.msc_scenarios.specs.Courses.{branch_at, branches_in, deeper, extent, is_choice, is_there, joins_at, owned_by}
+use Rattle.msc_scenarios.specs.Steps.{branch_at, branches_in, deeper, extent, is_choice, is_there, joins_at, owned_by}
 use Rattle.msc_scenarios.specs.Laws.{may_choose}
 use Rattle.msc_scenarios.proofs.ChoiceLemmas.{sides_cons, sides_none, on_skip, on_one, on_none, choose_zero, choose_some}
 
@@ -55,12 +55,12 @@ quiet_said a q =
     ] q
 
 -- one way leads through branches, if one does through each
-module _ (inner : Chooser) (one_way : (b : List Placed) → are_quiet b ≡ true → inner b ≡ straight) where
+module _ (inner : Chooser) (one_path : (b : List Placed) → are_quiet b ≡ true → inner b ≡ straight) where
   quiet_sides : (bs : List (List Placed)) → list_all are_quiet bs ≡ true → by_sides inner bs straight ≡ straight
   quiet_sides [] h = sides_none inner straight
   quiet_sides (b ∷ bs) h =
       let parts = and_parts _ _ h in
-      sides_cons inner b bs straight ∙ ap (λ x. by_sides inner bs (behind straight (healed x))) (one_way b parts.0) ∙ quiet_sides bs parts.1
+      sides_cons inner b bs straight ∙ ap (λ x. by_sides inner bs (behind straight (healed x))) (one_path b parts.0) ∙ quiet_sides bs parts.1
 
   module _ (rounds : List ℕ) where
     quiet_par : (inside : List Placed) → are_quiet inside ≡ true → block inner rounds kinds.Par inside straight ≡ straight
@@ -77,7 +77,7 @@ module _ (inner : Chooser) (one_way : (b : List Placed) → are_quiet b ≡ true
     quiet_plain inside h =
         let b = branch_at (branches_in 0 inside) 0 in
         elim (is_there kinds.Plain inside) as (λ t. cond t (behind straight (inner b)) straight ≡ straight) [
-          | true ↦ ap (behind straight) (one_way b (quiet_first (branches_in 0 inside) (quiet_branches 0 inside h)))
+          | true ↦ ap (behind straight) (one_path b (quiet_first (branches_in 0 inside) (quiet_branches 0 inside h)))
           | false ↦ refl
         ]
 

@@ -2,11 +2,11 @@
 use Rattle.std.proofs.Common.{◌≡◌, ◌<◌, ◌≤◌, ℕ, zero, suc, ◌+◌, true, false, List, [], ◌∷◌, ◌++◌, length, get_or, drop, map, refl, sym, ap, ◌∙◌}
 use Rattle.std.proofs.lemmas.List.{drop_more, drop_all}
 use Rattle.std.proofs.lemmas.Bool.{false≢true}
-use Rattle.msc_scenarios.specs.declared.course.Ending.{Ending}
-use Rattle.msc_scenarios.specs.declared.course.Ending.TheVariants as ends
-use Rattle.msc_scenarios.specs.declared.course.Step.TheVariants as steps
+use Rattle.msc_scenarios.specs.declared.steps.Ending.{Ending}
+use Rattle.msc_scenarios.specs.declared.steps.Ending.TheVariants as ends
+use Rattle.msc_scenarios.specs.declared.steps.Step.TheVariants as steps
 use Rattle.msc_mermaid.specs.declared.statement.Placed.{Placed}
-use Rattle.msc_scenarios.specs.Courses.{Walk, Walker, goes, go_on, then, put, unbroken, rounds_from, side_by_side, one, owned_by, walk, walk_on}
+use Rattle.msc_scenarios.specs.Steps.{Walk, Walker, goes, go_on, then, put, unbroken, rounds_from, side_by_side, one, owned_by, walk, walk_on}
 
 -- what goes on does so, and what has ended has
 pub goes_yes : (e : Ending) (now next : Walk) → goes e ≡ true → go_on e now next ≡ next

@@ -1,13 +1,13 @@
--- Histories of a diagram: the choices that can be taken on one way through its blocks, and the steps that come of
--- them. They are told by a relation, with one rule for each kind of statement and of block: no list of them is
--- made here, and nothing is walked.
+-- Histories of a diagram: the choices that can be taken on one way through its blocks, and the
+-- steps that come of them. They are told by a relation, with one rule for each kind of statement
+-- and of block: no list of them is made here, and nothing is walked.
 use Rattle.std.specs.Prelude.{◌≡◌, ◌⊎◌, ℕ, zero, suc, ◌+◌, ◌<◌, ◌≤◌, Bool, true, false, List, [], ◌∷◌, ◌++◌, length, take}
 use Rattle.std.specs.List.{Contains}
 use Rattle.msc_mermaid.specs.declared.TheConstants.{DEPTH_LIMIT}
-use Rattle.msc_scenarios.specs.declared.course.Form.{Form}
-use Rattle.msc_scenarios.specs.declared.course.Form.TheVariants as forms
-use Rattle.msc_scenarios.specs.declared.course.Step.{Step}
-use Rattle.msc_scenarios.specs.declared.course.Step.TheVariants as steps
+use Rattle.msc_scenarios.specs.declared.steps.Passage.{Passage}
+use Rattle.msc_scenarios.specs.declared.steps.Passage.TheVariants as passages
+use Rattle.msc_scenarios.specs.declared.steps.Step.{Step}
+use Rattle.msc_scenarios.specs.declared.steps.Step.TheVariants as steps
 use Rattle.msc_mermaid.specs.declared.row.Kind.{Kind}
 use Rattle.msc_mermaid.specs.declared.statement.Arrow.{Arrow}
 use Rattle.msc_mermaid.specs.declared.statement.Diagram.{Diagram}
@@ -15,7 +15,7 @@ use Rattle.msc_mermaid.specs.declared.statement.Placed.{Placed}
 use Rattle.msc_mermaid.specs.declared.statement.Statement.{Statement}
 use Rattle.msc_mermaid.specs.declared.statement.Statement.TheVariants.{Declares, Says, Begins, Closes}
 use Rattle.msc_place.specs.declared.position.Position.{Position}
-use Rattle.msc_scenarios.specs.Courses.{branch_at, branches_in, extent, form_of, is_choice, is_loss, is_there, message_of, owned_by, start_of}
+use Rattle.msc_scenarios.specs.Steps.{branch_at, branches_in, extent, passage_of, is_choice, is_loss, is_there, message_of, owned_by, start_of}
 
 -- choices, and the steps that come of them
 pub record History : Type 0 where
@@ -73,32 +73,34 @@ unfoldable pub Sides : Branch → List ℕ → List (List Placed) → Histories
 Sides inner rs [] = Only (only [])
 Sides inner rs (b ∷ bs) = Then (Made marked false (inner rs b)) (Sides inner rs bs)
 
--- One of the first, and then of one of the branches from a place on, behind the choice of that branch: it is the
--- branch's place and so many more.
+-- One of the first, and then of one of the branches from a place on, behind the choice of that
+-- branch: it is the branch's place and so many more.
 abbrev pub OneOf : Branch → List (List Placed) → List ℕ → Histories → ℕ → ℕ → Histories
 OneOf inner bs rs first start more h cut =
     (i : ℕ) × (start ≤ i) × (i < length bs) × Made (under (i + more)) false (Then first (inner rs (branch_at bs i))) h cut
 
--- Those of a block of this form that begins here. Of an alternative one branch, of what may be left out
--- none or one, of a loop one of these numbers of rounds, of a break nothing or its branch, which ends what it
--- stands in, of a critical block its first branch and then none or one more, of parallel branches all.
-unfoldable pub Formed : Branch → List ℕ → Position → Form → List (List Placed) → List ℕ → Histories
-Formed inner rounds place forms.OneOf bs rs h cut = OneOf inner bs rs (Only (only [])) 0 0 h cut
-Formed inner rounds place forms.Maybe bs rs h cut =
+-- Those of a block of this form that begins here. Of an alternative one branch, of what may be left
+-- out none or one, of a loop one of these numbers of rounds, of a break nothing or its branch,
+-- which ends what it stands in, of a critical block its first branch and then none or one more, of
+-- parallel branches all.
+unfoldable pub Formed : Branch → List ℕ → Position → Passage → List (List Placed) → List ℕ → Histories
+Formed inner rounds place passages.OneOf bs rs h cut = OneOf inner bs rs (Only (only [])) 0 0 h cut
+Formed inner rounds place passages.Maybe bs rs h cut =
     Made (under 0) false (Only (only [])) h cut ⊎ OneOf inner bs rs (Only (only [])) 0 1 h cut
-Formed inner rounds place forms.Rounds bs rs h cut =
+Formed inner rounds place passages.Rounds bs rs h cut =
     (r : ℕ) × Contains rounds r × Made (under r) false (Rounds inner (branch_at bs 0) rs 0 r) h cut
-Formed inner rounds place forms.Break bs rs h cut =
+Formed inner rounds place passages.Break bs rs h cut =
     Made (under 0) false (Only (only [])) h cut ⊎ Made (under 1) true (inner rs (branch_at bs 0)) h cut
-Formed inner rounds place forms.First bs rs h cut =
+Formed inner rounds place passages.First bs rs h cut =
     Made (under 0) false (inner rs (branch_at bs 0)) h cut ⊎ OneOf inner bs rs (inner rs (branch_at bs 0)) 1 0 h cut
-Formed inner rounds place forms.Par bs rs h cut = (x : History) × (h ≡ enclosed place x) × Sides inner rs bs x cut
-Formed inner rounds place forms.Plain bs rs h cut = inner rs (branch_at bs 0) h cut
+Formed inner rounds place passages.Par bs rs h cut = (x : History) × (h ≡ enclosed place x) × Sides inner rs bs x cut
+Formed inner rounds place passages.Plain bs rs h cut = inner rs (branch_at bs 0) h cut
 
--- those of a block of this kind, with these statements inside; one without an arrow or a break is nothing
+-- those of a block of this kind, with these statements inside; one without an arrow or a break is
+-- nothing
 abbrev pub Block : Branch → List ℕ → Position → Kind → List Placed → List ℕ → Histories
 Block inner rounds place kind inside rs h cut =
-    ((is_there kind inside ≡ true) × Formed inner rounds place (form_of kind (length (branches_in 0 inside))) (branches_in 0 inside) rs h cut)
+    ((is_there kind inside ≡ true) × Formed inner rounds place (passage_of kind (length (branches_in 0 inside))) (branches_in 0 inside) rs h cut)
     ⊎ ((is_there kind inside ≡ false) × Only (only []) h cut)
 
 -- the step of an arrow in these rounds, where it is lost or arrives

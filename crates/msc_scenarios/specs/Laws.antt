@@ -3,8 +3,8 @@ use Rattle.std.specs.Prelude.{◌≡◌, ◌⊎◌, ◌<◌, ◌≤◌, ℕ, ◌
 use Rattle.std.specs.List.{AllByRecursion, Contains, list_all}
 use Rattle.msc_mermaid.specs.declared.TheConstants.{DEPTH_LIMIT}
 use Rattle.msc_scenarios.specs.declared.TheConstants.{ROUND_LIMIT}
-use Rattle.msc_scenarios.specs.declared.course.Ending.TheVariants as ends
-use Rattle.msc_scenarios.specs.declared.course.Step.{Step}
+use Rattle.msc_scenarios.specs.declared.steps.Ending.TheVariants as ends
+use Rattle.msc_scenarios.specs.declared.steps.Step.{Step}
 use Rattle.msc_mermaid.specs.declared.fault.ImportFault.TheVariants.{TooManyArrows}
 use Rattle.msc_mermaid.specs.declared.row.Kind.TheVariants as kinds
 use Rattle.msc_mermaid.specs.declared.statement.Diagram.{Diagram}
@@ -13,7 +13,7 @@ use Rattle.msc_mermaid.specs.declared.statement.Statement.TheVariants.{Declares,
 use Rattle.msc_place.specs.declared.position.Position.{Position}
 use Rattle.msc_scenarios.specs.Choosing.{all_choices}
 use Rattle.msc_scenarios.specs.Counting.{capped, scenarios}
-use Rattle.msc_scenarios.specs.Courses.{Walk, walk, at_rest, is_choice, unended}
+use Rattle.msc_scenarios.specs.Steps.{Walk, walk, at_rest, is_choice, unended}
 use Rattle.msc_scenarios.specs.Histories.{History, IsHistory}
 
 -- a block begins that may take a choice, or an arrow takes one
@@ -51,7 +51,8 @@ walked d given = walk (DEPTH_LIMIT + 1) d.statements [] (at_rest d.lines given)
 abbrev pub IsWhole : Diagram → List ℕ → Type 0
 IsWhole d given = IsTooLong (walked d given) ⊎ Takes given (walked d given)
 
--- each of the lists of choices is that of a whole scenario, where no loop goes more rounds than it may
+-- each of the lists of choices is that of a whole scenario, where no loop goes more rounds than it
+-- may
 abbrev pub EachIsWhole : Type 0
 EachIsWhole =
     (rounds : List ℕ) (d : Diagram) → list_all (λ r. nat_le r ROUND_LIMIT) rounds ≡ true → AllByRecursion (IsWhole d) (all_choices rounds d)
@@ -61,40 +62,42 @@ abbrev pub InOrder : {X : Type 0} → (X → X → Type 0) → List X → Type 0
 InOrder R [] = Unit {0}
 InOrder R (x ∷ xs) = AllByRecursion (R x) xs × InOrder R xs
 
--- one list of choices comes before another: at the first place where they differ it has the smaller choice,
--- and there is such a place
+-- one list of choices comes before another: at the first place where they differ it has the smaller
+-- choice, and there is such a place
 abbrev pub ComesBefore : List ℕ → List ℕ → Type 0
 ComesBefore (x ∷ xs) (y ∷ ys) = (x < y) ⊎ ((x ≡ y) × ComesBefore xs ys)
 ComesBefore [] ys = ⊥
 ComesBefore (x ∷ xs) [] = ⊥
 
--- the lists of choices are in their order, so each stands once, where the numbers of rounds are in theirs
+-- the lists of choices are in their order, so each stands once, where the numbers of rounds are in
+-- theirs
 abbrev pub EachOnceInOrder : Type 0
 EachOnceInOrder =
     (rounds : List ℕ) (d : Diagram) → InOrder (λ m n. m < n) rounds → InOrder ComesBefore (all_choices rounds d)
 
--- none is missing: what a walk takes that no fault stops is one of the lists of choices, where rounds has
--- each number of rounds that a loop may go
+-- none is missing: what a walk takes that no fault stops is one of the lists of choices, where
+-- rounds has each number of rounds that a loop may go
 abbrev pub NoneIsMissing : Type 0
 NoneIsMissing =
     (rounds : List ℕ) (d : Diagram) (given : List ℕ) → ((r : ℕ) → r ≤ ROUND_LIMIT → Contains rounds r) → Takes given (walked d given) → Contains (all_choices rounds d) given
 
--- Each way once: whatever numbers of rounds loops go, the lists of choices are those of the diagram's histories.
--- They are in their order, so each stands once, where the numbers of rounds are in theirs.
-abbrev pub EachWayOnce : Type 0
-EachWayOnce =
+-- Each path once: whatever numbers of rounds loops go, the lists of choices are those of the
+-- diagram's histories. They are in their order, so each stands once, where the numbers of rounds
+-- are in theirs.
+abbrev pub EachPathOnce : Type 0
+EachPathOnce =
     (rounds : List ℕ) (d : Diagram) → ((given : List ℕ) → Contains (all_choices rounds d) given ↔ ((ss : List Step) × IsHistory rounds d (record { choices = given; steps = ss })))
     × (InOrder (λ m n. m < n) rounds → InOrder ComesBefore (all_choices rounds d))
 
--- Just what is met: a walk with the choices of a history takes these and has its steps, unless it has too many
--- arrows.
+-- Just what is met: a walk with the choices of a history takes these and has its steps, unless it
+-- has too many arrows.
 abbrev pub JustWhatIsMet : Type 0
 JustWhatIsMet =
     (rounds : List ℕ) (d : Diagram) (h : History) → ((r : ℕ) → Contains rounds r → r ≤ ROUND_LIMIT) → IsHistory rounds d h
     → IsTooLong (walked d h.choices) ⊎ (Takes h.choices (walked d h.choices) × ((walked d h.choices).steps ≡ h.steps))
 
--- And nothing else is: what a walk takes that no fault stops is a history, with the steps of the walk, where rounds
--- has just the numbers of rounds that a loop may go.
+-- And nothing else is: what a walk takes that no fault stops is a history, with the steps of the
+-- walk, where rounds has just the numbers of rounds that a loop may go.
 abbrev pub NothingElseIsMet : Type 0
 NothingElseIsMet =
     (rounds : List ℕ) (d : Diagram) (given : List ℕ) → ((r : ℕ) → (Contains rounds r → r ≤ ROUND_LIMIT) × (r ≤ ROUND_LIMIT → Contains rounds r)) → Takes given (walked d given)

@@ -1,6 +1,6 @@
 -- what is promised
 pub mod Naming
-pub mod Courses
+pub mod Steps
 pub mod Counting
 pub mod Choosing
 pub mod Histories

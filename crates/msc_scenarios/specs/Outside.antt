@@ -6,9 +6,9 @@ use Rattle.msc_mermaid.specs.declared.statement.Diagram.{Diagram}
 use Rattle.msc_mermaid.specs.declared.statement.Placed.{Placed}
 use Rattle.msc_mermaid.specs.declared.statement.Statement.{Statement}
 use Rattle.msc_mermaid.specs.declared.statement.Statement.TheVariants.{Says}
-use Rattle.msc_scenarios.specs.declared.course.Step.{Step}
-use Rattle.msc_scenarios.specs.declared.course.Step.TheVariants as steps
-use Rattle.msc_scenarios.specs.Courses.{message_of, owned_by}
+use Rattle.msc_scenarios.specs.declared.steps.Step.{Step}
+use Rattle.msc_scenarios.specs.declared.steps.Step.TheVariants as steps
+use Rattle.msc_scenarios.specs.Steps.{message_of, owned_by}
 use Rattle.msc_scenarios.specs.Histories.{History, Through}
 
 -- a statement before these, if it is an arrow
@@ -29,7 +29,8 @@ AreMet lines (p ∷ ps) ss =
     (arrow : Arrow) × (lost : Bool) × (before : List Step) × (after : List Step) × (p.statement ≡ Says arrow)
     × (ss ≡ before ++ steps.Meets (message_of lines p arrow lost []) ∷ after) × AreMet lines ps after
 
--- an arrow in no block is met in each history that no break ends, and such arrows in the order of the text
+-- an arrow in no block is met in each history that no break ends, and such arrows in the order of
+-- the text
 abbrev pub OutsideOfAllBlocks : Type 0
 OutsideOfAllBlocks =
     (rounds : List ℕ) (d : Diagram) (h : History) → Through d.lines rounds (DEPTH_LIMIT + 1) [] d.statements h false → AreMet d.lines (outer 0 d.statements) h.steps

@@ -1,87 +1,87 @@
-//! How many scenarios a diagram has.
+//! The number of scenarios of a diagram.
 
 ghost use Rattle.std.specs.Prelude.{◌≡◌, ◌≤◌, length, map, IfOk, take, drop, IsTrue};
 ghost use Rattle.msc_scenarios.specs.Counting.{all, behind, block, by_branches, by_options};
 ghost use Rattle.msc_scenarios.specs.Counting.{by_rounds, by_sides};
-ghost use Rattle.msc_scenarios.specs.Counting.{count, formed, one, plus, repeated, scenarios, times};
+ghost use Rattle.msc_scenarios.specs.Counting.{count, formed, one, plus, repeated, scenarios};
+ghost use Rattle.msc_scenarios.specs.Counting.{times};
 ghost use Rattle.msc_scenarios.specs.Counting.{unbroken};
 
 use crate::SCENARIO_LIMIT;
-use crate::course::{Form, branches_of, extent, is_choice, is_there};
+use crate::steps::{Passage, branches_of, extent, is_choice, is_there};
 use crate::walking::{branch_at, owned_by};
 use msc_mermaid::{DEPTH_LIMIT, Diagram, Kind, Placed, Statement};
 use std::alloc::{AllocError, Global};
 
-/// How many ways there are to the end of statements, and how many to a break in them.
+/// The number of paths to the end of statements, and the number of paths to a break in them.
 #[derive(Clone, Copy)]
-pub(crate) struct Ways {
+pub(crate) struct Paths {
     pub through: usize,
     pub broken: usize,
 }
 
-/// The sum, where it doesn't pass the limit.
+/// The sum, or one more than the limit if the sum is greater.
 fn plus(m: usize, n: usize) -> usize
     ensures { result ≡ plus m n }
 {
     m.saturating_add(n).min(SCENARIO_LIMIT + 1)
 }
 
-/// The product, where it doesn't pass the limit.
+/// The product, or one more than the limit if the product is greater.
 fn times(m: usize, n: usize) -> usize
     ensures { result ≡ times m n }
 {
     m.saturating_mul(n).min(SCENARIO_LIMIT + 1)
 }
 
-impl Ways {
-    /// So many to the end.
-    fn unbroken(through: usize) -> Ways
+impl Paths {
+    /// This number of paths to the end, and none to a break.
+    fn unbroken(through: usize) -> Paths
         ensures { result ≡ unbroken through }
     {
-        Ways { through, broken: 0 }
+        Paths { through, broken: 0 }
     }
 
-    /// Those through the one, and then through the other.
-    fn behind(self, next: Ways) -> Ways
+    /// The number of paths through these statements and then through the next.
+    fn behind(self, next: Paths) -> Paths
         ensures { result ≡ behind self next }
     {
-        Ways {
+        Paths {
             through: times(self.through, next.through),
             broken: plus(self.broken, times(self.through, next.broken)),
         }
     }
 
-    /// Whether these are as many as the others.
-    fn are_as_many(self, others: Ways) -> bool
+    /// Whether these numbers are equal to the others.
+    fn are_as_many(self, others: Paths) -> bool
         ensures { IsTrue result → self ≡ others }
     {
         self.through == others.through && self.broken == others.broken
     }
 
-    /// All of them.
+    /// The sum of both numbers.
     fn all(self) -> usize
         ensures { result ≡ all self }
     {
         plus(self.through, self.broken)
     }
 
-    /// Those through so many rounds of a loop. A round that changes nothing is the last one that
-    /// is counted.
-    fn repeated(self, count: usize) -> Ways
+    /// The paths through `count` rounds of a loop. The count stops at a round that changes nothing.
+    fn repeated(self, count: usize) -> Paths
         ensures { result ≡ repeated self count (unbroken 1) }
     {
-        let mut ways = Ways::unbroken(1);
+        let mut paths = Paths::unbroken(1);
         for _ in 0..count {
-            let next = ways.behind(self);
-            if next.are_as_many(ways) {
-                return ways;
+            let next = paths.behind(self);
+            if next.are_as_many(paths) {
+                return paths;
             }
-            ways = next;
+            paths = next;
         }
-        ways
+        paths
     }
 
-    /// Those through a loop, by each number of rounds. Past the limit nothing more is counted.
+    /// The paths through a loop, by each number of rounds. The count stops past the limit.
     fn by_rounds(self, rounds: &[usize]) -> usize
         ensures { result ≡ by_rounds self rounds.now 0 }
     {
@@ -96,13 +96,13 @@ impl Ways {
     }
 }
 
-/// So many more than these, by each of the branches behind the first one.
+/// The number, plus the number of paths by each of the branches after the first paths.
 #[cycle(counting)]
 fn by_branches(
     alloc: Global,
     depth: usize,
     rounds: &[usize],
-    first: Ways,
+    first: Paths,
     branches: &[&[Placed]],
     number: usize,
 ) -> Result<usize, AllocError>
@@ -111,13 +111,13 @@ fn by_branches(
 {
     let mut number = number;
     for branch in branches {
-        let ways = count(alloc, depth, rounds, branch)?;
-        number = plus(number, first.behind(ways).all());
+        let paths = count(alloc, depth, rounds, branch)?;
+        number = plus(number, first.behind(paths).all());
     }
     Ok(number)
 }
 
-/// The number of ways through parallel branches.
+/// The number of paths through parallel branches.
 #[cycle(counting)]
 fn by_sides(
     alloc: Global,
@@ -135,7 +135,7 @@ fn by_sides(
     Ok(number)
 }
 
-/// The number of ways through a first branch, and then through one of the others, or none.
+/// The number of paths through a first branch, and then through one of the others, or none.
 #[cycle(counting)]
 fn by_options(
     alloc: Global,
@@ -155,46 +155,46 @@ fn by_options(
     by_branches(alloc, depth, rounds, first, others, first.all())
 }
 
-/// The ways through a block of this form.
+/// The paths through a block of this form.
 #[cycle(counting)]
 #[tactic(auto, unfolding(crate::specs::Counting::formed))]
 fn formed(
     alloc: Global,
     depth: usize,
     rounds: &[usize],
-    form: Form,
+    passage: Passage,
     branches: &[&[Placed]],
-) -> Result<Ways, AllocError>
+) -> Result<Paths, AllocError>
     ensures { IfOk result (λ w. w ≡ formed
-        (count depth rounds.now) rounds.now form (map (λ x. x.now) branches.now)) }
+        (count depth rounds.now) rounds.now passage (map (λ x. x.now) branches.now)) }
 {
-    match form {
-        Form::OneOf => {
-            let one = Ways::unbroken(1);
-            Ok(Ways::unbroken(by_branches(alloc, depth, rounds, one, branches, 0)?))
+    match passage {
+        Passage::OneOf => {
+            let one = Paths::unbroken(1);
+            Ok(Paths::unbroken(by_branches(alloc, depth, rounds, one, branches, 0)?))
         }
-        Form::Maybe => {
-            let one = Ways::unbroken(1);
-            Ok(Ways::unbroken(by_branches(alloc, depth, rounds, one, branches, 1)?))
+        Passage::Maybe => {
+            let one = Paths::unbroken(1);
+            Ok(Paths::unbroken(by_branches(alloc, depth, rounds, one, branches, 1)?))
         }
-        Form::Rounds => {
+        Passage::Rounds => {
             let body = count(alloc, depth, rounds, branch_at(branches, 0))?;
-            Ok(Ways::unbroken(body.by_rounds(rounds)))
+            Ok(Paths::unbroken(body.by_rounds(rounds)))
         }
-        Form::Break => {
+        Passage::Break => {
             let body = count(alloc, depth, rounds, branch_at(branches, 0))?;
-            Ok(Ways {
+            Ok(Paths {
                 through: 1,
                 broken: body.all(),
             })
         }
-        Form::First => Ok(Ways::unbroken(by_options(alloc, depth, rounds, branches)?)),
-        Form::Par => Ok(Ways::unbroken(by_sides(alloc, depth, rounds, branches)?)),
-        Form::Plain => count(alloc, depth, rounds, branch_at(branches, 0)),
+        Passage::First => Ok(Paths::unbroken(by_options(alloc, depth, rounds, branches)?)),
+        Passage::Par => Ok(Paths::unbroken(by_sides(alloc, depth, rounds, branches)?)),
+        Passage::Plain => count(alloc, depth, rounds, branch_at(branches, 0)),
     }
 }
 
-/// The ways through a block of this kind, with these statements inside.
+/// The paths through a block of this kind, with these statements inside.
 #[cycle(counting)]
 #[tactic(auto, unfolding(crate::specs::Counting::block))]
 fn block(
@@ -203,19 +203,19 @@ fn block(
     rounds: &[usize],
     kind: Kind,
     inside: &[Placed],
-) -> Result<Ways, AllocError>
+) -> Result<Paths, AllocError>
     ensures { IfOk result (λ w. w ≡ block
         (count depth rounds.now) rounds.now kind inside.now) }
 {
     if !is_there(kind, inside) {
-        return Ok(Ways::unbroken(1));
+        return Ok(Paths::unbroken(1));
     }
     let branches = branches_of(alloc, inside)?;
-    let form = Form::of(kind, branches.len());
-    formed(alloc, depth, rounds, form, branches.as_slice())
+    let passage = Passage::of(kind, branches.len());
+    formed(alloc, depth, rounds, passage, branches.as_slice())
 }
 
-/// The ways through one statement, with those behind it.
+/// The number of paths through one statement and the statements that it owns.
 #[cycle(counting)]
 fn one(
     alloc: Global,
@@ -223,30 +223,30 @@ fn one(
     rounds: &[usize],
     statement: &Statement,
     rest: &[Placed],
-) -> Result<Ways, AllocError>
+) -> Result<Paths, AllocError>
     ensures { IfOk result (λ w. w ≡ one
         (count depth rounds.now) rounds.now statement.now rest.now) }
 {
     match statement {
         Statement::Begins(kind) => block(alloc, depth, rounds, *kind, &rest[..extent(rest)]),
-        Statement::Says(arrow) if is_choice(arrow) => Ok(Ways::unbroken(2)),
-        _ => Ok(Ways::unbroken(1)),
+        Statement::Says(arrow) if is_choice(arrow) => Ok(Paths::unbroken(2)),
+        _ => Ok(Paths::unbroken(1)),
     }
 }
 
-/// The ways through statements, with at most so many blocks inside each other.
+/// The paths through statements, with at most this number of nested blocks.
 #[cycle(counting)]
 fn count(
     alloc: Global,
     depth: usize,
     rounds: &[usize],
     statements: &[Placed],
-) -> Result<Ways, AllocError>
+) -> Result<Paths, AllocError>
     ensures { IfOk result (λ w. w ≡ count depth rounds.now statements.now) }
 {
-    let mut ways = Ways::unbroken(1);
+    let mut paths = Paths::unbroken(1);
     if depth == 0 {
-        return Ok(ways);
+        return Ok(paths);
     }
     let mut owned = 0;
     for i in 0..statements.len() {
@@ -256,22 +256,22 @@ fn count(
         }
         let statement = &statements[i].statement;
         let rest = &statements[i + 1..];
-        ways = ways.behind(one(alloc, depth - 1, rounds, statement, rest)?);
+        paths = paths.behind(one(alloc, depth - 1, rounds, statement, rest)?);
         owned = owned_by(statement, rest);
     }
-    Ok(ways)
+    Ok(paths)
 }
 
-/// How many scenarios a diagram has, where each loop goes these numbers of rounds; one more than
-/// the limit, where it has more.
+/// The number of scenarios of a diagram, if each loop goes these numbers of rounds; one more than
+/// the limit if there are more.
 pub fn scenarios(alloc: Global, diagram: &Diagram, rounds: &[usize]) -> Result<usize, AllocError>
     ensures { IfOk result (λ n. n ≡ scenarios rounds.now diagram.now) }
 {
-    let ways = count(
+    let paths = count(
         alloc,
         DEPTH_LIMIT + 1,
         rounds,
         diagram.statements.as_slice(),
     )?;
-    Ok(ways.all())
+    Ok(paths.all())
 }

@@ -10,14 +10,14 @@ use listed::Listed;
 use msc_parser::Name;
 use std::alloc::{AllocError, Global};
 
-/// Whether the name is there.
+/// Whether the names have this name.
 fn is_taken(names: &[Name], name: &[u8]) -> bool
     ensures { result ≡ is_taken names.now name.now }
 {
     names.iter().any(|other| other.as_slice() == name)
 }
 
-/// A name with a number behind it, from 2 on.
+/// A name followed by a number, from 2 on.
 fn candidate(alloc: Global, name: &[u8], number: usize) -> Result<Vec<u8>, AllocError>
     ensures { IfOk result (λ v. v.items ≡ candidate name.now number) }
 {
@@ -30,7 +30,8 @@ fn candidate(alloc: Global, name: &[u8], number: usize) -> Result<Vec<u8>, Alloc
     Ok(numbered)
 }
 
-/// The first candidate that is not there. Of one more than there are names one is free.
+/// The first candidate that is not yet a name. Of one candidate more than there are names, one is
+/// free.
 fn free_name(alloc: Global, names: &[Name], name: &[u8]) -> Result<Vec<u8>, AllocError>
     ensures { IfOk result (λ v. v.items ≡ free_name names.now name.now 1 (length names.now + 1)) }
 {
@@ -43,7 +44,8 @@ fn free_name(alloc: Global, names: &[Name], name: &[u8]) -> Result<Vec<u8>, Allo
     Vec::from_slice(alloc, name)
 }
 
-/// The names of lines, each the first that is not there yet. The only error is want of memory.
+/// The names of lines: each is the first candidate that is not yet a name. The only error is that
+/// memory ran out.
 pub fn names_of(alloc: Global, idents: &[Listed<u8>]) -> Result<Vec<Name>, AllocError>
     ensures { IfOk result (λ v. v.items ≡ names_behind [] idents.now) }
 {
@@ -56,7 +58,7 @@ pub fn names_of(alloc: Global, idents: &[Listed<u8>]) -> Result<Vec<Name>, Alloc
     Ok(names)
 }
 
-/// The number of an arrow, and the rounds of the loops that it stands in, outermost first.
+/// The number of an arrow, followed by the rounds of the loops around it, outermost first.
 pub(crate) fn number_name(
     alloc: Global,
     number: usize,
@@ -73,7 +75,7 @@ pub(crate) fn number_name(
     Ok(name)
 }
 
-/// What a line of this name is of, if its shown name says that.
+/// The kind of a line with this name, if its shown name gives one.
 #[tactic(auto, unfolding(crate::specs::Naming::kind_of))]
 pub fn kind_of(alloc: Global, name: &[u8], shown: &[u8]) -> Result<Listed<Name>, AllocError>
     ensures { IfOk result (λ v. v ≡ kind_of name.now shown.now) }

@@ -13,21 +13,21 @@ use msc_lexer::Word;
 use msc_mermaid::{are_spelled, is_word_byte};
 use std::alloc::{AllocError, Global};
 
-/// The greatest number of bytes of a made name, but for what is put behind it.
+/// The greatest number of bytes of a made name, without a number or an underscore after it.
 const MADE_LIMIT: usize = 56;
 
-/// A pass over bytes of which a name is made.
+/// A pass over the bytes from which a name is made.
 #[derive(Clone, Copy)]
 pub(crate) enum Pass {
     /// Tags become blanks.
     Tags,
     /// Backslashes with a letter become blanks.
     Escapes,
-    /// What names are not made of becomes underscores, one for each run of bytes.
+    /// Bytes that names cannot have become underscores, one for each run of bytes.
     Gaps,
 }
 
-/// Whether `<` stands here.
+/// Whether the bytes begin with `<`.
 fn begins_opening(bytes: &[u8]) -> bool
     ensures { result ≡ begins is_opening bytes.now }
 {
@@ -37,7 +37,7 @@ fn begins_opening(bytes: &[u8]) -> bool
     }
 }
 
-/// Whether `>` stands here.
+/// Whether the bytes begin with `>`.
 fn begins_closing(bytes: &[u8]) -> bool
     ensures { result ≡ begins is_closing bytes.now }
 {
@@ -47,7 +47,7 @@ fn begins_closing(bytes: &[u8]) -> bool
     }
 }
 
-/// Whether what stands here makes a blank of the backslash before it.
+/// Whether these bytes make a blank of the backslash before them.
 fn begins_escape(bytes: &[u8]) -> bool
     ensures { result ≡ begins is_escape bytes.now }
 {
@@ -57,7 +57,7 @@ fn begins_escape(bytes: &[u8]) -> bool
     }
 }
 
-/// Whether it is the name of a tag that breaks a line, or of a short one.
+/// Whether it is the name of a tag that breaks a line, or of a short tag.
 fn is_break_tag(word: &[u8]) -> bool
     ensures { result ≡ is_break_tag word.now }
 {
@@ -78,7 +78,7 @@ fn is_style_tag(word: &[u8]) -> bool
         || are_spelled(word, "font".as_bytes())
 }
 
-/// How many letters and digits stand in front.
+/// The number of letters and digits at the front.
 fn letters(bytes: &[u8]) -> usize
     ensures length { result ≡ prefix_len is_ascii_alphanumeric bytes.now }
     ensures within { result ≤ length bytes.now }
@@ -89,7 +89,7 @@ fn letters(bytes: &[u8]) -> usize
         .count()
 }
 
-/// How many bytes stand in front that may stand within a tag.
+/// The number of bytes at the front that a tag may contain.
 fn inner(bytes: &[u8]) -> usize
     ensures length { result ≡ prefix_len is_inner bytes.now }
     ensures within { result ≤ length bytes.now }
@@ -100,7 +100,7 @@ fn inner(bytes: &[u8]) -> usize
         .count()
 }
 
-/// What stands behind what opens a tag.
+/// The bytes after what opens a tag.
 fn behind_opening(bytes: &[u8]) -> &[u8]
     ensures { result.now ≡ drop (opening_length bytes.now) bytes.now }
 {
@@ -111,7 +111,7 @@ fn behind_opening(bytes: &[u8]) -> &[u8]
     }
 }
 
-/// What stands behind all that may stand within a tag.
+/// The bytes after all that a tag may contain.
 fn behind_inner(bytes: &[u8]) -> &[u8]
     ensures value { result.now ≡ behind_inner bytes.now }
     ensures short { length result.now ≤ length bytes.now }
@@ -119,7 +119,7 @@ fn behind_inner(bytes: &[u8]) -> &[u8]
     &bytes[inner(bytes)..]
 }
 
-/// How many bytes the tag has that stands here, and none where no tag does.
+/// The number of bytes of the tag at the front, or 0 if there is none.
 #[tactic(auto, unfolding(crate::specs::Naming::tag_length))]
 fn tag_length(bytes: &[u8]) -> usize
     ensures { result ≡ tag_length bytes.now }
@@ -141,7 +141,7 @@ fn tag_length(bytes: &[u8]) -> usize
 }
 
 impl Pass {
-    /// What stands for a byte of which this follows, if anything does, and the state behind it.
+    /// The byte that replaces a byte followed by these, if there is one, and the state after it.
     #[tactic(auto, unfolding(crate::specs::Naming::pass_step))]
     fn step(self, state: usize, bytes: &[u8]) -> (Option<u8>, usize)
         requires { 0 < length bytes.now }
@@ -166,11 +166,11 @@ impl Pass {
         }
     }
 
-    /// The bytes that it leaves.
+    /// The bytes that the pass leaves.
     fn over(self, alloc: Global, bytes: &[u8]) -> Result<Vec<u8>, AllocError>
         ensures { IfOk result (λ v. v.items ≡ passed self 0 bytes.now) }
     {
-        let mut left = Vec::new(alloc);
+        let mut left = Vec::with_capacity(alloc, bytes.len())?;
         let mut state = 0;
         for i in 0..bytes.len() {
             let (put, next) = self.step(state, &bytes[i..]);
@@ -183,7 +183,7 @@ impl Pass {
     }
 }
 
-/// How many underscores stand in front.
+/// The number of underscores at the front.
 fn bars_in_front(bytes: &[u8]) -> usize
     ensures length { result ≡ prefix_len is_bar bytes.now }
     ensures within { result ≤ length bytes.now }
@@ -191,7 +191,7 @@ fn bars_in_front(bytes: &[u8]) -> usize
     bytes.iter().take_while(|byte| **byte == b'_').count()
 }
 
-/// How many underscores stand at the end.
+/// The number of underscores at the end.
 fn bars_at_end(bytes: &[u8]) -> usize
     ensures length { result ≡ suffix_len is_bar bytes.now }
     ensures within { result ≤ length bytes.now }
@@ -199,21 +199,21 @@ fn bars_at_end(bytes: &[u8]) -> usize
     bytes.iter().rev().take_while(|byte| **byte == b'_').count()
 }
 
-/// Without underscores in front.
+/// The bytes without underscores at the front.
 fn behind_bars(bytes: &[u8]) -> &[u8]
     ensures { result.now ≡ behind_bars bytes.now }
 {
     &bytes[bars_in_front(bytes)..]
 }
 
-/// Without underscores at the end.
+/// The bytes without underscores at the end.
 fn before_bars(bytes: &[u8]) -> &[u8]
     ensures { result.now ≡ before_bars bytes.now }
 {
     &bytes[..bytes.len() - bars_at_end(bytes)]
 }
 
-/// The first bytes, so many at most.
+/// The first bytes, at most `limit`.
 fn at_most(bytes: &[u8], limit: usize) -> &[u8]
     ensures { result.now ≡ take limit bytes.now }
 {
@@ -230,7 +230,7 @@ fn shortened(bytes: &[u8]) -> &[u8]
     before_bars(at_most(bytes, MADE_LIMIT))
 }
 
-/// These bytes, and others where there are none.
+/// These bytes, or the others if there are none.
 fn or_else<'b>(bytes: &'b [u8], others: &'b [u8]) -> &'b [u8]
     ensures { result.now ≡ or_else bytes.now others.now }
 {
@@ -240,7 +240,7 @@ fn or_else<'b>(bytes: &'b [u8], others: &'b [u8]) -> &'b [u8]
     }
 }
 
-/// The name with an underscore behind it where it is a reserved word.
+/// The name, followed by an underscore if it is a reserved word.
 fn unreserved(alloc: Global, name: &[u8]) -> Result<Vec<u8>, AllocError>
     ensures { IfOk result (λ v. v.items ≡ unreserved name.now) }
 {
@@ -251,8 +251,8 @@ fn unreserved(alloc: Global, name: &[u8]) -> Result<Vec<u8>, AllocError>
     Ok(free)
 }
 
-/// The name that is made of bytes; where nothing is left of them, of these others. The only error
-/// is want of memory.
+/// The name that is made of bytes; if nothing is left of them, of these others. The only error is
+/// that memory ran out.
 #[tactic(auto, unfolding(crate::specs::Naming::made))]
 pub fn made(alloc: Global, bytes: &[u8], others: &[u8]) -> Result<Vec<u8>, AllocError>
     ensures { IfOk result (λ v. v.items ≡ made bytes.now others.now) }

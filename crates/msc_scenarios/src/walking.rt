@@ -1,20 +1,21 @@
 //! Walks through a diagram's statements, block by block.
 
 ghost use Rattle.std.specs.Prelude.{◌≡◌, ◌≤◌, ◌+◌, [], length, map, IfOk, OnOk};
-ghost use Rattle.msc_scenarios.specs.Courses.{at_rest, unended};
+ghost use Rattle.msc_scenarios.specs.Steps.{at_rest, unended};
 ghost use Rattle.msc_mermaid.specs.Reading.{Leaves};
-ghost use Rattle.msc_scenarios.specs.Courses.{block, branch_at, broken, choice_of, choose, follow};
-ghost use Rattle.msc_scenarios.specs.Courses.{formed, goes, line_at, meet, message_of, one, owned_by};
-ghost use Rattle.msc_scenarios.specs.Courses.{put, rounds_from, said, side_by_side, start_of, unbroken};
-ghost use Rattle.msc_scenarios.specs.Courses.{walk};
+ghost use Rattle.msc_scenarios.specs.Steps.{block, branch_at, broken, choice_of, choose, follow};
+ghost use Rattle.msc_scenarios.specs.Steps.{formed, goes, line_at, meet, message_of, one, owned_by};
+ghost use Rattle.msc_scenarios.specs.Steps.{put, rounds_from, said, side_by_side, start_of};
+ghost use Rattle.msc_scenarios.specs.Steps.{unbroken};
+ghost use Rattle.msc_scenarios.specs.Steps.{walk};
 
 use crate::ARROW_LIMIT;
-use crate::course::{
-    Ending, Form, Message, Step, branches_of, extent, heads, is_choice, is_exchange, is_loss,
-    is_there,
-};
 use crate::line_name::number_name;
 use crate::naming::made;
+use crate::steps::{
+    Ending, Message, Passage, Step, branches_of, extent, heads, is_choice, is_exchange, is_loss,
+    is_there,
+};
 use listed::Listed;
 use msc_mermaid::{Arrow, DEPTH_LIMIT, Diagram, ImportFault, Kind, Placed, Statement};
 use msc_parser::Name;
@@ -22,8 +23,8 @@ use msc_place::Position;
 use std::alloc::{AllocError, Global};
 use std::marker::Model;
 
-/// A walk: the lines of the diagram, the choices that are given and those that were taken, the
-/// steps and how many arrows are among them, and how it has ended, if it has.
+/// A walk: the lines of the diagram, the given choices and those that were taken, the steps and the
+/// number of arrows among them, and how it has ended, if it has.
 #[derive(Drop)]
 pub struct Walker<'w> {
     lines: &'w [Listed<u8>],
@@ -35,7 +36,7 @@ pub struct Walker<'w> {
 }
 
 impl<'w> Model for Walker<'w> {
-    ghost use Rattle.msc_scenarios.specs.Courses.{Walk};
+    ghost use Rattle.msc_scenarios.specs.Steps.{Walk};
 
     ghost Value = { Walk };
 
@@ -49,7 +50,7 @@ impl<'w> Model for Walker<'w> {
     } };
 }
 
-/// Where a statement begins.
+/// The position at which a statement begins.
 fn start_of(placed: &Placed) -> Position
     ensures { result ≡ start_of placed.now }
 {
@@ -59,7 +60,7 @@ fn start_of(placed: &Placed) -> Position
     }
 }
 
-/// The place of a line.
+/// The index of a line.
 fn line_at(lines: &[Listed<u8>], ident: &[u8]) -> usize
     ensures { result ≡ line_at lines.now ident.now }
 {
@@ -69,7 +70,7 @@ fn line_at(lines: &[Listed<u8>], ident: &[u8]) -> usize
         .count()
 }
 
-/// The message of an arrow in these rounds, where it is lost or arrives.
+/// The message of an arrow in these rounds, lost or not.
 fn message_of(
     alloc: Global,
     lines: &[Listed<u8>],
@@ -97,14 +98,14 @@ fn message_of(
 }
 
 impl Walker<'_> {
-    /// Whether it goes on.
+    /// Whether the walk goes on.
     fn goes(&self) -> bool
         ensures { result ≡ goes self.now.ending }
     {
         matches!(self.ending, Ending::Goes)
     }
 
-    /// Puts one step more.
+    /// Appends a step.
     fn put(&mut self, step: Step) -> Result<(), AllocError>
         ensures { OnOk result (self.new ≡ put step self.old) }
     {
@@ -112,7 +113,7 @@ impl Walker<'_> {
         Ok(())
     }
 
-    /// Has a break end nothing further out.
+    /// Ends the effect of a break, which goes no further out.
     fn heal(&mut self)
         ensures { self.new ≡ unbroken self.old }
     {
@@ -121,7 +122,7 @@ impl Walker<'_> {
         }
     }
 
-    /// Ends what it stands in by a break.
+    /// Ends the enclosing block by a break.
     fn cut_off(&mut self)
         ensures { self.new ≡ broken self.old }
     {
@@ -130,8 +131,8 @@ impl Walker<'_> {
         }
     }
 
-    /// Meets an arrow, where it is lost or arrives.
-    #[tactic(auto, unfolding(crate::specs::Courses::meet))]
+    /// Meets an arrow that is lost or arrives.
+    #[tactic(auto, unfolding(crate::specs::Steps::meet))]
     fn meet(
         &mut self,
         alloc: Global,
@@ -153,8 +154,8 @@ impl Walker<'_> {
         Ok(())
     }
 
-    /// Takes the choice of a block that begins here, and answers it.
-    #[tactic(auto, unfolding(crate::specs::Courses::choose))]
+    /// Takes the choice of a block that begins here, and returns it.
+    #[tactic(auto, unfolding(crate::specs::Steps::choose))]
     fn choose(&mut self, here: Position, most: usize, main: usize) -> Result<usize, AllocError>
         ensures value { IfOk result (λ c. c ≡ choice_of main self.old) }
         ensures taken { OnOk result (self.new ≡ choose here most main self.old) }
@@ -168,8 +169,8 @@ impl Walker<'_> {
         Ok(choice)
     }
 
-    /// Meets an arrow; one that may be lost or arrive by its choice.
-    #[tactic(auto, unfolding(crate::specs::Courses::said))]
+    /// Meets an arrow. If it may be lost or arrive, its choice decides.
+    #[tactic(auto, unfolding(crate::specs::Steps::said))]
     fn say(
         &mut self,
         alloc: Global,
@@ -190,14 +191,14 @@ impl Walker<'_> {
     }
 }
 
-/// A branch, and none where there are fewer.
+/// A branch, or nothing if there are fewer branches.
 pub(crate) fn branch_at<'p>(branches: &[&'p [Placed]], i: usize) -> &'p [Placed]
     ensures { result.now ≡ branch_at (map (λ x. x.now) branches.now) i }
 {
     if i < branches.len() { branches[i] } else { &[] }
 }
 
-/// How many statements behind one belong to it.
+/// The number of statements after one that belong to it.
 pub(crate) fn owned_by(statement: &Statement, rest: &[Placed]) -> usize
     ensures value { result ≡ owned_by statement.now rest.now }
     ensures within { result ≤ length rest.now }
@@ -209,7 +210,7 @@ pub(crate) fn owned_by(statement: &Statement, rest: &[Placed]) -> usize
 }
 
 impl Walker<'_> {
-    /// Goes so many rounds of a loop.
+    /// Walks `count` rounds of a loop.
     #[cycle(walking)]
     fn rounds(
         &mut self,
@@ -233,7 +234,7 @@ impl Walker<'_> {
         Ok(())
     }
 
-    /// Walks parallel branches, one behind the other, with a mark behind each.
+    /// Walks parallel branches, one after the other, with a mark after each.
     #[cycle(walking)]
     fn side_by_side(
         &mut self,
@@ -256,68 +257,68 @@ impl Walker<'_> {
         Ok(())
     }
 
-    /// Does what follows the choice of a block of this form.
+    /// Walks a block of this form with the choice that was taken.
     #[cycle(walking)]
-    #[tactic(auto, unfolding(crate::specs::Courses::follow))]
+    #[tactic(auto, unfolding(crate::specs::Steps::follow))]
     fn follow(
         &mut self,
         alloc: Global,
         depth: usize,
-        form: Form,
+        passage: Passage,
         branches: &[&[Placed]],
         rounds: &[usize],
         choice: usize,
     ) -> Result<(), AllocError>
         ensures { OnOk result (self.new ≡ follow
-            (walk depth) form (map (λ x. x.now) branches.now) rounds.now choice self.old) }
+            (walk depth) passage (map (λ x. x.now) branches.now) rounds.now choice self.old) }
     {
-        match form {
-            Form::OneOf => {
+        match passage {
+            Passage::OneOf => {
                 self.walk(alloc, depth, branch_at(branches, choice), rounds)?;
                 self.heal();
             }
-            Form::Maybe if choice > 0 => {
+            Passage::Maybe if choice > 0 => {
                 self.walk(alloc, depth, branch_at(branches, choice - 1), rounds)?;
                 self.heal();
             }
-            Form::Rounds => {
+            Passage::Rounds => {
                 self.rounds(alloc, depth, branch_at(branches, 0), rounds, choice)?;
                 self.heal();
             }
-            Form::Break if choice > 0 => {
+            Passage::Break if choice > 0 => {
                 self.walk(alloc, depth, branch_at(branches, 0), rounds)?;
                 self.cut_off();
             }
-            Form::First => {
+            Passage::First => {
                 self.walk(alloc, depth, branch_at(branches, 0), rounds)?;
                 if choice > 0 && self.goes() {
                     self.walk(alloc, depth, branch_at(branches, choice), rounds)?;
                 }
                 self.heal();
             }
-            Form::Maybe | Form::Break | Form::Par | Form::Plain => {}
+            Passage::Maybe | Passage::Break | Passage::Par | Passage::Plain => {}
         }
         Ok(())
     }
 
     /// Walks a block of this form, which begins here.
     #[cycle(walking)]
-    #[tactic(auto, unfolding(crate::specs::Courses::formed))]
+    #[tactic(auto, unfolding(crate::specs::Steps::formed))]
     fn formed(
         &mut self,
         alloc: Global,
         depth: usize,
         here: Position,
-        form: Form,
+        passage: Passage,
         branches: &[&[Placed]],
         rounds: &[usize],
     ) -> Result<(), AllocError>
         ensures { OnOk result (self.new ≡ formed
-            (walk depth) here form (map (λ x. x.now) branches.now) rounds.now self.old) }
+            (walk depth) here passage (map (λ x. x.now) branches.now) rounds.now self.old) }
     {
-        match form {
-            Form::Plain => self.walk(alloc, depth, branch_at(branches, 0), rounds),
-            Form::Par => {
+        match passage {
+            Passage::Plain => self.walk(alloc, depth, branch_at(branches, 0), rounds),
+            Passage::Par => {
                 self.put(Step::Opens(here))?;
                 self.side_by_side(alloc, depth, branches, rounds)?;
                 if self.goes() {
@@ -326,18 +327,18 @@ impl Walker<'_> {
                 Ok(())
             }
             _ => {
-                let choice = self.choose(here, form.most(branches.len()), form.main())?;
+                let choice = self.choose(here, passage.most(branches.len()), passage.main())?;
                 if !self.goes() {
                     return Ok(());
                 }
-                self.follow(alloc, depth, form, branches, rounds, choice)
+                self.follow(alloc, depth, passage, branches, rounds, choice)
             }
         }
     }
 
     /// Walks a block of this kind, which begins here, with these statements inside.
     #[cycle(walking)]
-    #[tactic(auto, unfolding(crate::specs::Courses::block))]
+    #[tactic(auto, unfolding(crate::specs::Steps::block))]
     fn block(
         &mut self,
         alloc: Global,
@@ -354,11 +355,11 @@ impl Walker<'_> {
             return Ok(());
         }
         let branches = branches_of(alloc, inside)?;
-        let form = Form::of(kind, branches.len());
-        self.formed(alloc, depth, here, form, branches.as_slice(), rounds)
+        let passage = Passage::of(kind, branches.len());
+        self.formed(alloc, depth, here, passage, branches.as_slice(), rounds)
     }
 
-    /// Walks one statement, with those behind it.
+    /// Walks one statement and the statements that it owns.
     #[cycle(walking)]
     fn one(
         &mut self,
@@ -381,7 +382,7 @@ impl Walker<'_> {
         }
     }
 
-    /// Walks statements, with at most so many blocks inside each other.
+    /// Walks statements, with at most this number of nested blocks.
     #[cycle(walking)]
     fn walk(
         &mut self,
@@ -414,7 +415,8 @@ impl Walker<'_> {
 }
 
 impl<'w> Walker<'w> {
-    /// The walk through a diagram with these choices, and the main ones where they aren't given.
+    /// The walk through a diagram with these choices, and with the main choice at each further
+    /// block.
     pub fn through(
         alloc: Global,
         diagram: &'w Diagram,
@@ -449,7 +451,8 @@ impl<'w> Walker<'w> {
         self.lines
     }
 
-    /// Nothing, or why the walk has no draft beside its lines.
+    /// Nothing, or the fault because of which the walk has no draft: the fault that stopped it, or
+    /// that more choices are given than were taken.
     pub fn whole(&self) -> Result<(), ImportFault>
         ensures { Leaves result self.now (unended self.now self.now.ending) }
     {

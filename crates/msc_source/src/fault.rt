@@ -29,8 +29,8 @@ impl From<AllocError> for ReadFault {
     }
 }
 
-/// Why a text has no chart. The first that stands is answered, in this order, but for want of
-/// memory, which may come at any growth.
+/// Why a text has no chart. The first of these variants that applies is returned, except that
+/// `Memory` may come at any growth.
 #[derive(Clone, Copy, Debug, PartialEq, Eq, Error)]
 pub enum SourceFault {
     /// The text has no draft.
@@ -47,7 +47,7 @@ pub enum SourceFault {
 impl From<ParseFault> for SourceFault {
     ghost from_gives = { λ f e. e ≡ refusal_of f };
 
-    /// Want of memory is never nested.
+    /// `Memory` is never nested.
     fn from(fault: ParseFault) -> SourceFault {
         match fault {
             ParseFault::Memory => SourceFault::Memory,
@@ -59,7 +59,7 @@ impl From<ParseFault> for SourceFault {
 impl From<ChartFault> for SourceFault {
     ghost from_gives = { λ f e. e ≡ chart_refusal_of f };
 
-    /// Want of memory is never nested.
+    /// `Memory` is never nested.
     fn from(fault: ChartFault) -> SourceFault {
         match fault {
             ChartFault::Memory => SourceFault::Memory,

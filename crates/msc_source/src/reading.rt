@@ -10,13 +10,14 @@ use msc_lexer::TEXT_LIMIT;
 use std::alloc::{AllocError, Global};
 use std::io::{ErrorKind, Read};
 
-/// The most bytes that are read: one more than a text may have, so that a longer one is refused.
+/// The greatest number of bytes that are read: one more than a text may have, so that a longer one
+/// is refused.
 pub const BYTE_LIMIT: usize = TEXT_LIMIT + 1;
 
-/// The most calls of `read` on one input.
+/// The greatest number of calls of `read` on one input.
 pub const CALL_LIMIT: u32 = 2_097_152;
 
-/// How many bytes one call of `read` may give.
+/// The greatest number of bytes of one call of `read`.
 const CHUNK: usize = 16_384;
 
 /// Room for the bytes of one call of `read`.
@@ -26,8 +27,8 @@ fn chunk_of(alloc: Global, len: usize) -> Result<Vec<u8>, AllocError>
     vec![in alloc; 0; len]
 }
 
-/// Calls `read` once, for no more bytes than the limit leaves, and puts what it gave behind
-/// `bytes`. Answers whether the input has ended or the limit is reached.
+/// Calls `read` once, for at most the bytes that the limit leaves, and appends them to `bytes`.
+/// Returns whether the input has ended or the limit is reached.
 fn read_once<R: Read>(
     reader: &mut R,
     chunk: &mut [u8],
@@ -56,10 +57,10 @@ fn read_once<R: Read>(
 
 /// All bytes of a reader, or the first [`BYTE_LIMIT`] of them.
 ///
-/// `Device` is answered where a read fails, with its error, or where the input has not ended after
+/// `Device` is returned if a read fails, with its error, or if the input has not ended after
 /// [`CALL_LIMIT`] calls of `read`, as one that took too long; a read that was interrupted is tried
-/// again. `Memory` is answered where a growth of memory was refused. After a fault some bytes may
-/// have been taken from the reader.
+/// again. `Memory` is returned if a growth of memory was refused. After a fault some bytes may have
+/// been taken from the reader.
 pub fn read_all<R: Read>(alloc: Global, reader: &mut R) -> Result<Vec<u8>, ReadFault>
     ensures bytes { IfOk result
         (λ v. IfSome (R.remaining reader.old) (λ xs. v.items ≡ take BYTE_LIMIT xs)) }

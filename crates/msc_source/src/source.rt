@@ -13,7 +13,7 @@ use msc_parser::{Draft, parse};
 use std::alloc::Global;
 use std::marker::Model;
 
-/// A text and its draft, for whoever prints the draft: drafts are what takes most memory.
+/// A text and its draft, for callers that print the draft: drafts take most of the memory.
 #[derive(Drop)]
 pub struct Reading<'t> {
     language: Language,
@@ -32,8 +32,8 @@ impl<'t> Model for Reading<'t> {
 }
 
 impl<'t> Reading<'t> {
-    /// The draft of a text, or why it has none: its first fault, or `Memory`. No fault of a chart
-    /// comes.
+    /// The draft of a text, or why it has none: its first fault, or `Memory`. It returns no fault
+    /// of a chart.
     pub fn of(alloc: Global, language: Language, text: &'t [u8]) -> Result<Reading<'t>, SourceFault>
         ensures { IsRead language text.now result }
     {
@@ -61,8 +61,8 @@ impl<'t> Reading<'t> {
         self.text
     }
 
-    /// What every text that was read keeps. It does nothing; a caller calls it to rest its own
-    /// proof on that.
+    /// The facts that hold for every text that was read. It does nothing when it runs; a caller
+    /// that needs these facts calls it.
     pub fn drafted(&self)
         ensures { IsDrafted self.now }
     {
@@ -90,11 +90,11 @@ impl<'t> Model for Source<'t> {
 
 impl<'t> Source<'t> {
     /// The chart of a text that was read, or why it has none: the first fault of its draft, or
-    /// `Memory`. The draft stays with who holds it.
+    /// `Memory`. The caller keeps the draft.
     pub fn of_reading(alloc: Global, read: &Reading<'t>) -> Result<Source<'t>, SourceFault>
         ensures told { IsReading read.now.language read.now.text result }
 
-        // The chart is that of the draft which is at hand, so both may be spoken of at once.
+        // The chart is that of the caller's draft, so both may be used at once.
         ensures drawn { IfOk result (λ source. source.chart ≡ chart_of read.now.draft) }
         ensures faultless { OnOk result (IsFaultless read.now.draft) }
     {
@@ -108,7 +108,7 @@ impl<'t> Source<'t> {
     }
 
     /// A text in its language with its chart, or why it has none: its first fault, the first fault
-    /// of its draft, or `Memory`. The draft goes once the chart is made.
+    /// of its draft, or `Memory`. The draft is dropped once the chart is made.
     pub fn of(alloc: Global, language: Language, text: &'t [u8]) -> Result<Source<'t>, SourceFault>
         ensures { IsReading language text.now result }
     {
@@ -116,7 +116,7 @@ impl<'t> Source<'t> {
         Source::of_reading(alloc, &read)
     }
 
-    /// The chart alone. It takes no memory.
+    /// The chart only. It takes no memory.
     pub fn into_chart(self) -> Chart
         ensures { result ≡ self.entry.chart }
     {
@@ -137,7 +137,8 @@ impl<'t> Source<'t> {
         self.text
     }
 
-    /// What every source keeps. It does nothing; a caller calls it to rest its own proof on that.
+    /// The facts that hold for every source. It does nothing when it runs; a caller that needs
+    /// these facts calls it.
     pub fn source(&self)
         ensures { IsSource self.now }
     {

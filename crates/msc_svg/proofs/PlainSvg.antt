@@ -6,7 +6,7 @@ use Rattle.std.specs.List.{flat_map, range_with_len}
 use Rattle.msc_picture.specs.declared.scene.Act.{Act}
 use Rattle.msc_picture.specs.declared.scene.Act.TheVariants.{Sends, Takes, Does}
 use Rattle.msc_picture.specs.declared.scene.Arrow.{Arrow}
-use Rattle.msc_picture.specs.declared.scene.Mark.{Mark}
+use Rattle.msc_picture.specs.declared.scene.RaceBar.{RaceBar}
 use Rattle.msc_picture.specs.declared.scene.Scene.{Scene}
 use Rattle.msc_picture.specs.declared.scene.Spot.{Spot}
 use Rattle.msc_picture.specs.Columns.{no_head}
@@ -19,7 +19,7 @@ use Rattle.msc_svg.specs.declared.caption.Side.TheVariants.{Middle, Right, Left}
 use Rattle.msc_svg.specs.declared.layout.Layout.{Layout}
 use Rattle.msc_svg.specs.Actions.{action_box}
 use Rattle.msc_svg.specs.Captions.{act_captions, arrow_label, caption_class, caption_node, caption_plate, captions_of, comes_from_right, end_number, goes_right, label_class, label_of, other_label, plate, plates, spot_captions}
-use Rattle.msc_svg.specs.Elements.{act_nodes, arrow_node, axis_from, axis_nodes, badge_of, box_class, boxes, capsule_of, count_text, end_at, end_by, ends_at, foot_node, ground_nodes, head_nodes, heading_class, heading_node, heading_nodes, instance_nodes, is_hit, mark_nodes, open_nodes, open_path, other_path, own_path, picture_nodes, plate_nodes, spot_nodes, stretch_nodes, stretches, tick_path, upper_nodes, words_at, words_nodes}
+use Rattle.msc_svg.specs.Elements.{act_nodes, arrow_node, axis_from, axis_nodes, badge_of, box_class, boxes, capsule_of, count_text, end_at, end_by, ends_at, foot_node, ground_nodes, head_nodes, heading_class, heading_node, heading_nodes, instance_nodes, is_hit, bar_nodes, open_nodes, open_path, other_path, own_path, picture_nodes, plate_nodes, spot_nodes, stretch_nodes, stretches, tick_path, upper_nodes, words_at, words_nodes}
 use Rattle.msc_svg.specs.Layouts.{at, half, has_kind, layout_of}
 use Rattle.msc_svg.specs.Places.{axis, event_middle, place}
 use Rattle.msc_svg.specs.Svg.{card, heading_of, size_attributes, style, svg_attributes, svg_node, svg_text, tip, title_of, view_box}
@@ -92,7 +92,7 @@ module _ (s : Scene) (l : Layout) (texts : HasPlainTexts s) where
       (axis_nodes l (axis l i) (stretches s l i)) (plain_head (axis l i) (half s i) i)
       (plain_line_of (axis l i) (stretches s l i))
 
-  -- a mark
+  -- a bar
   plain_doing : (x e : ℕ) (act : Act) → PlainLines (end_by s l x e act)
   plain_doing x e (Sends m) = next_line _ [] (circle_plain x (place s l e)) no_lines
   plain_doing x e (Takes m) = next_line _ [] (circle_plain x (place s l e)) no_lines
@@ -107,12 +107,12 @@ module _ (s : Scene) (l : Layout) (texts : HasPlainTexts s) where
       flat_lines (λ e. end_at s l x e (slice_get s.spots e)) events
       (λ e. plain_end x e (slice_get s.spots e))
 
-  plain_mark : (mark : Mark) → PlainLines (mark_nodes s l mark)
-  plain_mark mark =
-      let x = axis l mark.instance in
-      next_line (capsule_of s l mark) _ (rect_plain (codes "race") _ 9 (plain_by _ refl))
-      (join_lines (ends_at s l x mark.upper) (ends_at s l x mark.lower) (plain_ends x mark.upper)
-      (plain_ends x mark.lower))
+  plain_bar : (bar : RaceBar) → PlainLines (bar_nodes s l bar)
+  plain_bar bar =
+      let x = axis l bar.instance in
+      next_line (capsule_of s l bar) _ (rect_plain (codes "race") _ 9 (plain_by _ refl))
+      (join_lines (ends_at s l x bar.upper) (ends_at s l x bar.lower) (plain_ends x bar.upper)
+      (plain_ends x bar.lower))
 
   -- an arrow
   plain_own : (a : Arrow) → is_plain (own_path s l a) ≡ true
@@ -136,10 +136,10 @@ module _ (s : Scene) (l : Layout) (texts : HasPlainTexts s) where
       → PlainLines (ground_nodes s l heading)
   plain_low heading p =
       join_lines _ (map (arrow_node s l) s.arrows)
-      (join_lines _ (flat_map (mark_nodes s l) s.marks)
+      (join_lines _ (flat_map (bar_nodes s l) s.bars)
       (join_lines (heading_nodes heading) _ (plain_heading heading p)
       (flat_lines (instance_nodes s l) (range_with_len 0 (length s.heads)) plain_instance))
-      (flat_lines (mark_nodes s l) s.marks plain_mark))
+      (flat_lines (bar_nodes s l) s.bars plain_bar))
       (map_lines (arrow_node s l) s.arrows plain_arrow)
 
 -- several labels and numbers
@@ -244,20 +244,20 @@ module _ (s : Scene) (l : Layout) (texts : HasPlainTexts s) where
   spot_box e (Some spot) is = act_box e spot.instance spot.act (texts.acts e spot is)
 
   -- the badges
-  badge_plain : (mark : Mark) → PlainLines (badge_of l mark)
-  badge_plain mark =
-      let t = count_text mark in
-      choice_lines (nat_eq mark.first 0) [] _ no_lines
+  badge_plain : (bar : RaceBar) → PlainLines (badge_of l bar)
+  badge_plain bar =
+      let t = count_text bar in
+      choice_lines (nat_eq bar.first 0) [] _ no_lines
       (next_line _ _ (rect_plain (codes "count") _ 7 (plain_by _ refl))
-      (next_line _ [] (text_plain (codes "badge") (axis l mark.instance) _ t (plain_by _ refl)
-      (plain_choice (nat_eq mark.first mark.last) (decimal mark.first) _ (plain_decimal mark.first)
-      (plain_join _ (decimal mark.last) (plain_join (decimal mark.first) (codes "-")
-      (plain_decimal mark.first) (plain_by _ refl)) (plain_decimal mark.last)))) no_lines))
+      (next_line _ [] (text_plain (codes "badge") (axis l bar.instance) _ t (plain_by _ refl)
+      (plain_choice (nat_eq bar.first bar.last) (decimal bar.first) _ (plain_decimal bar.first)
+      (plain_join _ (decimal bar.last) (plain_join (decimal bar.first) (codes "-")
+      (plain_decimal bar.first) (plain_by _ refl)) (plain_decimal bar.last)))) no_lines))
 
   plain_upper : PlainLines (upper_nodes s l)
   plain_upper =
       let captions = captions_of s l in
-      join_lines _ (flat_map (badge_of l) s.marks)
+      join_lines _ (flat_map (badge_of l) s.bars)
       (join_lines _ (map caption_node captions)
       (join_lines (plate_nodes captions) (boxes s l)
       (choice_lines (nat_eq (length captions) 0) [] _ no_lines
@@ -265,7 +265,7 @@ module _ (s : Scene) (l : Layout) (texts : HasPlainTexts s) where
       (plain_flat caption_plate captions caption_plate_plain)) no_lines))
       (flat_lines (λ e. spot_nodes s l e (slice_get s.spots e)) (events_of_rows s.rows)
       (λ e. spot_box e (slice_get s.spots e) refl))) (captions_plain captions all_captions))
-      (flat_lines (badge_of l) s.marks badge_plain)
+      (flat_lines (badge_of l) s.bars badge_plain)
 
 -- the elements of a picture
 pub elements_plain : (s : Scene) (l : Layout) (heading : List (List ℕ)) → HasPlainTexts s

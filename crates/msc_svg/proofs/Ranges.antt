@@ -7,7 +7,7 @@ use Rattle.std.proofs.lemmas.Grind.{flat_map-append}
 use Rattle.msc_tree.specs.Trees.{Node, line_text, lines_text}
 
 -- a range with its last number apart
-range_last : (n : ℕ) (a j : ℕ) → a + n ≡ j → range_with_len a (suc n) ≡ range_with_len a n ++ j ∷ []
+pub range_last : (n : ℕ) (a j : ℕ) → a + n ≡ j → range_with_len a (suc n) ≡ range_with_len a n ++ j ∷ []
 range_last zero a j e = let same : a ≡ j = omega arith in ap (λ k. k ∷ []) same
 range_last (suc n) a j e = ap (λ l. a ∷ l) (range_last n (a + 1) j (omega arith))
 
@@ -16,15 +16,6 @@ pub range_more : (n : ℕ) → range_with_len 0 (n + 1) ≡ range_with_len 0 n +
 range_more n =
     let on : n + 1 ≡ suc n = omega arith in
     ap (range_with_len 0) on ∙ range_last n 0 n (omega arith)
-
--- one more value of a function
-pub map_next : {X : Type 0} (f : ℕ → X) (n : ℕ) (xs next : List X) (x : X)
-    → xs ≡ map f (range_with_len 0 n) → x ≡ f n → next ≡ xs ++ x ∷ []
-    → next ≡ map f (range_with_len 0 (n + 1))
-map_next {X} f n xs next x so_far is more =
-    more ∙ ap (λ (l : List X). l ++ x ∷ []) so_far
-    ∙ ap (λ (y : X). map f (range_with_len 0 n) ++ y ∷ []) is
-    ∙ sym (map-range_with_len_more f 0 n n (omega arith))
 
 -- the lines of nodes behind others
 pub lines_append : (xs ys : List Node) → lines_text (xs ++ ys) ≡ lines_text xs ++ lines_text ys

@@ -7,7 +7,7 @@ use Rattle.msc_picture.specs.declared.scene.Act.TheVariants.{Sends, Takes, Does}
 use Rattle.msc_picture.specs.declared.scene.Arrow.{Arrow}
 use Rattle.msc_picture.specs.declared.scene.Band.{Band}
 use Rattle.msc_picture.specs.declared.scene.Head.{Head}
-use Rattle.msc_picture.specs.declared.scene.Mark.{Mark}
+use Rattle.msc_picture.specs.declared.scene.RaceBar.{RaceBar}
 use Rattle.msc_picture.specs.declared.scene.Scene.{Scene}
 use Rattle.msc_picture.specs.declared.scene.Spot.{Spot}
 use Rattle.msc_picture.specs.Columns.{no_head}
@@ -133,23 +133,23 @@ abbrev pub capsule : ℕ → ℕ → ℕ → Node
 capsule x least most =
     rect (codes "race") (area (x - 9) (least - 9) 18 ((most - least) + 18)) 9
 
--- the least place of the events of a mark
-abbrev pub mark_top : Scene → Layout → Mark → ℕ
-mark_top s l mark = least_place s l (least_place s l l.foot mark.upper) mark.lower
+-- the least place of the events of a bar
+abbrev pub bar_top : Scene → Layout → RaceBar → ℕ
+bar_top s l bar = least_place s l (least_place s l l.foot bar.upper) bar.lower
 
--- the greatest place of the events of a mark
-abbrev pub mark_end : Scene → Layout → Mark → ℕ
-mark_end s l mark = greatest_place s l (greatest_place s l 0 mark.upper) mark.lower
+-- the greatest place of the events of a bar
+abbrev pub bar_end : Scene → Layout → RaceBar → ℕ
+bar_end s l bar = greatest_place s l (greatest_place s l 0 bar.upper) bar.lower
 
--- the capsule of a mark
-abbrev pub capsule_of : Scene → Layout → Mark → Node
-capsule_of s l mark = capsule (axis l mark.instance) (mark_top s l mark) (mark_end s l mark)
+-- the capsule of a bar
+abbrev pub capsule_of : Scene → Layout → RaceBar → Node
+capsule_of s l bar = capsule (axis l bar.instance) (bar_top s l bar) (bar_end s l bar)
 
--- a mark
-abbrev pub mark_nodes : Scene → Layout → Mark → List Node
-mark_nodes s l mark =
-    let x = axis l mark.instance in
-    capsule_of s l mark ∷ (ends_at s l x mark.upper ++ ends_at s l x mark.lower)
+-- a bar
+abbrev pub bar_nodes : Scene → Layout → RaceBar → List Node
+bar_nodes s l bar =
+    let x = axis l bar.instance in
+    capsule_of s l bar ∷ (ends_at s l x bar.upper ++ ends_at s l x bar.lower)
 
 -- the arrow of a message to oneself
 abbrev pub own_path : Scene → Layout → Arrow → List ℕ
@@ -182,9 +182,9 @@ words_at x y box k =
 abbrev pub words_nodes : ℕ → ℕ → ActionBox → List Node
 words_nodes x y box = flat_map (words_at x y box) (range_with_len 0 (length box.lines))
 
--- e is an event of a mark
+-- e is an event of a bar
 abbrev pub is_hit : Scene → ℕ → Bool
-is_hit s e = list_any (λ mark. is_marked mark e) s.marks
+is_hit s e = list_any (λ bar. is_marked bar e) s.bars
 
 -- the class of the box of event e
 abbrev pub box_class : Scene → ℕ → List ℕ
@@ -212,11 +212,11 @@ spot_nodes s l e (Some spot) = act_nodes s l e spot.instance spot.act
 abbrev pub boxes : Scene → Layout → List Node
 boxes s l = flat_map (λ e. spot_nodes s l e (slice_get s.spots e)) (events_of_rows s.rows)
 
--- the numbers of a mark's races
-abbrev pub count_text : Mark → List ℕ
-count_text mark =
-    cond (nat_eq mark.first mark.last) (decimal mark.first)
-    ((decimal mark.first ++ codes "-") ++ decimal mark.last)
+-- the numbers of a bar's races
+abbrev pub count_text : RaceBar → List ℕ
+count_text bar =
+    cond (nat_eq bar.first bar.last) (decimal bar.first)
+    ((decimal bar.first ++ codes "-") ++ decimal bar.last)
 
 -- the plate of a badge with a text so long, where lower events begin
 abbrev pub count_rect : ℕ → ℕ → ℕ → Node
@@ -228,24 +228,24 @@ abbrev pub badge_nodes : ℕ → ℕ → List ℕ → List Node
 badge_nodes x z t =
     count_rect x z (length t) ∷ text_at (codes "badge") x (z + 1) t ∷ []
 
--- the badge of a mark with a number
-abbrev pub badge_of : Layout → Mark → List Node
-badge_of l mark =
-    cond (nat_eq mark.first 0) []
-    (badge_nodes (axis l mark.instance) (least_edge l mark.lower) (count_text mark))
+-- the badge of a bar with a number
+abbrev pub badge_of : Layout → RaceBar → List Node
+badge_of l bar =
+    cond (nat_eq bar.first 0) []
+    (badge_nodes (axis l bar.instance) (least_edge l bar.lower) (count_text bar))
 
--- what lies below the labels and numbers: the heading, the instances, the marks and the arrows
+-- what lies below the labels and numbers: the heading, the instances, the bars and the arrows
 abbrev pub ground_nodes : Scene → Layout → List (List ℕ) → List Node
 ground_nodes s l heading =
     ((heading_nodes heading
     ++ flat_map (instance_nodes s l) (range_with_len 0 (length s.heads)))
-    ++ flat_map (mark_nodes s l) s.marks) ++ map (arrow_node s l) s.arrows
+    ++ flat_map (bar_nodes s l) s.bars) ++ map (arrow_node s l) s.arrows
 
 -- the labels and numbers on their plates, the boxes of actions, and the badges
 abbrev pub upper_nodes : Scene → Layout → List Node
 upper_nodes s l =
     ((plate_nodes (captions_of s l) ++ boxes s l) ++ map caption_node (captions_of s l))
-    ++ flat_map (badge_of l) s.marks
+    ++ flat_map (badge_of l) s.bars
 
 -- the elements of a picture
 abbrev pub picture_nodes : Scene → Layout → List (List ℕ) → List Node

@@ -1,4 +1,4 @@
-//! The boxes of actions: how their texts are laid into lines, and how much room they take.
+//! The boxes of actions: the lines of their texts, and the room that they take.
 
 ghost use Rattle.std.specs.Prelude.{◌≡◌, ◌+◌, ◌*◌, ◌++◌, ◌∷◌, [], IfOk, List, OnOk, fold, get_or};
 ghost use Rattle.std.specs.Prelude.{length, max, ℕ};
@@ -12,7 +12,7 @@ use msc_parser::Label;
 use msc_picture::plus;
 use std::alloc::{AllocError, Global};
 
-/// The most characters of a line.
+/// The greatest number of characters of a line.
 const LINE: usize = 24;
 
 /// A part of a word: at most as many characters as a line has, and whether others of the word come
@@ -32,7 +32,7 @@ pub struct ActionBox {
     pub up: usize,
 }
 
-/// Puts the part of a word that ends here behind the parts, if there is one.
+/// Appends the part of a word that ends here to the parts, if there is one.
 fn end_part(
     parts: &mut Vec<WordPart>,
     alloc: Global,
@@ -51,8 +51,8 @@ fn end_part(
     Ok(())
 }
 
-/// Takes one more byte of a text, behind the beginning of a part. Answers whether what is held then
-/// is a later part of its word.
+/// Takes one more byte of a text, after the beginning of a part. Returns whether the part that is
+/// held then is a later part of its word.
 fn take_byte(
     parts: &mut Vec<WordPart>,
     alloc: Global,
@@ -93,7 +93,7 @@ fn parts_of(alloc: Global, text: &[u8]) -> Result<Vec<WordPart>, AllocError>
     Ok(parts)
 }
 
-/// Whether a part goes behind the line so far.
+/// Whether a part fits on the line so far.
 fn fits_behind(line: &[u8], part: &WordPart) -> Result<bool, AllocError>
     ensures { IfOk result (λ fits. fits ≡ fits_behind line.now part.now) }
 {
@@ -137,7 +137,7 @@ fn filled(alloc: Global, text: &[u8]) -> Result<Vec<Label>, AllocError>
     Ok(lines)
 }
 
-/// The last line that is shown where there are more.
+/// The last line that is shown if there are more.
 fn cut_line(alloc: Global, line: &[u8]) -> Result<Label, AllocError>
     ensures { IfOk result (λ cut. cut ≡ cut_line line.now) }
 {

@@ -24,7 +24,7 @@ use msc_picture::{Act, Arrow, Scene, Spot, plus};
 use msc_tree::{put_decimal, put_point, put_step, put_text_at};
 use std::alloc::{AllocError, Global};
 
-/// Where a text stands: around its place, right of it, or left of it.
+/// The side of a text: around its place, right of it, or left of it.
 #[derive(Clone, Copy)]
 pub enum Side {
     Middle,
@@ -70,7 +70,7 @@ fn number(alloc: Global, side: Side, x: usize, y: usize, e: Event) -> Result<Cap
     })
 }
 
-/// The middle of the gap beside instance `i` towards instance `j`.
+/// The middle of the gap next to instance `i` towards instance `j`.
 fn gap_middle(layout: &Layout, i: u32, j: u32) -> Result<usize, AllocError>
     ensures { IfOk result (λ x. x ≡ gap_middle layout.now i j) }
 {
@@ -115,7 +115,7 @@ fn arrow_label(alloc: Global, layout: &Layout, a: &Arrow) -> Result<Caption, All
     label(alloc, Side::Right, x, y, a.label.as_slice())
 }
 
-/// Puts the label of message `m` behind the captions, if there is one.
+/// Appends the label of message `m` to the captions, if there is one.
 fn put_label(
     captions: &mut Vec<Caption>,
     alloc: Global,
@@ -189,7 +189,7 @@ fn action_number(
     number(alloc, Side::Right, x, y, e)
 }
 
-/// Puts the label of message `m`, and the number of its output `e` on instance `i`, behind the
+/// Appends the label of message `m`, and the number of its output `e` on instance `i`, to the
 /// captions.
 fn put_sent(
     captions: &mut Vec<Caption>,
@@ -223,7 +223,7 @@ fn taken_number(
     end_number(alloc, scene, layout, e, i, comes_from_right(scene, m))
 }
 
-/// Puts the label of an output and the number of event `e` behind the captions.
+/// Appends the label of an output and the number of event `e` to the captions.
 fn put_act(
     captions: &mut Vec<Caption>,
     alloc: Global,
@@ -249,7 +249,7 @@ fn put_act(
     }
 }
 
-/// The same of event `e`, if there is one.
+/// The same for event `e`, if there is one.
 fn put_captions(
     captions: &mut Vec<Caption>,
     alloc: Global,
@@ -295,7 +295,7 @@ fn label_class(side: Side) -> &'static [u8]
     }
 }
 
-/// Puts the element of a label or a number behind a page.
+/// Appends the element of a label or a number to a page.
 fn put_caption(page: &mut Vec<u8>, alloc: Global, c: &Caption) -> Result<(), AllocError>
     ensures { OnOk result
         (page.new.items ≡ page.old.items ++ line_text (caption_node c.now)) }
@@ -308,7 +308,7 @@ fn put_caption(page: &mut Vec<u8>, alloc: Global, c: &Caption) -> Result<(), All
     put_text_at(page, class.as_slice(), c.x, c.y, c.text.as_slice())
 }
 
-/// Puts the elements of labels and numbers behind a page.
+/// Appends the elements of labels and numbers to a page.
 pub fn put_caption_nodes(
     page: &mut Vec<u8>,
     alloc: Global,
@@ -323,7 +323,7 @@ pub fn put_caption_nodes(
     Ok(())
 }
 
-/// How wide a label or a number is.
+/// The width of a label or a number.
 fn caption_width(c: &Caption) -> Result<usize, AllocError>
     ensures { IfOk result (λ w. w ≡ caption_width c.now) }
 {
@@ -334,7 +334,7 @@ fn caption_width(c: &Caption) -> Result<usize, AllocError>
     times(8, long)
 }
 
-/// Where a text that is so wide begins.
+/// The beginning of a text of width `w`.
 fn begin_at(side: Side, x: usize, w: usize) -> usize
     ensures { result ≡ begin_at side x w }
 {
@@ -345,7 +345,7 @@ fn begin_at(side: Side, x: usize, w: usize) -> usize
     }
 }
 
-/// Puts a plate behind a path.
+/// Appends a plate to a path.
 fn put_plate(d: &mut Vec<u8>, u: usize, v: usize, w: usize, h: usize) -> Result<(), AllocError>
     ensures { OnOk result (d.new.items ≡ d.old.items ++ plate u v w h) }
 {
@@ -356,7 +356,7 @@ fn put_plate(d: &mut Vec<u8>, u: usize, v: usize, w: usize, h: usize) -> Result<
     d.extend_from_slice(b"z")
 }
 
-/// Puts the plate of a label or a number behind a path.
+/// Appends the plate of a label or a number to a path.
 fn put_caption_plate(d: &mut Vec<u8>, c: &Caption) -> Result<(), AllocError>
     ensures { OnOk result (d.new.items ≡ d.old.items ++ caption_plate c.now) }
 {

@@ -1,4 +1,4 @@
-//! How deep messages to oneself reach from their axes.
+//! The depths of messages to oneself: how far they reach from their axes.
 
 ghost use Rattle.std.specs.Prelude.{◌≡◌, ◌<◌, [], IfOk, List, OnOk, filter, fold, length, max};
 ghost use Rattle.std.specs.Prelude.{replicate, slice_get, slice_set};
@@ -39,7 +39,7 @@ fn next_depth(under: &[Underway], instance: u32) -> Result<usize, AllocError>
     Ok(most)
 }
 
-/// Puts a number into a table. A place behind it takes none.
+/// Puts a number into a table. A place past it takes none.
 pub fn put(table: &mut Vec<usize>, at: usize, n: usize)
     ensures { table.new.items ≡ slice_set table.old.items at n }
 {
@@ -48,7 +48,7 @@ pub fn put(table: &mut Vec<usize>, at: usize, n: usize)
     }
 }
 
-/// The output `e` of message `m` of an instance to itself is reached.
+/// Reaches the output `e` of message `m` of an instance to itself.
 fn begin(
     table: &mut Vec<usize>,
     under: &mut Vec<Underway>,
@@ -69,7 +69,7 @@ fn begin(
     Ok(())
 }
 
-/// The output `e` of message `m` is reached.
+/// Reaches the output `e` of message `m`.
 fn send(
     table: &mut Vec<usize>,
     under: &mut Vec<Underway>,
@@ -89,7 +89,7 @@ fn send(
     Ok(())
 }
 
-/// The messages under way but message `m`, whose input is reached.
+/// The messages under way without message `m`, whose input is reached.
 fn others(alloc: Global, under: &[Underway], m: u32) -> Result<Vec<Underway>, AllocError>
     ensures { IfOk result (λ kept. kept.items ≡ filter (is_other m) under.now) }
 {
@@ -102,7 +102,7 @@ fn others(alloc: Global, under: &[Underway], m: u32) -> Result<Vec<Underway>, Al
     Ok(kept)
 }
 
-/// Event `e` is reached.
+/// Reaches event `e`.
 fn walk(
     table: &mut Vec<usize>,
     under: &mut Vec<Underway>,

@@ -52,7 +52,7 @@ fn other_path(
     Ok(d)
 }
 
-/// Puts the arrow of a message behind a page.
+/// Appends the arrow of a message to a page.
 fn put_arrow(
     page: &mut Vec<u8>,
     alloc: Global,
@@ -71,7 +71,7 @@ fn put_arrow(
     put_path(page, b"arrow", other.as_slice())
 }
 
-/// Puts the arrows of the messages behind a page.
+/// Appends the arrows of the messages to a page.
 pub fn put_arrows(
     page: &mut Vec<u8>,
     alloc: Global,
@@ -88,7 +88,7 @@ pub fn put_arrows(
     Ok(())
 }
 
-/// Puts the plates behind a page, where there are events.
+/// Appends the plates to a page, if there are events.
 pub fn put_plates(page: &mut Vec<u8>, alloc: Global, captions: &[Caption]) -> Result<(), AllocError>
     ensures { OnOk result
         (page.new.items ≡ page.old.items ++ lines_text (plate_nodes captions.now)) }
@@ -99,7 +99,7 @@ pub fn put_plates(page: &mut Vec<u8>, alloc: Global, captions: &[Caption]) -> Re
     put_path(page, b"plate", plates(alloc, captions)?.as_slice())
 }
 
-/// Puts line `k` of a box behind a page, where it is not empty.
+/// Appends line `k` of a box to a page, if it is not empty.
 fn put_words_at(
     page: &mut Vec<u8>,
     x: usize,
@@ -125,7 +125,7 @@ fn put_words_at(
     )
 }
 
-/// Puts the lines of a box behind a page.
+/// Appends the lines of a box to a page.
 fn put_words(page: &mut Vec<u8>, x: usize, y: usize, at: &ActionBox) -> Result<(), AllocError>
     ensures { OnOk result
         (page.new.items ≡ page.old.items ++ lines_text (words_nodes x y at.now)) }
@@ -136,14 +136,14 @@ fn put_words(page: &mut Vec<u8>, x: usize, y: usize, at: &ActionBox) -> Result<(
     Ok(())
 }
 
-/// The class of the box of an event that is of a mark, or of none.
+/// The class of the box of an event that belongs to a bar, or to none.
 fn box_class(is_hit: bool) -> &'static [u8]
     ensures { result.now ≡ cond is_hit (codes "action hit") (codes "action") }
 {
     if is_hit { b"action hit" } else { b"action" }
 }
 
-/// Puts a box behind a page.
+/// Appends a box to a page.
 fn put_box(
     page: &mut Vec<u8>,
     class: &[u8],
@@ -164,7 +164,7 @@ fn put_box(
     put_words(page, x, y, at)
 }
 
-/// Puts the box of event `e` behind a page, where it is an action.
+/// Appends the box of event `e` to a page, if it is an action.
 fn put_spot(
     page: &mut Vec<u8>,
     alloc: Global,
@@ -191,7 +191,7 @@ fn put_spot(
     }
 }
 
-/// Puts the boxes of actions behind a page.
+/// Appends the boxes of actions to a page.
 pub fn put_boxes(
     page: &mut Vec<u8>,
     alloc: Global,

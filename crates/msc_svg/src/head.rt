@@ -25,7 +25,7 @@ fn heading_class(k: usize) -> &'static [u8]
     if k == 0 { b"title" } else { b"verdict" }
 }
 
-/// Puts text `k` of a heading behind a page.
+/// Appends text `k` of a heading to a page.
 fn put_heading_text(page: &mut Vec<u8>, heading: &[Label], k: usize) -> Result<(), AllocError>
     requires { k < length heading.now }
     ensures { OnOk result
@@ -36,7 +36,7 @@ fn put_heading_text(page: &mut Vec<u8>, heading: &[Label], k: usize) -> Result<(
     put_text_at(page, heading_class(k), 16, y, text)
 }
 
-/// Puts the texts of a heading behind a page.
+/// Appends the texts of a heading to a page.
 pub fn put_heading(page: &mut Vec<u8>, heading: &[Label]) -> Result<(), AllocError>
     ensures { OnOk result
         (page.new.items ≡ page.old.items ++ lines_text (heading_nodes heading.now)) }
@@ -47,7 +47,7 @@ pub fn put_heading(page: &mut Vec<u8>, heading: &[Label]) -> Result<(), AllocErr
     Ok(())
 }
 
-/// Puts from where to where a band goes behind the stretches, where it is one of instance `i`.
+/// Appends the first and the last place of a band to the stretches, if it is one of instance `i`.
 fn put_stretch(
     stretches: &mut Vec<(usize, usize)>,
     layout: &Layout,
@@ -66,7 +66,7 @@ fn put_stretch(
     Ok(())
 }
 
-/// From where to where the bands of instance `i` go.
+/// The first and the last place of each band of instance `i`.
 fn stretches(
     alloc: Global,
     scene: &Scene,
@@ -132,7 +132,7 @@ fn tick_paths(alloc: Global, x: usize, bands: &[(usize, usize)]) -> Result<Vec<u
     Ok(d)
 }
 
-/// Puts the stretches of an axis and their ends behind a page.
+/// Appends the stretches of an axis and their ends to a page.
 fn put_stretches(
     page: &mut Vec<u8>,
     alloc: Global,
@@ -148,7 +148,7 @@ fn put_stretches(
     put_path(page, b"tick", ticks.as_slice())
 }
 
-/// Puts the open stretches of an axis behind a page, where it has any.
+/// Appends the open stretches of an axis to a page, if it has any.
 fn put_open(
     page: &mut Vec<u8>,
     alloc: Global,
@@ -164,7 +164,7 @@ fn put_open(
     put_stretches(page, alloc, x, bands)
 }
 
-/// How far below the top of a head its name stands.
+/// The distance of the name of a head below its top.
 fn name_drop(layout: &Layout, head: &Head) -> Result<usize, AllocError>
     ensures { IfOk result (λ drop. drop ≡ name_drop layout.now head.now) }
 {
@@ -174,7 +174,7 @@ fn name_drop(layout: &Layout, head: &Head) -> Result<usize, AllocError>
     plus(layout.below.saturating_sub(layout.top) / 2, 4)
 }
 
-/// Puts the kind of an instance behind a page, where it has one.
+/// Appends the kind of an instance to a page, if it has one.
 fn put_kind(page: &mut Vec<u8>, layout: &Layout, x: usize, head: &Head) -> Result<(), AllocError>
     ensures { OnOk result
         (page.new.items ≡ page.old.items ++ lines_text (kind_nodes layout.now x head.now)) }
@@ -186,7 +186,7 @@ fn put_kind(page: &mut Vec<u8>, layout: &Layout, x: usize, head: &Head) -> Resul
     put_text_at(page, b"kind", x, y, head.kind.as_slice())
 }
 
-/// Puts the box of a head so wide to both sides of its axis behind a page.
+/// Appends the box of a head that reaches `w` to both sides of its axis to a page.
 fn put_head_rect(page: &mut Vec<u8>, layout: &Layout, x: usize, w: usize) -> Result<(), AllocError>
     ensures { OnOk result
         (page.new.items ≡ page.old.items ++ line_text (head_rect layout.now x w)) }
@@ -200,7 +200,7 @@ fn put_head_rect(page: &mut Vec<u8>, layout: &Layout, x: usize, w: usize) -> Res
     put_rect(page, b"head", around, 0)
 }
 
-/// Puts the name of an instance behind a page.
+/// Appends the name of an instance to a page.
 fn put_name(page: &mut Vec<u8>, layout: &Layout, x: usize, head: &Head) -> Result<(), AllocError>
     ensures { OnOk result
         (page.new.items ≡ page.old.items ++ line_text (name_node layout.now x head.now)) }
@@ -209,7 +209,7 @@ fn put_name(page: &mut Vec<u8>, layout: &Layout, x: usize, head: &Head) -> Resul
     put_text_at(page, b"name", x, y, head.name.as_slice())
 }
 
-/// Puts a head so wide to both sides of its axis behind a page.
+/// Appends a head that reaches `w` to both sides of its axis to a page.
 fn put_head(
     page: &mut Vec<u8>,
     layout: &Layout,
@@ -225,7 +225,7 @@ fn put_head(
     put_kind(page, layout, x, head)
 }
 
-/// Puts an axis without its stretches behind a page.
+/// Appends an axis without its stretches to a page.
 fn put_axis_path(
     page: &mut Vec<u8>,
     alloc: Global,
@@ -240,7 +240,7 @@ fn put_axis_path(
     put_path(page, b"axis", d.as_slice())
 }
 
-/// Puts the foot of an axis behind a page.
+/// Appends the foot of an axis to a page.
 fn put_foot(page: &mut Vec<u8>, layout: &Layout, x: usize) -> Result<(), AllocError>
     ensures { OnOk result
         (page.new.items ≡ page.old.items ++ line_text (foot_node layout.now x)) }
@@ -254,7 +254,7 @@ fn put_foot(page: &mut Vec<u8>, layout: &Layout, x: usize) -> Result<(), AllocEr
     put_rect(page, b"foot", foot, 0)
 }
 
-/// Puts an axis with its stretches, and its foot, behind a page.
+/// Appends an axis with its stretches, and its foot, to a page.
 fn put_axis(
     page: &mut Vec<u8>,
     alloc: Global,
@@ -271,7 +271,7 @@ fn put_axis(
     Ok(())
 }
 
-/// Puts instance `i` behind a page.
+/// Appends instance `i` to a page.
 fn put_instance(
     page: &mut Vec<u8>,
     alloc: Global,
@@ -291,7 +291,7 @@ fn put_instance(
     Ok(())
 }
 
-/// Puts the instances behind a page.
+/// Appends the instances to a page.
 pub fn put_instances(
     page: &mut Vec<u8>,
     alloc: Global,

@@ -1,4 +1,4 @@
-//! Which events are of marks: the marks are gone through once for all events.
+//! The events of bars. One pass over the bars serves all events.
 
 ghost use Rattle.std.specs.Prelude.{◌≡◌, ◌<◌, ◌||◌, IfOk, false, get_or, length, nat_eq, slice_set};
 ghost use Rattle.std.specs.Prelude.{true, ℕ};
@@ -9,7 +9,7 @@ use msc_chart::Event;
 use msc_picture::Scene;
 use std::alloc::{AllocError, Global};
 
-/// Notes that event `e` is of a mark, where it has a place.
+/// Notes that event `e` belongs to a bar, if it has a place.
 fn note(hits: &mut Vec<bool>, e: Event)
     ensures { hits.new.items ≡ slice_set hits.old.items e true }
 {
@@ -18,7 +18,7 @@ fn note(hits: &mut Vec<bool>, e: Event)
     }
 }
 
-/// Notes that these events are of a mark.
+/// Notes that these events belong to a bar.
 fn note_all(hits: &mut Vec<bool>, events: &[Event])
     ensures long { length hits.new.items ≡ length hits.old.items }
     ensures each { (e : ℕ) → e < length hits.old.items → get_or hits.new.items e false
@@ -29,15 +29,15 @@ fn note_all(hits: &mut Vec<bool>, events: &[Event])
     }
 }
 
-/// Of each event whether it is one of a mark.
+/// For each event, whether it belongs to a bar.
 pub fn hits_of(alloc: Global, scene: &Scene) -> Result<Vec<bool>, AllocError>
     ensures { IfOk result (λ hits. AreHits scene.now hits.items) }
 {
-    let marks = scene.marks.as_slice();
+    let bars = scene.bars.as_slice();
     let mut hits = vec![in alloc; false; scene.spots.as_slice().len()]?;
-    for mark in marks {
-        note_all(&mut hits, mark.upper.as_slice());
-        note_all(&mut hits, mark.lower.as_slice());
+    for bar in bars {
+        note_all(&mut hits, bar.upper.as_slice());
+        note_all(&mut hits, bar.lower.as_slice());
     }
     Ok(hits)
 }

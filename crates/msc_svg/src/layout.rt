@@ -1,4 +1,4 @@
-//! Where everything in a picture stands.
+//! The layout of a picture: the places of its parts.
 
 ghost use Rattle.std.specs.Prelude.{◌≡◌, ◌<◌, ◌≤◌, ◌+◌, ◌*◌, ◌/◌, ◌-◌, IfOk, cond, fold, get_or};
 ghost use Rattle.std.specs.Prelude.{length, map, max, nat_eq, slice_get, ℕ};
@@ -17,9 +17,10 @@ use msc_parser::Label;
 use msc_picture::{Act, Arrow, Head, Row, Scene, plus};
 use std::alloc::{AllocError, Global};
 
-/// Where everything in a picture stands: its width and height, where the heads begin and end, where
-/// the axes end; the axis of each instance, where each row begins and the last one ends, the row of
-/// each event, and by output how deep the arrow of a message to oneself reaches.
+/// The layout of a picture: its width and height; the places at which the heads begin and end, and
+/// at which the axes end; the axis of each instance; the places at which each row begins and the
+/// last one ends; the row of each event; and for each output of a message to oneself how deep its
+/// arrow reaches.
 #[derive(Drop)]
 pub struct Layout {
     pub width: usize,
@@ -33,7 +34,7 @@ pub struct Layout {
     pub depths: Listed<usize>,
 }
 
-/// What numbers add up to, from a first one on.
+/// The sum of numbers and a first one.
 fn total(start: usize, steps: &[usize]) -> Result<usize, AllocError>
     ensures { IfOk result (λ sum. sum ≡ total start steps.now) }
 {
@@ -44,7 +45,7 @@ fn total(start: usize, steps: &[usize]) -> Result<usize, AllocError>
     Ok(sum)
 }
 
-/// A number, and what it comes to after each step.
+/// A number, and the sum after each step.
 fn sums(alloc: Global, start: usize, steps: &[usize]) -> Result<Listed<usize>, AllocError>
     ensures { IfOk result (λ all. all ≡ sums start steps.now) }
 {
@@ -121,7 +122,7 @@ fn head_height(heads: &[Head]) -> usize
     most
 }
 
-/// Puts the number of a row to its events.
+/// Notes the number of a row for its events.
 fn put_row(numbers: &mut Vec<usize>, row: Row, r: usize)
     ensures long { length numbers.new.items ≡ length numbers.old.items }
     ensures each { (e : ℕ) → e < length numbers.old.items → get_or numbers.new.items e 0
@@ -133,7 +134,8 @@ fn put_row(numbers: &mut Vec<usize>, row: Row, r: usize)
     }
 }
 
-/// The numbers of the rows of the events, from the last row up: so each event keeps its first row.
+/// The numbers of the rows of the events. The pass begins with the last row, so each event keeps
+/// its first row.
 fn row_numbers(alloc: Global, scene: &Scene) -> Result<Vec<usize>, AllocError>
     ensures { IfOk result (λ numbers. numbers.items ≡ row_numbers scene.now) }
 {
@@ -155,7 +157,7 @@ fn is_short_arrow(numbers: &[usize], arrow: &Arrow) -> bool
         && at(numbers, arrow.output as usize) == at(numbers, arrow.input as usize)
 }
 
-/// The same of message `m`, if there is one.
+/// The same for message `m`, if there is one.
 pub fn is_short(numbers: &[usize], scene: &Scene, m: u32) -> bool
     ensures { result ≡ is_short numbers.now (slice_get scene.now.arrows m) }
 {
@@ -165,7 +167,7 @@ pub fn is_short(numbers: &[usize], scene: &Scene, m: u32) -> bool
     }
 }
 
-/// The height of a row whose first event does this.
+/// The height of a row whose first event has this act.
 fn act_height(
     alloc: Global,
     scene: &Scene,
@@ -217,7 +219,7 @@ fn row_heights(alloc: Global, scene: &Scene, numbers: &[usize]) -> Result<Vec<us
     Ok(heights)
 }
 
-/// Where the heads begin, below a heading.
+/// The place at which the heads begin, below a heading.
 fn top_of(heading: &[Label]) -> Result<usize, AllocError>
     ensures { IfOk result (λ top. top ≡ top_of heading.now) }
 {
@@ -234,7 +236,7 @@ fn height_of(scene: &Scene, top: usize, foot: usize) -> Result<usize, AllocError
     plus(foot, 22)
 }
 
-/// How wide a picture is, and where its axes stand.
+/// The width of a picture, and the places of its axes.
 fn axes_of(
     alloc: Global,
     scene: &Scene,
@@ -250,7 +252,7 @@ fn axes_of(
     Ok((width, sums(alloc, first, gaps.as_slice())?))
 }
 
-/// Where the rows of a picture stand whose heads end here, and where its axes end.
+/// The places of the rows of a picture whose heads end here, and of the ends of its axes.
 fn edges_of(
     alloc: Global,
     scene: &Scene,
@@ -265,8 +267,7 @@ fn edges_of(
     Ok((foot, sums(alloc, first, heights.as_slice())?))
 }
 
-/// Where everything in a picture stands below a heading. An error is a growth of memory that was
-/// refused.
+/// The layout of a picture below a heading. An error is a growth of memory that was refused.
 pub fn layout_of(alloc: Global, scene: &Scene, heading: &[Label]) -> Result<Layout, AllocError>
     ensures { IfOk result (λ layout. layout ≡ layout_of scene.now heading.now) }
 {

@@ -1,4 +1,4 @@
-//! How much room heads, actions and labels take beside the axes.
+//! The room that heads, actions and labels take next to the axes.
 
 ghost use Rattle.std.specs.Prelude.{◌≡◌, ◌<◌, ◌+◌, ◌*◌, IfOk, fold, get_or, length, map, max};
 ghost use Rattle.std.specs.List.{range_with_len};
@@ -11,7 +11,7 @@ use crate::action::action_box;
 use msc_picture::{Act, Arrow, Head, Scene, Spot, plus};
 use std::alloc::{AllocError, Global};
 
-/// The product of two lengths. A length past all numbers is past all memory too.
+/// The product of two lengths. A length past all numbers is an error, as if memory ran out.
 pub fn times(a: usize, b: usize) -> Result<usize, AllocError>
     ensures { IfOk result (λ product. product ≡ a * b) }
 {
@@ -115,7 +115,7 @@ pub fn right(alloc: Global, scene: &Scene, depths: &[usize], i: usize) -> Result
     Ok(40_usize.max(head).max(boxes).max(own))
 }
 
-/// Whether a message goes over the gap behind instance `i` first.
+/// Whether a message spans the gap after instance `i` first.
 fn begins_over(arrow: &Arrow, i: usize) -> bool
     requires { i < usize.MAX }
     ensures { result ≡ begins_over i arrow.now }
@@ -125,7 +125,7 @@ fn begins_over(arrow: &Arrow, i: usize) -> bool
     (from == i && i < to) || (from == i + 1 && to < i + 1)
 }
 
-/// The room that the label of a message takes in the gap behind instance `i`.
+/// The room that the label of a message takes in the gap after instance `i`.
 fn label_room(arrow: &Arrow, i: usize) -> Result<usize, AllocError>
     requires { i < usize.MAX }
     ensures { IfOk result (λ room. room ≡ label_room i arrow.now) }
@@ -136,7 +136,7 @@ fn label_room(arrow: &Arrow, i: usize) -> Result<usize, AllocError>
     Ok(0)
 }
 
-/// The room that labels take in the gap behind instance `i`.
+/// The room that labels take in the gap after instance `i`.
 fn label_rooms(scene: &Scene, i: usize) -> Result<usize, AllocError>
     requires { i < usize.MAX }
     ensures { IfOk result (λ room. room ≡ label_rooms scene.now i) }
@@ -149,7 +149,7 @@ fn label_rooms(scene: &Scene, i: usize) -> Result<usize, AllocError>
     Ok(most)
 }
 
-/// What the heads and the sides of instance `i` and the next one ask of the gap between them.
+/// The gap that the heads and the sides of instance `i` and the next one require between them.
 fn side_room(alloc: Global, scene: &Scene, depths: &[usize], i: usize) -> Result<usize, AllocError>
     requires { i < usize.MAX }
     ensures { IfOk result (λ room. room ≡ side_room scene.now depths.now i) }
@@ -160,7 +160,7 @@ fn side_room(alloc: Global, scene: &Scene, depths: &[usize], i: usize) -> Result
     Ok(112_usize.max(heads).max(before).max(after))
 }
 
-/// The gap behind instance `i`.
+/// The gap after instance `i`.
 fn gap(alloc: Global, scene: &Scene, depths: &[usize], i: usize) -> Result<usize, AllocError>
     requires { i < usize.MAX }
     ensures { IfOk result (λ room. room ≡ gap scene.now depths.now i) }

@@ -1,4 +1,4 @@
-//! Where rows and events stand in a layout.
+//! The places of rows and events in a layout.
 
 ghost use Rattle.std.specs.Prelude.{◌≡◌, ◌+◌, ◌-◌, ◌/◌, IfOk, fold, max, min, slice_get};
 ghost use Rattle.msc_svg.specs.Layouts.{at, is_short};
@@ -19,14 +19,14 @@ impl Layout {
         at(self.axes.as_slice(), i as usize)
     }
 
-    /// The same by its place.
+    /// The axis at this index.
     pub fn axis_at(&self, i: usize) -> usize
         ensures { result ≡ axis self.now i }
     {
         at(self.axes.as_slice(), i)
     }
 
-    /// Where row `r` begins.
+    /// The place at which row `r` begins.
     pub fn edge(&self, r: usize) -> usize
         ensures { result ≡ edge self.now r }
     {
@@ -40,7 +40,7 @@ impl Layout {
         at(self.rows.as_slice(), e as usize)
     }
 
-    /// By output `e`, how deep the arrow of its message to oneself reaches.
+    /// For output `e`, how deep the arrow of its message to oneself reaches.
     pub fn depth(&self, e: Event) -> usize
         ensures { result ≡ at self.now.depths e }
     {
@@ -58,7 +58,7 @@ impl Layout {
     }
 }
 
-/// How far an end of message `m` stands from the middle of its row.
+/// The distance of an end of message `m` from the middle of its row.
 fn shift(scene: &Scene, layout: &Layout, m: u32) -> usize
     ensures { result ≡ shift scene.now layout.now m }
 {
@@ -69,7 +69,7 @@ fn shift(scene: &Scene, layout: &Layout, m: u32) -> usize
     }
 }
 
-/// Where event `e` stands. An error is a length past all memory.
+/// The place of event `e`. An error is a length past all numbers.
 pub fn place(scene: &Scene, layout: &Layout, e: Event) -> Result<usize, AllocError>
     ensures { IfOk result (λ y. y ≡ place scene.now layout.now e) }
 {
@@ -116,7 +116,7 @@ pub fn greatest_place(
     Ok(most)
 }
 
-/// Where the first of the rows of these events begins, or the foot of the axes.
+/// The place at which the first of the rows of these events begins, or the foot of the axes.
 pub fn least_edge(layout: &Layout, events: &[Event]) -> usize
     ensures { result ≡ least_edge layout.now events.now }
 {

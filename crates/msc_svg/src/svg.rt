@@ -10,12 +10,12 @@ ghost use Rattle.msc_svg.specs.Svg.{card, front_text, heading_of, size_attribute
 ghost use Rattle.msc_svg.specs.Svg.{svg_attributes, svg_text, tip, title_of, view_box};
 ghost use Rattle.msc_tree.specs.Trees.{attribute_text, attributes_text, line_text, lines_text};
 
+use crate::bar::{put_badges, put_bars};
 use crate::caption::{captions_of, put_caption_nodes};
 use crate::depth::events_of_rows;
 use crate::element::{put_arrows, put_boxes, put_plates};
 use crate::head::{put_heading, put_instances};
 use crate::layout::{Layout, layout_of};
-use crate::mark::{put_badges, put_marks};
 use listed::Listed;
 use msc_parser::Label;
 use msc_picture::Scene;
@@ -23,7 +23,7 @@ use msc_tree::laws::blocks_have_a_line_for_each_child;
 use msc_tree::{Area, put_attribute, put_decimal, put_numbered, put_path, put_plain, put_rect};
 use std::alloc::{AllocError, Global};
 
-/// How the elements of a picture look.
+/// The style of the elements of a picture.
 const STYLE: &[u8] = b"text{font:12px ui-monospace,Menlo,Consolas,DejaVu Sans Mono,monospace\
 ;text-anchor:middle;fill:#111}\
 .right{text-anchor:start}.left{text-anchor:end}.name{font-weight:bold}\
@@ -39,7 +39,7 @@ const STYLE: &[u8] = b"text{font:12px ui-monospace,Menlo,Consolas,DejaVu Sans Mo
 .card{fill:#fff;stroke:#999}.title,.verdict{text-anchor:start}\
 .title{font-weight:bold}.verdict{fill:#444}";
 
-/// Puts the heading, the instances, the marks and the arrows behind a page.
+/// Appends the heading, the instances, the bars and the arrows to a page.
 fn put_ground(
     page: &mut Vec<u8>,
     alloc: Global,
@@ -52,11 +52,11 @@ fn put_ground(
 {
     put_heading(page, heading)?;
     put_instances(page, alloc, scene, layout)?;
-    put_marks(page, scene, layout)?;
+    put_bars(page, scene, layout)?;
     put_arrows(page, alloc, scene, layout)
 }
 
-/// Puts the plates, the boxes of actions, the labels and numbers, and the badges behind a page.
+/// Appends the plates, the boxes of actions, the labels and numbers, and the badges to a page.
 fn put_upper(
     page: &mut Vec<u8>,
     alloc: Global,
@@ -74,8 +74,8 @@ fn put_upper(
     put_badges(page, alloc, scene, layout)
 }
 
-/// Puts the elements of a picture behind a page, each in a line. An error is a growth of memory
-/// that was refused; what stands in the page is not said then.
+/// Appends the elements of a picture to a page, each in a line. An error is a growth of memory that
+/// was refused; the page then has any bytes.
 pub fn put_picture(
     page: &mut Vec<u8>,
     alloc: Global,
@@ -96,14 +96,14 @@ const TIP: &[u8] = b"<marker id=\"tip\" markerUnits=\"userSpaceOnUse\" markerWid
 markerHeight=\"8\" refX=\"12\" refY=\"4\" orient=\"auto\">\n\
 <path class=\"tip\" d=\"M0,0L12,4L0,8z\"/>\n</marker>\n";
 
-/// Puts the head of an arrow behind a page.
+/// Appends the head of an arrow to a page.
 pub fn put_tip(page: &mut Vec<u8>) -> Result<(), AllocError>
     ensures { OnOk result (page.new.items ≡ page.old.items ++ line_text tip) }
 {
     page.extend_from_slice(TIP)
 }
 
-/// Puts how the elements of a picture look behind a page.
+/// Appends the style of the elements of a picture to a page.
 fn put_style(page: &mut Vec<u8>) -> Result<(), AllocError>
     ensures { OnOk result
         (page.new.items ≡ page.old.items ++ line_text (plain (codes "style") style)) }
@@ -122,7 +122,7 @@ fn view_box(alloc: Global, layout: &Layout) -> Result<Vec<u8>, AllocError>
     Ok(text)
 }
 
-/// Puts which part of the plane a picture shows behind a page.
+/// Appends the part of the plane that a picture shows to a page.
 fn put_view_box(page: &mut Vec<u8>, alloc: Global, layout: &Layout) -> Result<(), AllocError>
     ensures { OnOk result (page.new.items
         ≡ page.old.items ++ attribute_text (valued (codes "viewBox") (view_box layout.now))) }
@@ -131,7 +131,7 @@ fn put_view_box(page: &mut Vec<u8>, alloc: Global, layout: &Layout) -> Result<()
     put_attribute(page, b"viewBox", shown.as_slice())
 }
 
-/// Puts how large a picture is, and which part of the plane it shows, behind a page.
+/// Appends the size of a picture, and the part of the plane that it shows, to a page.
 pub fn put_size(page: &mut Vec<u8>, alloc: Global, layout: &Layout) -> Result<(), AllocError>
     ensures { OnOk result
         (page.new.items ≡ page.old.items ++ attributes_text (size_attributes layout.now)) }
@@ -142,7 +142,7 @@ pub fn put_size(page: &mut Vec<u8>, alloc: Global, layout: &Layout) -> Result<()
     Ok(())
 }
 
-/// Puts the attributes of the whole behind a page.
+/// Appends the attributes of the whole picture to a page.
 fn put_svg_attributes(page: &mut Vec<u8>, alloc: Global, layout: &Layout) -> Result<(), AllocError>
     ensures { OnOk result
         (page.new.items ≡ page.old.items ++ attributes_text (svg_attributes layout.now)) }
@@ -153,7 +153,7 @@ fn put_svg_attributes(page: &mut Vec<u8>, alloc: Global, layout: &Layout) -> Res
     Ok(())
 }
 
-/// Puts the card that a picture stands on behind a page.
+/// Appends the card under a picture to a page.
 fn put_card(page: &mut Vec<u8>, layout: &Layout) -> Result<(), AllocError>
     ensures { OnOk result (page.new.items ≡ page.old.items ++ line_text (card layout.now)) }
 {
@@ -166,7 +166,7 @@ fn put_card(page: &mut Vec<u8>, layout: &Layout) -> Result<(), AllocError>
     put_rect(page, b"card", around, 0)
 }
 
-/// What a picture is called.
+/// The title of a picture.
 fn title_of(alloc: Global, name: &[u8], more: &[u8]) -> Result<Vec<u8>, AllocError>
     ensures { IfOk result (λ title. title.items ≡ title_of name.now more.now) }
 {
@@ -178,7 +178,7 @@ fn title_of(alloc: Global, name: &[u8], more: &[u8]) -> Result<Vec<u8>, AllocErr
     Ok(title)
 }
 
-/// What stands above a picture.
+/// The heading of a picture.
 fn heading_of(alloc: Global, name: &[u8], more: &[u8]) -> Result<Vec<Label>, AllocError>
     ensures { IfOk result (λ heading. heading.items ≡ heading_of name.now more.now) }
 {
@@ -192,7 +192,7 @@ fn heading_of(alloc: Global, name: &[u8], more: &[u8]) -> Result<Vec<Label>, All
     Ok(heading)
 }
 
-/// Puts what a picture in SVG has before its elements behind a page, with this title.
+/// Appends the part of a picture in SVG before its elements to a page, with this title.
 fn put_front(
     page: &mut Vec<u8>,
     alloc: Global,
@@ -211,9 +211,8 @@ fn put_front(
     Ok(())
 }
 
-/// Puts the picture in SVG behind a page, with a further text above it, which is empty where there
-/// is none. An error is a growth of memory that was refused; what stands in the page is not said
-/// then.
+/// Appends the picture in SVG to a page, with a further text above it, which may be empty. An error
+/// is a growth of memory that was refused; the page then has any bytes.
 pub fn put_svg(
     alloc: Global,
     page: &mut Vec<u8>,

@@ -1,6 +1,3 @@
-pub mod Refusals
-pub mod Shown
-pub mod Told
-pub mod Plain
 pub mod Judged
 pub mod Readied
+pub mod BlockedPairLemmas

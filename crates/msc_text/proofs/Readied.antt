@@ -1,186 +1,74 @@
--- Sticks and races that are left, as they go out.
-use Rattle.std.proofs.Common.{◌≡◌, ℕ, ◌+◌, ◌<◌, Bool, List, [], ◌∷◌, ◌++◌, Option, None, Some, Result, Ok, Err, true, false, ◌&&◌, nat_eq, inr, length, get_or, drop, take, refl, sym, ap, ◌∙◌, subst, append_assoc, cond, arith}
-use Rattle.std.specs.Borrow.{Bor}
+-- Sticks and races that are left, as they are printed.
+use Rattle.std.proofs.Common.{◌≡◌, ℕ, ◌<◌, Bool, List, [], ◌∷◌, ◌++◌, Option, None, Some, Result, Ok, Err, true, false, ◌&&◌, nat_eq, inr, length, get_or, refl, sym, ap, ◌∙◌, subst, arith}
 use Rattle.std.specs.Option.{option_copied}
-use Rattle.std.specs.Prelude.{◌↔◌, is_some, option_map, IsTrue, MatchOption, OnOk}
+use Rattle.std.specs.Prelude.{◌↔◌, All, IfOk, IsTrue}
 use Rattle.std.specs.List.{flat_map}
-use Rattle.std.proofs.lemmas.List.{append-nil, flat_map_more, take-append-drop, take_more}
+use Rattle.std.proofs.Math.Path.{fun_ext}
 use Rattle.std.proofs.lemmas.List.Elements.{All-from_get_or}
+use Rattle.std.proofs.lemmas.Result.{IfOk-weaker}
+use Rattle.std.specs.declared.alloc.AllocError.{AllocError}
 use Rattle.std.proofs.lemmas.Option.{slice_get-get_or}
-use Rattle.std.proofs.lemmas.Grind.{flat_map-append}
 use Rattle.msc_chart.specs.declared.queue.Queues.{Queues}
 use Rattle.msc_chart.specs.Drawings.{Drawing, IsAccepted}
-use Rattle.msc_chart.specs.Lists.{pairs_of, pairs_to, Occurs}
-use Rattle.msc_chart.specs.Rounds.{twice}
-use Rattle.msc_race.proofs.Listing.Pairs.{to_parts}
-use Rattle.msc_race.proofs.Runs.RunEvents.{run_events}
-use Rattle.msc_judge.proofs.Putting.{fails_within, pages_in, pages_then}
-use Rattle.msc_judge.specs.Pages.{Pages, Puts, Tells, Writes}
-use Rattle.msc_judge.specs.declared.page.WriteFault.{WriteFault}
-use Rattle.msc_judge.specs.declared.page.WriteFault.TheVariants.{Memory, Device}
+use Rattle.msc_chart.specs.Lists.{pairs_of, Occurs}
+use Rattle.msc_chart.specs.Orders.{IsWired}
+use Rattle.msc_chart.specs.Rounds.{two_rounds}
+use Rattle.msc_race.proofs.Listing.Pairs.{of_from, to_parts}
+use Rattle.msc_print.specs.Pages.{Tells, Writes}
+use Rattle.msc_print.specs.Printed.{Printed}
+use Rattle.msc_print.specs.Prints.{Prints}
+use Rattle.msc_print.specs.Rows.{below, rows_from}
+use Rattle.msc_print.proofs.PrintLemmas.{prints_then}
+use Rattle.msc_print.specs.declared.page.WriteFault.{WriteFault}
+use Rattle.msc_print.specs.declared.page.WriteFault.TheVariants.{Memory, Device}
 use Rattle.msc_ready.specs.Held.{ready_chart, ready_in, wiring_of, HasVisualOrder, ReadyChart}
 use Rattle.msc_ready.specs.Finishing.{MayFinish}
-use Rattle.msc_ready.specs.Laws.{EachFirstStickHasARun, RacesLeftAreTold, ReadyRunsKeepReadyLines}
-use Rattle.msc_ready.specs.Rounds.{between_of, AreBetween, AreBetweenFrom}
-use Rattle.msc_ready.specs.Running.{AreStickRuns, IsStickRun}
-use Rattle.msc_ready.specs.Sticks.{AreLeft, IsStick}
-use Rattle.msc_ready.specs.Views.{sticks_of, AreAhead, AreSticks, AreSticksFrom}
-use Rattle.msc_reason.specs.Named.{AreEventsOf}
-use Rattle.msc_report.specs.Sticks.{ready_head}
-use Rattle.msc_report.specs.declared.rounds.RoundNames.{RoundNames}
+use Rattle.msc_ready.specs.Laws.{EachFirstBlockedPairHasARun, RacesLeftAreTold}
+use Rattle.msc_ready.specs.Rounds.{between_from, between_of, is_between, AreBetween}
+use Rattle.msc_ready.specs.Running.{AreBlockedPairRuns}
+use Rattle.msc_ready.specs.BlockedPairs.{is_blocked_pair, AreLeft, IsBlockedPair}
+use Rattle.msc_ready.specs.Views.{blocked_pairs_from, blocked_pairs_of, AreAhead, AreBlockedPairs, HasAhead}
+use Rattle.msc_ready.proofs.Left.{left_test}
+use Rattle.msc_report.specs.Rounds.{again_count}
+use Rattle.msc_report.specs.BlockedPairs.{left_line, left_race, ready_head}
 use Rattle.msc_report.specs.declared.style.Style.{Style}
-use Rattle.msc_text.specs.Readied.{texts_by, told_of, AreEvents, AreRoundsOf, AreSticksIn, IsReadyOf}
-use Rattle.msc_text.specs.Readying.{again_text, ahead_in, body_text, finishes, left_behind, left_pairs, lines_of, more_after, once_texts, ready_text, shown_after, told_left, told_stick, told_sticks, tells_left, IsKnown, Knowledge, PrintsAgain, PrintsBetween, PrintsReady, StickTexts}
+use Rattle.msc_text.specs.LeftRaces.{left_from, left_in}
+use Rattle.msc_text.specs.Readied.{AreRoundsOf, AreUnrolled, CanPrintStick, IsReadyOf, IsReadyText}
+use Rattle.msc_text.specs.Readying.{again_text, again_texts, body_text, finishes, left_behind, lines_of, more_after, once_texts, ready_text, told_left, told_sticks, AreStickFacts, StickFacts, PrintsAgain, PrintsBetween, PrintsReady}
+use Rattle.msc_text.specs.declared.readying.ReadyAnswer.{ReadyAnswer}
+use Rattle.msc_text.specs.declared.readying.StickTable.{StickTable}
+use Rattle.msc_judge.proofs.Listed.{all_of as all_pairs}
 
-module _ (texts : StickTexts) (ahead : List (Option (ℕ × ℕ))) (runs : ℕ → List ℕ) where
-  -- sticks are told one list after the other
-  pub told_behind : (more : ℕ) (xs ys : List (ℕ × ℕ))
-      → told_sticks texts ahead runs more (xs ++ ys)
-      ≡ told_sticks texts ahead runs more xs ++ told_sticks texts ahead runs (left_behind ahead more xs) ys
-  told_behind more [] ys = refl
-  told_behind more (x ∷ xs) ys =
-      let after : ℕ = shown_after more (ahead_in ahead x.1) in
-      ap (λ (t : List ℕ). told_stick texts ahead runs more x ++ t) (told_behind after xs ys)
-      ∙ sym (append_assoc (told_stick texts ahead runs more x) (told_sticks texts ahead runs after xs)
-      (told_sticks texts ahead runs (left_behind ahead after xs) ys))
-
-  -- and one stick more
-  pub told_more : (more now : ℕ) (xs : List (ℕ × ℕ)) (x : ℕ × ℕ) → now ≡ left_behind ahead more xs
-      → told_sticks texts ahead runs more (xs ++ x ∷ []) ≡ told_sticks texts ahead runs more xs ++ told_stick texts ahead runs now x
-  told_more more now xs x is =
-      told_behind more xs (x ∷ [])
-      ∙ ap (λ (n : ℕ). told_sticks texts ahead runs more xs ++ told_sticks texts ahead runs n (x ∷ [])) (sym is)
-      ∙ ap (λ (t : List ℕ). told_sticks texts ahead runs more xs ++ t) (append-nil (told_stick texts ahead runs now x))
-
-  -- of a list that is cut in two, where nothing is put in between
-  pub told_cut : (more now i : ℕ) (xs : List (ℕ × ℕ)) → now ≡ left_behind ahead more (take i xs)
-      → told_sticks texts ahead runs more xs
-      ≡ (told_sticks texts ahead runs more (take i xs) ++ []) ++ told_sticks texts ahead runs now (drop i xs)
-  told_cut more now i xs is =
-      ap (told_sticks texts ahead runs more) (sym (take-append-drop i xs))
-      ∙ told_behind more (take i xs) (drop i xs)
-      ∙ ap (λ (n : ℕ). told_sticks texts ahead runs more (take i xs) ++ told_sticks texts ahead runs n (drop i xs)) (sym is)
-      ∙ ap (λ (t : List ℕ). t ++ told_sticks texts ahead runs now (drop i xs)) (sym (append-nil (told_sticks texts ahead runs more (take i xs))))
-
-  -- the sticks of a list that begins so, where those behind are in another list too
-  pub told_then : (more now : ℕ) (xs ys zs list : List (ℕ × ℕ)) → zs ≡ xs ++ ys → list ≡ ys → now ≡ left_behind ahead more xs
-      → told_sticks texts ahead runs more zs ≡ told_sticks texts ahead runs more xs ++ told_sticks texts ahead runs now list
-  told_then more now xs ys zs list whole same is =
-      ap (told_sticks texts ahead runs more) whole ∙ told_behind more xs ys
-      ∙ ap (λ (n : ℕ). told_sticks texts ahead runs more xs ++ told_sticks texts ahead runs n ys) (sym is)
-      ∙ ap (λ (l : List (ℕ × ℕ)). told_sticks texts ahead runs more xs ++ told_sticks texts ahead runs now l) (sym same)
-
--- how many more runs are shown behind two lists
-pub left_more : (ahead : List (Option (ℕ × ℕ))) (more : ℕ) (xs ys : List (ℕ × ℕ))
-    → left_behind ahead more (xs ++ ys) ≡ left_behind ahead (left_behind ahead more xs) ys
-left_more ahead more [] ys = refl
-left_more ahead more (x ∷ xs) ys = left_more ahead (shown_after more (ahead_in ahead x.1)) xs ys
-
--- and behind a list that begins so
-pub left_then : (ahead : List (Option (ℕ × ℕ))) (more now after : ℕ) (xs ys zs list : List (ℕ × ℕ)) → zs ≡ xs ++ ys → list ≡ ys
-    → now ≡ left_behind ahead more xs → after ≡ left_behind ahead now list → after ≡ left_behind ahead more zs
-left_then ahead more now after xs ys zs list whole same is then =
-    then ∙ ap (λ (n : ℕ). left_behind ahead n list) is ∙ ap (left_behind ahead (left_behind ahead more xs)) same
-    ∙ sym (left_more ahead more xs ys) ∙ ap (left_behind ahead more) (sym whole)
-
--- and behind one stick more
-pub left_next : (ahead : List (Option (ℕ × ℕ))) (more now after : ℕ) (xs : List (ℕ × ℕ)) (x : ℕ × ℕ) → now ≡ left_behind ahead more xs
-    → after ≡ shown_after now (ahead_in ahead x.1) → after ≡ left_behind ahead more (xs ++ x ∷ [])
-left_next ahead more now after xs x is then =
-    then ∙ ap (λ (n : ℕ). shown_after n (ahead_in ahead x.1)) is ∙ sym (left_more ahead more xs (x ∷ []))
-
--- what is made of pairs of a list that is cut in two, where nothing is put in between
-pub flat_cut : (one : ℕ × ℕ → List ℕ) (i : ℕ) (xs : List (ℕ × ℕ)) → flat_map one xs ≡ (flat_map one (take i xs) ++ []) ++ flat_map one (drop i xs)
-flat_cut one i xs =
-    ap (flat_map one) (sym (take-append-drop i xs)) ∙ flat_map-append one (take i xs) (drop i xs)
-    ∙ ap (λ (t : List ℕ). t ++ flat_map one (drop i xs)) (sym (append-nil (flat_map one (take i xs))))
-
--- and of one pair more
-pub flat_next : (one : ℕ × ℕ → List ℕ) (i : ℕ) (xs : List (ℕ × ℕ)) → i < length xs
-    → flat_map one (take i xs) ++ one (get_or xs i (0, 0)) ≡ flat_map one (take (i + 1) xs)
-flat_next one i xs within = flat_map_more one [] (take i xs) (get_or xs i (0, 0)) ∙ ap (flat_map one) (sym (take_more xs i (0, 0) within))
-
--- and of a list that begins so, where what is behind is another list too
-pub flat_then : (one : ℕ × ℕ → List ℕ) (xs ys zs list : List (ℕ × ℕ)) → zs ≡ xs ++ ys → list ≡ ys → flat_map one zs ≡ flat_map one xs ++ flat_map one list
-flat_then one xs ys zs list whole same =
-    ap (flat_map one) whole ∙ flat_map-append one xs ys ∙ ap (λ (l : List (ℕ × ℕ)). flat_map one xs ++ flat_map one l) (sym same)
-
--- the sticks of an event are sticks
-pub sticks_in : (r : ReadyChart) (e : ℕ) (list : List (ℕ × ℕ)) → AreSticksFrom r e list → AreSticksIn r list
-sticks_in r e list are = All-from_get_or (λ p. IsStick (wiring_of r) (ready_in r) p.0 p.1) list (0, 0) (λ k inside.
-    let p = get_or list k (0, 0) in
-    (are p.0 p.1 (k, slice_get-get_or list k (0, 0) inside)).1)
-
--- and so are those between two rounds
-pub between_in : (r : ReadyChart) (d : Drawing) (e : ℕ) (list : List (ℕ × ℕ)) → AreBetweenFrom r d e list → AreSticksIn r list
-between_in r d e list are = All-from_get_or (λ p. IsStick (wiring_of r) (ready_in r) p.0 p.1) list (0, 0) (λ k inside.
-    let p = get_or list k (0, 0) in
-    (are p.0 p.1 (k, slice_get-get_or list k (0, 0) inside)).1.stick)
-
--- the pairs of an event are of events
-pub pairs_events : (left : ℕ → ℕ → Bool) (e n : ℕ) → e < n → (list : List (ℕ × ℕ)) → list ≡ pairs_to left e n → AreEvents n list
-pairs_events left e n below list is = All-from_get_or (λ p. (p.0 < n) × (p.1 < n)) list (0, 0) (λ k inside.
-    let p = get_or list k (0, 0) in
-    let there = to_parts left e n p.0 p.1 (subst (λ (l : List (ℕ × ℕ)). Occurs l (p.0, p.1)) is (k, slice_get-get_or list k (0, 0) inside)) in
-    (subst (λ (x : ℕ). x < n) (sym there.0) below, there.1))
-
--- the head is that of the sticks
-pub head_told : (r s : ReadyChart) (only : Option (List Bool)) (count : ℕ) (may known : Bool) (old page : List ℕ)
-    → page ≡ old ++ ready_head s.chart s.queues only count may → s ≡ r → count ≡ length (sticks_of r) → known ≡ may
-    → page ≡ old ++ ready_head r.chart r.queues only (length (sticks_of r)) known
-head_told r s only count may known old page is same size told =
-    is ∙ ap (λ (x : ReadyChart). old ++ ready_head x.chart x.queues only count may) same
-    ∙ ap (λ (n : ℕ). old ++ ready_head r.chart r.queues only n may) size
-    ∙ ap (λ (m : Bool). old ++ ready_head r.chart r.queues only (length (sticks_of r)) m) (sym told)
-
--- a text is put behind one that was put, whatever came then
-pub puts_then : (A : Type 0) (result : Result A WriteFault) (before mid after : Option (List ℕ)) (old one new xs ys : List ℕ)
-    → Pages before mid old one xs → Puts result mid after one new ys → Puts result before after old new (xs ++ ys)
-puts_then A (Ok a) before mid after old one new xs ys first then = pages_then before mid after old one new xs ys first then
-puts_then A (Err e) before mid after old one new xs ys first then =
-    fails_within A A e before mid after old one new new xs ys [] (xs ++ ys) (sym (append-nil (xs ++ ys))) first then
-
--- a fault is the same, whatever was to be answered
-pub puts_fault : (A B : Type 0) (e : WriteFault) (before after : Option (List ℕ)) (old new text same : List ℕ) → text ≡ same
-    → Puts {A = A} (Err e) before after old new text → Puts {A = B} (Err e) before after old new same
-puts_fault A B Memory before after old new text same is put = subst (λ (t : List ℕ). Puts {A = A} (Err Memory) before after old new t) is put
-puts_fault A B Device before after old new text same is put = tt
-
--- behind no stick as many more runs are shown
-pub none_left : (ahead : List (Option (ℕ × ℕ))) (more : ℕ) (sticks : List (ℕ × ℕ)) → length sticks ≡ 0 → more ≡ left_behind ahead more sticks
-none_left ahead more [] none = refl
-none_left ahead more (x ∷ sticks) none = absurd (omega (arith, none))
-
--- what is printed of the sticks between two rounds, by what is known of them
+-- what is printed of the blocked pairs between two rounds, by what is known of them
 pub prints_between : (d : Drawing) (queues : Queues) (only : Option (List Bool)) (more : ℕ) (style : Style) (r : ReadyChart)
-    (ahead : List (Option (ℕ × ℕ))) (runs : ℕ → List ℕ) → IsReadyOf (twice d) queues only r
+    (ahead : List (Option (ℕ × ℕ))) (runs : ℕ → List ℕ) → IsReadyOf (two_rounds d) queues only r
     → HasVisualOrder r → AreBetween r d (between_of r d) → AreAhead r ahead (length r.chart.events)
-    → AreStickRuns (wiring_of r) (ready_in r) runs
+    → AreBlockedPairRuns (wiring_of r) (ready_in r) runs
     → PrintsBetween d queues only more style (nat_eq (length (between_of r d)) 0) (again_text style d r ahead runs more)
-prints_between d queues only more style r ahead runs its visual sticks are_ahead are_runs =
-    let same : r ≡ ready_chart (twice d) queues (lines_of only) r.order =
+prints_between d queues only more style r ahead runs its visual blocked_pairs are_ahead are_runs =
+    let same : r ≡ ready_chart (two_rounds d) queues (lines_of only) r.order =
     ap (λ (c : Drawing). ready_chart c r.queues r.lines r.order) its.chart
-    ∙ ap (λ (q : Queues). ready_chart (twice d) q r.lines r.order) its.queues
-    ∙ ap (λ (l : List Bool). ready_chart (twice d) queues l r.order) its.lines in
+    ∙ ap (λ (q : Queues). ready_chart (two_rounds d) q r.lines r.order) its.queues
+    ∙ ap (λ (l : List Bool). ready_chart (two_rounds d) queues l r.order) its.lines in
     record {
       order = r.order;
       visual = subst HasVisualOrder same visual;
-      sticks = subst (λ (x : ReadyChart). AreBetween x d (between_of x d)) same sticks;
+      blocked_pairs = subst (λ (x : ReadyChart). AreBetween x d (between_of x d)) same blocked_pairs;
       ahead = ahead;
       are_ahead = subst (λ (x : ReadyChart). AreAhead x ahead (length x.chart.events)) same are_ahead;
       runs = runs;
-      are_runs = subst (λ (x : ReadyChart). AreStickRuns (wiring_of x) (ready_in x) runs) same are_runs;
+      are_runs = subst (λ (x : ReadyChart). AreBlockedPairRuns (wiring_of x) (ready_in x) runs) same are_runs;
       answered = ap (λ (x : ReadyChart). nat_eq (length (between_of x d)) 0) same;
       text = ap (λ (x : ReadyChart). again_text style d x ahead runs more) same;
     }
 
 module _ (d : Drawing) (queues : Queues) (only : Option (List Bool)) (again : Bool) (show : ℕ) (style : Style) where
   -- what is printed of a chart with ready instances, by what is known of it, and of two rounds
-  pub prints : (r : ReadyChart) (k : Knowledge) → IsReadyOf d queues only r
-      → IsAccepted r.chart → HasVisualOrder r → AreSticks r (sticks_of r) → IsKnown r k
+  pub prints : (r : ReadyChart) (k : StickFacts) → IsReadyOf d queues only r
+      → IsAccepted r.chart → HasVisualOrder r → AreBlockedPairs r (blocked_pairs_of r) → AreStickFacts r k
       → (none : Bool) (behind : List ℕ) → PrintsAgain again d queues only (more_after r show k) style none behind
       → PrintsReady d queues only again show style (finishes r only k && none) (ready_text style r only show k ++ behind)
-  prints r k its accepted visual sticks is none behind rounds =
+  prints r k its accepted visual blocked_pairs is none behind rounds =
       let same : r ≡ ready_chart d queues (lines_of only) r.order =
       ap (λ (c : Drawing). ready_chart c r.queues r.lines r.order) its.chart
       ∙ ap (λ (q : Queues). ready_chart d q r.lines r.order) its.queues
@@ -189,9 +77,9 @@ module _ (d : Drawing) (queues : Queues) (only : Option (List Bool)) (again : Bo
         accepted = subst IsAccepted its.chart accepted;
         order = r.order;
         visual = subst HasVisualOrder same visual;
-        sticks = subst (λ (x : ReadyChart). AreSticks x (sticks_of x)) same sticks;
+        blocked_pairs = subst (λ (x : ReadyChart). AreBlockedPairs x (blocked_pairs_of x)) same blocked_pairs;
         known = k;
-        is = subst (λ (x : ReadyChart). IsKnown x k) same is;
+        is = subst (λ (x : ReadyChart). AreStickFacts x k) same is;
         none = none;
         behind = behind;
         rounds = subst (λ (x : ReadyChart). PrintsAgain again d queues only (more_after x show k) style none behind) same rounds;
@@ -199,64 +87,11 @@ module _ (d : Drawing) (queues : Queues) (only : Option (List Bool)) (again : Bo
         text = ap (λ (x : ReadyChart). ready_text style x only show k ++ behind) same;
       }
 
-  -- so that is told where a fault came
-  pub tells_fault : {W : Type 0} (contents : W → Option (List ℕ)) (e : WriteFault) (old new : W) (right : Bool) (text : List ℕ)
-      → PrintsReady d queues only again show style right text
-      → Writes {A = Bool} (Err e) (contents old) (contents new) text → Tells contents (PrintsReady d queues only again show style) (Err e) old new
-  tells_fault contents Memory old new right text says written = inr (right, text, says, written)
-  tells_fault contents Device old new right text says written = tt
-
--- the races that are left of an event are those that were put on the empty list
-pub list_left : (r s : ReadyChart) (left : ℕ → ℕ → Bool) (e : ℕ) (old new list : List (ℕ × ℕ)) → s ≡ r → AreLeft (wiring_of r) (ready_in r) left
-    → ((test : ℕ → ℕ → Bool) → AreLeft (wiring_of s) (ready_in s) test → new ≡ old ++ pairs_to test e (length s.chart.events))
-    → old ≡ [] → list ≡ new → list ≡ pairs_to left e (length r.chart.events)
-list_left r s left e old new list same told pushed none is =
-    is ∙ pushed left (subst (λ (x : ReadyChart). AreLeft (wiring_of x) (ready_in x) left) (sym same) told)
-    ∙ ap (λ (l : List (ℕ × ℕ)). l ++ pairs_to left e (length s.chart.events)) none
-    ∙ ap (λ (x : ReadyChart). pairs_to left e (length x.chart.events)) same
-
--- and so many are counted
-pub count_left : (r s : ReadyChart) (left : ℕ → ℕ → Bool) (count : ℕ) → s ≡ r → AreLeft (wiring_of r) (ready_in r) left
-    → ((test : ℕ → ℕ → Bool) → AreLeft (wiring_of s) (ready_in s) test → count ≡ length (pairs_of test (length s.chart.events)))
-    → count ≡ length (pairs_of left (length r.chart.events))
-count_left r s left count same told counted =
-    counted left (subst (λ (x : ReadyChart). AreLeft (wiring_of x) (ready_in x) left) (sym same) told)
-    ∙ ap (λ (x : ReadyChart). length (pairs_of left (length x.chart.events))) same
-
--- without a list the races that are left are not told
-pub untold_without : (only : Option (List Bool)) (count : ℕ) → is_some only ≡ false → tells_left only count ≡ false
-untold_without only count none = ap (λ (b : Bool). b && nat_eq count 0) none
-
--- and they are not where there is a stick
-pub untold_with : (only : Option (List Bool)) (count : ℕ) → nat_eq count 0 ≡ false → tells_left only count ≡ false
-untold_with only count some = ap (λ (b : Bool). is_some only && b) some ∙ no_and (is_some only)
-  where
-    -- nothing holds beside what does not
-    no_and : (b : Bool) → (b && false) ≡ false
-    no_and true = refl
-    no_and false = refl
-
--- what is lent is there where it is
-pub is_some_copied : (only : Option (Bor (List Bool))) → is_some (option_copied only) ≡ is_some only
-is_some_copied None = refl
-is_some_copied (Some lines) = refl
-
--- a run that shows a stick is of the chart's events
-pub shown_events : (r : ReadyChart) → ReadyRunsKeepReadyLines → (e f : ℕ) (run : List ℕ) → IsStickRun (wiring_of r) (ready_in r) e f run
-    → AreEventsOf r.chart run
-shown_events r lines e f run is = run_events (wiring_of r) run ((lines r.queues r.chart (ready_in r) run).0 is.stuck.run).0
-
--- a fault in a text is one in a longer text, whatever was to be answered
-pub puts_more : (A B : Type 0) (e : WriteFault) (before after : Option (List ℕ)) (old new xs ys : List ℕ)
-    → Puts {A = A} (Err e) before after old new xs → Puts {A = B} (Err e) before after old new (xs ++ ys)
-puts_more A B e before after old new xs ys put =
-    fails_within A B e before before after old old new new [] xs ys (xs ++ ys) refl (pages_in before old old [] (sym (append-nil old))) put
-
--- what is known of a chart of which these are: whether some ready run is whole, and which stick is ahead
--- of each event
-pub known_so : (r : ReadyChart) → IsAccepted r.chart → EachFirstStickHasARun → RacesLeftAreTold → (may : Bool)
+-- what is known of a chart of which these are: whether some ready run is whole, and which blocked
+-- pair is ahead of each event
+pub known_so : (r : ReadyChart) → IsAccepted r.chart → EachFirstBlockedPairHasARun → RacesLeftAreTold → (may : Bool)
     → IsTrue may ↔ MayFinish (wiring_of r) (ready_in r) → (ahead : List (Option (ℕ × ℕ))) → AreAhead r ahead (length r.chart.events)
-    → (k : Knowledge) × IsKnown r k × (k.ahead ≡ ahead) × (k.may ≡ may)
+    → (k : StickFacts) × AreStickFacts r k × (k.ahead ≡ ahead) × (k.may ≡ may)
 known_so r accepted run left may may_is ahead are_ahead =
     let runs = run r.queues r.chart accepted (ready_in r) in
     let lefts = left r.queues r.chart accepted (ready_in r) in (
@@ -266,21 +101,146 @@ known_so r accepted run left may may_is ahead are_ahead =
       refl,
     )
 
--- what stands where a write came well stands where it did
-pub came_well : {A E : Type 0} (P : Type 0) (result written : Result A E) (a : A) → written ≡ result → written ≡ Ok a → OnOk result P → P
-came_well {A} {E} P result written a same ok on = subst (λ (r : Result A E). OnOk r P) (sym same ∙ ok) on
+-- each pair of a list that occurs in it so has a property that each occurring pair has
+all_occurring : (P : ℕ × ℕ → Type 0) (list : List (ℕ × ℕ)) → ((x y : ℕ) → Occurs list (x, y) → P (x, y)) → All P list
+all_occurring P list each = All-from_get_or P list (0, 0) (λ k inside.
+    let p = get_or list k (0, 0) in each p.0 p.1 (k, slice_get-get_or list k (0, 0) inside))
 
--- the sticks of a chart of one round are what stands behind the head, where no races are told
-pub body_put : (style : Style) (r : ReadyChart) (only : Option (List Bool)) (show : ℕ) (k : Knowledge) (names : Option RoundNames) (ahead : List (Option (ℕ × ℕ)))
-    → names ≡ None → k.ahead ≡ ahead → tells_left only (length (sticks_of r)) ≡ false
-    → told_sticks (texts_by style r.chart names) ahead k.runs show (told_of r names) ≡ body_text style r only show k
-body_put style r only show k names ahead once same untold =
-    ap (λ (n : Option RoundNames). told_sticks (texts_by style r.chart n) ahead k.runs show (told_of r n)) once
-    ∙ ap (λ (a : List (Option (ℕ × ℕ))). told_sticks (once_texts style r.chart) a k.runs show (sticks_of r)) (sym same)
-    ∙ sym (ap (λ (b : Bool). cond b (told_left style r.chart (left_pairs r k)) (told_sticks (once_texts style r.chart) k.ahead k.runs show (sticks_of r))) untold)
+-- the blocked pairs of an event can be printed
+pub sticks_printed : (r : ReadyChart) (d : Drawing) (ahead : List (Option (ℕ × ℕ))) (e : ℕ) → AreBlockedPairs r (blocked_pairs_of r) → HasAhead r ahead
+    → r.chart ≡ d → e < length r.chart.events → All (CanPrintStick r d ahead) (blocked_pairs_from r e)
+sticks_printed r d ahead e are has named within =
+    let test = is_blocked_pair (wiring_of r) (ready_in r) r.order in
+    let n : ℕ = length r.chart.events in
+    all_occurring (CanPrintStick r d ahead) (blocked_pairs_from r e) (λ x y there.
+    let parts = to_parts test e n x y there in
+    let here = (are e y).1 (of_from test n e y within parts.1 parts.2) in
+    record { blocked_pair = subst (λ (z : ℕ). IsBlockedPair (wiring_of r) (ready_in r) z y) (sym parts.0) here; has_ahead = has; same = named })
+
+-- and so can those between two rounds
+pub between_printed : (r : ReadyChart) (d named : Drawing) (ahead : List (Option (ℕ × ℕ))) (e : ℕ) → AreBetween r d (between_of r d) → HasAhead r ahead
+    → r.chart ≡ named → e < length r.chart.events → All (CanPrintStick r named ahead) (between_from r d e)
+between_printed r d named ahead e are has same within =
+    let test = is_between r d in
+    let n : ℕ = length r.chart.events in
+    all_occurring (CanPrintStick r named ahead) (between_from r d e) (λ x y there.
+    let parts = to_parts test e n x y there in
+    let here = (are e y).1 (of_from test n e y within parts.1 parts.2) in
+    record { blocked_pair = subst (λ (z : ℕ). IsBlockedPair (wiring_of r) (ready_in r) z y) (sym parts.0) here.blocked_pair; has_ahead = has; same = same })
+
+-- the races that are left are those of the test
+pub left_told : (r : ReadyChart) (wired : IsWired (wiring_of r)) → AreLeft (wiring_of r) (ready_in r) (left_in r wired)
+left_told r wired = (left_test (wiring_of r) wired (ready_in r)).1
+
+-- they can be printed
+pub left_printed : (r : ReadyChart) (wired : IsWired (wiring_of r)) (d : Drawing) (e : ℕ) → r.chart ≡ d → e < length r.chart.events
+    → All (λ p. (p.0 < length d.events) × (p.1 < length d.events)) (left_from r wired e)
+left_printed r wired d e same within =
+    let n : ℕ = length r.chart.events in
+    let size = ap (λ (c : Drawing). length c.events) same in
+    all_occurring (λ p. (p.0 < length d.events) × (p.1 < length d.events)) (left_from r wired e) (λ x y there.
+    let parts = to_parts (left_in r wired) e n x y there in
+    let first = parts.0 in
+    let second = parts.1 in
+    (omega (arith, first, within, size), omega (arith, second, size)))
+
+-- two tests for them are one
+pub one_left : (r : ReadyChart) (left other : ℕ → ℕ → Bool) → AreLeft (wiring_of r) (ready_in r) left → AreLeft (wiring_of r) (ready_in r) other → left ≡ other
+one_left r left other these those = fun_ext (λ e. fun_ext (λ f. same (left e f) (other e f)
+    (λ h. (those e f).1 ((these e f).0 h)) (λ h. (these e f).1 ((those e f).0 h))))
+  where
+    -- tests that pass together are equal
+    same : (a b : Bool) → (IsTrue a → IsTrue b) → (IsTrue b → IsTrue a) → a ≡ b
+    same true b to from = sym (to refl)
+    same false true to from = from refl
+    same false false to from = refl
+
+-- rows that leave the count as it is
+pub rows_alone : (row : ℕ × ℕ → List ℕ) (n : ℕ) (pairs : List (ℕ × ℕ)) → rows_from (λ m p. row p) (λ m p. m) n pairs ≡ flat_map row pairs
+rows_alone row n [] = refl
+rows_alone row n (p ∷ pairs) = ap (λ (t : List ℕ). row p ++ t) (rows_alone row n pairs)
+
+-- so the races that are left are printed by any test
+pub left_rows : (r : ReadyChart) (wired : IsWired (wiring_of r)) (row : ℕ × ℕ → List ℕ) (left : ℕ → ℕ → Bool) → AreLeft (wiring_of r) (ready_in r) left
+    → rows_from (λ m p. row p) (λ m p. m) 0 (below (left_from r wired) (length r.chart.events)) ≡ flat_map row (pairs_of left (length r.chart.events))
+left_rows r wired row left are =
+    rows_alone row 0 (below (left_from r wired) (length r.chart.events))
+    ∙ ap (flat_map row) (all_pairs (left_in r wired) (length r.chart.events))
+    ∙ ap (λ (test : ℕ → ℕ → Bool). flat_map row (pairs_of test (length r.chart.events))) (one_left r (left_in r wired) left (left_told r wired) are)
+
+-- what is written of a right answer is told
+pub tells : {W : Type 0} (contents : W → Option (List ℕ)) (says : Bool → List ℕ → Type 0) (result : Result Bool WriteFault) (old new : W)
+    (right : Bool) (text : List ℕ) → says right text → IfOk result (λ answer. answer ≡ right)
+    → Writes result (contents old) (contents new) text → Tells contents says result old new
+tells contents says (Ok answer) old new right text is same written = (text, subst (λ (a : Bool). says a text) (sym same) is, written)
+tells contents says (Err Memory) old new right text is same written = inr (right, text, is, written)
+tells contents says (Err Device) old new right text is same written = tt
+
+module _ (a b : Printed) (style : Style) (r : ReadyChart) (ahead list : List (Option (ℕ × ℕ))) (same : ahead ≡ list) (runs : ℕ → List ℕ) (show : ℕ) where
+  -- the blocked pairs that a source of pairs gives are all blocked pairs
+  pub blocked_pairs_rows : (d : Drawing) → d ≡ r.chart
+      → Prints a b (told_sticks (once_texts style d) ahead runs show (below (blocked_pairs_from r) (length r.chart.events)))
+      → Prints a b (told_sticks (once_texts style r.chart) list runs show (blocked_pairs_of r))
+  blocked_pairs_rows d chart put =
+      subst (λ (x : Drawing). Prints a b (told_sticks (once_texts style x) list runs show (blocked_pairs_of r))) chart
+      (subst (λ (l : List (Option (ℕ × ℕ))). Prints a b (told_sticks (once_texts style d) l runs show (blocked_pairs_of r))) same
+      (subst (λ (pairs : List (ℕ × ℕ)). Prints a b (told_sticks (once_texts style d) ahead runs show pairs))
+      (all_pairs (is_blocked_pair (wiring_of r) (ready_in r) r.order) (length r.chart.events)) put))
+
+  -- and so it is between two rounds, after their number
+  pub between_rows : (c : Printed) (d : Drawing) (count : ℕ) → count ≡ length (between_of r d) → Prints c a (again_count count)
+      → Prints a b (told_sticks (again_texts style d) ahead runs show (below (between_from r d) (length r.chart.events)))
+      → Prints c b (again_text style d r list runs show)
+  between_rows c d count number head put =
+      prints_then c a b (again_count (length (between_of r d))) (told_sticks (again_texts style d) list runs show (between_of r d))
+      (subst (λ (n : ℕ). Prints c a (again_count n)) number head)
+      (subst (λ (l : List (Option (ℕ × ℕ))). Prints a b (told_sticks (again_texts style d) l runs show (between_of r d))) same
+      (subst (λ (pairs : List (ℕ × ℕ)). Prints a b (told_sticks (again_texts style d) ahead runs show pairs))
+      (all_pairs (is_between r d) (length r.chart.events)) put))
+
+-- how many more runs are shown after all blocked pairs
+pub blocked_pairs_count : (r : ReadyChart) (ahead list : List (Option (ℕ × ℕ))) (show : ℕ) (result : Result ℕ AllocError) → ahead ≡ list
+    → IfOk result (λ next. next ≡ left_behind ahead show (below (blocked_pairs_from r) (length r.chart.events)))
+    → IfOk result (λ more. more ≡ left_behind list show (blocked_pairs_of r))
+blocked_pairs_count r ahead list show result same =
+    IfOk-weaker result _ _ (λ next is. is
+    ∙ ap (left_behind ahead show) (all_pairs (is_blocked_pair (wiring_of r) (ready_in r) r.order) (length r.chart.events))
+    ∙ ap (λ (l : List (Option (ℕ × ℕ))). left_behind l show (blocked_pairs_of r)) same)
+
+-- the races that are left are printed after their number
+pub left_prints : (a b c : Printed) (style : Style) (r : ReadyChart) (wired : IsWired (wiring_of r)) (d : Drawing) (count : ℕ) → d ≡ r.chart
+    → ((left : ℕ → ℕ → Bool) → AreLeft (wiring_of r) (ready_in r) left → count ≡ length (pairs_of left (length r.chart.events)))
+    → Prints a b (left_line count)
+    → Prints b c (rows_from (λ m p. left_race style d p) (λ m p. m) 0 (below (left_from r wired) (length r.chart.events)))
+    → (left : ℕ → ℕ → Bool) → AreLeft (wiring_of r) (ready_in r) left
+    → Prints a c (told_left style r.chart (pairs_of left (length r.chart.events)))
+left_prints a b c style r wired d count chart number head put left are =
+    let pairs = pairs_of left (length r.chart.events) in
+    prints_then a b c (left_line (length pairs)) (flat_map (left_race style r.chart) pairs)
+    (subst (λ (n : ℕ). Prints a b (left_line n)) (number left are) head)
+    (subst (λ (x : Drawing). Prints b c (flat_map (left_race style x) pairs)) chart
+    (subst (Prints b c) (left_rows r wired (left_race style d) left are) put))
+
+-- the head and what follows it are the answer on a chart
+pub once_prints : (a b c : Printed) (style : Style) (r s : ReadyChart) (only : Option (List Bool)) (show count : ℕ) (may : Bool) (k : StickFacts)
+    → s ≡ r → count ≡ length (blocked_pairs_of r) → k.may ≡ may → Prints a b (ready_head s.chart s.queues only count may)
+    → Prints b c (body_text style r only show k) → Prints a c (ready_text style r only show k)
+once_prints a b c style r s only show count may k same number known head body =
+    prints_then a b c (ready_head r.chart r.queues only (length (blocked_pairs_of r)) k.may) (body_text style r only show k)
+    (subst (λ (m : Bool). Prints a b (ready_head r.chart r.queues only (length (blocked_pairs_of r)) m)) (sym known)
+    (subst (λ (n : ℕ). Prints a b (ready_head r.chart r.queues only n may)) number
+    (subst (λ (x : ReadyChart). Prints a b (ready_head x.chart x.queues only count may)) same head)))
+    body
 
 -- what is known of two rounds is of the chart of two rounds
-pub rounds_twice : (d : Drawing) (queues : Queues) (only : Option (List Bool)) {K : Type 0} (sticks : K → ReadyChart) (two : Option K)
-    → AreRoundsOf d queues only (option_map sticks two) → MatchOption two (Unit {0}) (λ k. (sticks k).chart ≡ twice d)
-rounds_twice d queues only sticks None are = tt
-rounds_twice d queues only sticks (Some k) are = are.chart
+pub rounds_unrolled : (d : Drawing) (queues : Queues) (only : Option (List Bool)) (two : Option StickTable) → AreRoundsOf d queues only two → AreUnrolled d two
+rounds_unrolled d queues only None are = tt
+rounds_unrolled d queues only (Some two) are = (are.0.chart, are.1)
+
+-- the answer on a chart and that on two rounds are the answer
+pub answer_prints : (a b c : Printed) (answer : ReadyAnswer) (text : List ℕ) (is : IsReadyText answer text)
+    → Prints a b (ready_text answer.query.style answer.one.now.blocked_pairs (option_copied answer.query.only) answer.query.show is.known)
+    → Prints b c is.behind → Prints a c text
+answer_prints a b c answer text is first then =
+    subst (Prints a c) (sym is.same)
+    (prints_then a b c (ready_text answer.query.style answer.one.now.blocked_pairs (option_copied answer.query.only) answer.query.show is.known) is.behind first then)

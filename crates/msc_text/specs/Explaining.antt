@@ -13,10 +13,10 @@ use Rattle.msc_report.specs.declared.style.Style.{Style}
 -- whether a reason says that the first event is enforced before the second
 abbrev pub is_enforced : Reason → Bool
 is_enforced (reasons.Enforced why) = true
-is_enforced (reasons.Free run lack late) = false
+is_enforced (reasons.Free run cause late) = false
 
 -- What is printed of two events of a chart in a style, and whether the first is enforced before the
--- second: a reason that is right, with a short run where that is wanted.
+-- second: a reason that is right, with a short witness where that is wanted.
 pub record PrintsReason (d : Drawing) (queues : Queues) (e f : ℕ) (short : Bool) (style : Style) (enforced : Bool) (printed : List ℕ) : Type 0 where
   pub two : AreTwoEvents d e f
   pub reason : Reason

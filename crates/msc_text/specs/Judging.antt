@@ -4,63 +4,63 @@ use Rattle.std.specs.Borrow.{Bor}
 use Rattle.msc_chart.specs.declared.queue.Queues.{Queues}
 use Rattle.msc_chart.specs.Drawings.{Drawing, IsAccepted}
 use Rattle.msc_chart.specs.Lists.{Occurs}
-use Rattle.msc_chart.specs.Rounds.{twice}
+use Rattle.msc_chart.specs.Rounds.{two_rounds}
 use Rattle.msc_mark.specs.Accepting.{acceptance, accepts_race, stale_events}
 use Rattle.msc_mark.specs.declared.mark.Mark.{Mark}
 use Rattle.msc_order.specs.Tables.{Table}
 use Rattle.msc_race.specs.Views.{races_of}
 use Rattle.msc_race.specs.Wired.{enforced_chart, EnforcedChart, IsEnforced}
-use Rattle.msc_reason.specs.Counting.{counting, listed, AreLacks}
+use Rattle.msc_reason.specs.Counting.{counting, listed, AreCauses}
 use Rattle.msc_reason.specs.declared.kinds.KindSet.{KindSet}
 use Rattle.msc_reason.specs.PairTables.{has_pair, PairTable}
-use Rattle.msc_reason.specs.declared.lack.Lack.{Lack}
+use Rattle.msc_reason.specs.declared.cause.Cause.{Cause}
 use Rattle.msc_reason.specs.declared.left_out.LeftOut.{LeftOut}
 use Rattle.msc_judge.specs.Findings.{answer_text, left_of, passes, AreTables, Tables, Texts}
-use Rattle.msc_judge.specs.Questions.{counted, for_editors}
+use Rattle.msc_judge.specs.Options.{counted, for_editors}
 use Rattle.msc_judge.specs.Rounds.{rounds_text, AreRoundRaces}
 use Rattle.msc_judge.specs.declared.marking.Marking.{Marking}
-use Rattle.msc_judge.specs.declared.question.Question.{Question}
+use Rattle.msc_judge.specs.declared.options.CheckOptions.{CheckOptions}
 use Rattle.msc_report.specs.Counts.{tally_line}
 use Rattle.msc_report.specs.Lines.{finding_text, heading_text}
 use Rattle.msc_report.specs.Editors.{editor_text}
 use Rattle.msc_report.specs.Rounds.{again_count, round_finding, round_run_text, round_warning}
 use Rattle.msc_report.specs.Stale.{stale_lines, stale_warnings}
-use Rattle.msc_report.specs.Styles.{run_text, sites_in}
-use Rattle.msc_text.specs.declared.judging.Format.{Format}
-use Rattle.msc_text.specs.declared.judging.Format.TheVariants.{Lines, Count, Editor}
+use Rattle.msc_report.specs.Styles.{run_text, event_positions_in}
+use Rattle.msc_text.specs.declared.judging.ChartFormat.{ChartFormat}
+use Rattle.msc_text.specs.declared.judging.ChartFormat.TheVariants.{Lines, Count, Editor}
 
 -- the texts of each format, of a chart
-abbrev pub texts_in : Format → Drawing → Texts
+abbrev pub texts_in : ChartFormat → Drawing → Texts
 texts_in (Lines style) d = record {
   heading = heading_text d;
   run = run_text style.words d;
-  finding = finding_text (sites_in style) d;
-  end = stale_lines (sites_in style) d;
+  finding = finding_text (event_positions_in style) d;
+  end = stale_lines (event_positions_in style) d;
 }
 texts_in (Count file) d =
     record { heading = tally_line file.now; run = λ run. []; finding = λ f line. []; end = λ stale. [] }
-texts_in (Editor sites) d =
-    record { heading = λ h. []; run = λ run. []; finding = λ f line. editor_text sites.now d f; end = stale_warnings sites.now d }
+texts_in (Editor event_positions) d =
+    record { heading = λ h. []; run = λ run. []; finding = λ f line. editor_text event_positions.now d f; end = stale_warnings event_positions.now d }
 
 -- the texts of each format, of two rounds of a chart
-abbrev pub round_texts_in : Format → Drawing → Texts
+abbrev pub round_texts_in : ChartFormat → Drawing → Texts
 round_texts_in (Lines style) d = record {
   heading = λ h. again_count h.counting;
   run = round_run_text style.words d;
-  finding = round_finding (sites_in style) d;
+  finding = round_finding (event_positions_in style) d;
   end = λ stale. [];
 }
 round_texts_in (Count file) d =
     record { heading = λ h. []; run = λ run. []; finding = λ f line. []; end = λ stale. [] }
-round_texts_in (Editor sites) d =
-    record { heading = λ h. []; run = λ run. []; finding = λ f line. round_warning sites.now d f; end = λ stale. [] }
+round_texts_in (Editor event_positions) d =
+    record { heading = λ h. []; run = λ run. []; finding = λ f line. round_warning event_positions.now d f; end = λ stale. [] }
 
 -- what is asked, for a format: a count is of the closest races too, and of no race by itself; lines
 -- for editors tell the kind of each race, and show no run
-abbrev pub asked : Format → Question → Question
+abbrev pub asked : ChartFormat → CheckOptions → CheckOptions
 asked (Lines style) q = q
 asked (Count file) q = counted q.allowed
-asked (Editor sites) q = for_editors q
+asked (Editor event_positions) q = for_editors q
 
 -- what marks say of the races of a chart: which of them are accepted, and which marks accept none
 abbrev pub IsMarking : EnforcedChart → Option (List Mark) → Marking → Type 0
@@ -69,9 +69,9 @@ IsMarking e (Some marks) m = (pairs : Bor PairTable) × (m.accepted ≡ Some pai
     × ((p : ℕ × ℕ) → Occurs (races_of e) p → has_pair pairs.now p.0 p.1 ≡ accepts_race (acceptance marks e.chart e.queues) p)
     × (m.stale.now ≡ stale_events (acceptance marks e.chart e.queues) (races_of e))
 
--- What is printed of a chart, and whether no race counts and no mark accepts none: by the enforced order,
--- what its races lack, the runs that show them, and what marks say, where they are asked.
-pub record JudgesOnce (d : Drawing) (queues : Queues) (q : Question) (marks : Option (List Mark)) (format : Format) (passed : Bool) (printed : List ℕ) : Type 0 where
+-- What is printed of a chart, and whether no race counts and no mark accepts none: by the enforced
+-- order, what its races lack, the runs that show them, and what marks say, where they are asked.
+pub record JudgesOnce (d : Drawing) (queues : Queues) (q : CheckOptions) (marks : Option (List Mark)) (format : ChartFormat) (passed : Bool) (printed : List ℕ) : Type 0 where
   pub accepted : IsAccepted d
   pub order : Table
   pub by_order : IsEnforced (enforced_chart d queues order)
@@ -79,43 +79,43 @@ pub record JudgesOnce (d : Drawing) (queues : Queues) (q : Question) (marks : Op
   pub marked : IsMarking (enforced_chart d queues order) marks marking
   pub tables : Tables
   pub are : AreTables (enforced_chart d queues order) tables
-  pub answered : passed ≡ passes (enforced_chart d queues order) (asked format q) marking tables.lacks
+  pub answered : passed ≡ passes (enforced_chart d queues order) (asked format q) marking tables.causes
   pub text : printed ≡ answer_text (texts_in format d) (enforced_chart d queues order) (asked format q) marking tables
 
--- What is printed of two rounds of a chart behind so many races that are listed, and whether no race is
--- between the rounds: by the enforced order of the two, what their races lack, and the runs that show them.
--- The question is what is asked in the format.
-pub record JudgesRounds (d : Drawing) (queues : Queues) (q : Question) (format : Format) (number : ℕ) (none : Bool) (printed : List ℕ) : Type 0 where
+-- What is printed of two rounds of a chart behind so many races that are listed, and whether no
+-- race is between the rounds: by the enforced order of the two, what their races lack, and the runs
+-- that show them. The question is what is asked in the format.
+pub record JudgesRounds (d : Drawing) (queues : Queues) (q : CheckOptions) (format : ChartFormat) (number : ℕ) (none : Bool) (printed : List ℕ) : Type 0 where
   pub order : Table
-  pub by_order : IsEnforced (enforced_chart (twice d) queues order)
+  pub by_order : IsEnforced (enforced_chart (two_rounds d) queues order)
   pub tables : Tables
-  pub are : AreTables (enforced_chart (twice d) queues order) tables
+  pub are : AreTables (enforced_chart (two_rounds d) queues order) tables
   pub pairs : List (ℕ × ℕ)
-  pub told : AreRoundRaces d (enforced_chart (twice d) queues order) q.allowed tables.lacks pairs
+  pub told : AreRoundRaces d (enforced_chart (two_rounds d) queues order) q.allowed tables.causes pairs
   pub answered : none ≡ nat_eq (length pairs) 0
-  pub text : printed ≡ rounds_text (round_texts_in format d) (enforced_chart (twice d) queues order) q tables number pairs
+  pub text : printed ≡ rounds_text (round_texts_in format d) (enforced_chart (two_rounds d) queues order) q tables number pairs
 
--- What is printed of a chart and behind it of two rounds of the chart, and whether no race counts, no mark
--- accepts none, and no race is between the rounds. Findings are numbered on.
-pub record JudgesTwice (d : Drawing) (queues : Queues) (q : Question) (marks : Option (List Mark)) (format : Format) (passed : Bool) (printed : List ℕ) : Type 0 where
+-- What is printed of a chart and behind it of two rounds of the chart, and whether no race counts,
+-- no mark accepts none, and no race is between the rounds. Findings are numbered on.
+pub record JudgesUnrolled (d : Drawing) (queues : Queues) (q : CheckOptions) (marks : Option (List Mark)) (format : ChartFormat) (passed : Bool) (printed : List ℕ) : Type 0 where
   pub first : Bool
   pub above : List ℕ
   pub once : JudgesOnce d queues q marks format first above
   pub none : Bool
   pub below : List ℕ
   pub rounds : JudgesRounds d queues (asked format q) format (length (listed (enforced_chart d queues once.order)
-      (left_of (asked format q) once.marking) (asked format q).closest once.tables.lacks)) none below
+      (left_of (asked format q) once.marking) (asked format q).closest once.tables.causes)) none below
   pub answered : passed ≡ (first && none)
   pub text : printed ≡ above ++ below
 
 -- what is printed of a chart, of two rounds too where these are asked for, and what is answered
-abbrev pub JudgesChart : Drawing → Queues → Question → Option (List Mark) → Bool → Format → Bool → List ℕ → Type 0
+abbrev pub JudgesChart : Drawing → Queues → CheckOptions → Option (List Mark) → Bool → ChartFormat → Bool → List ℕ → Type 0
 JudgesChart d queues q marks false format = JudgesOnce d queues q marks format
-JudgesChart d queues q marks true format = JudgesTwice d queues q marks format
+JudgesChart d queues q marks true format = JudgesUnrolled d queues q marks format
 
--- the chart of two rounds, where it is given, is that of this chart
-abbrev pub AreTwoRounds : Drawing → Option (Bor Drawing) → Type 0
-AreTwoRounds d two = MatchOption two (Unit {0}) (λ t. t.now ≡ twice d)
+-- the two rounds, if they are given, are those of this chart
+abbrev pub AreItsRounds : Drawing → Option (Bor Drawing) → Type 0
+AreItsRounds d rounds = MatchOption rounds (Unit {0}) (λ u. u.now ≡ d)
 
 -- what does not count: races of these kinds, and those that marks accept
 abbrev pub left_out : KindSet → Marking → LeftOut
@@ -127,19 +127,19 @@ pub record PassesOnce (d : Drawing) (queues : Queues) (allowed : KindSet) (marks
   pub by_order : IsEnforced (enforced_chart d queues order)
   pub marking : Marking
   pub marked : IsMarking (enforced_chart d queues order) marks marking
-  pub lacks : ℕ → ℕ → Lack
-  pub are : AreLacks (enforced_chart d queues order) lacks
+  pub causes : ℕ → ℕ → Cause
+  pub are : AreCauses (enforced_chart d queues order) causes
   pub answered : passed
-      ≡ (nat_eq (length (counting (enforced_chart d queues order) (left_out allowed marking) lacks)) 0 && nat_eq (length marking.stale.now) 0)
+      ≡ (nat_eq (length (counting (enforced_chart d queues order) (left_out allowed marking) causes)) 0 && nat_eq (length marking.stale.now) 0)
 
 -- whether no race is between two rounds of a chart
 pub record PassesRounds (d : Drawing) (queues : Queues) (allowed : KindSet) (passed : Bool) : Type 0 where
   pub order : Table
-  pub by_order : IsEnforced (enforced_chart (twice d) queues order)
-  pub lacks : ℕ → ℕ → Lack
-  pub are : AreLacks (enforced_chart (twice d) queues order) lacks
+  pub by_order : IsEnforced (enforced_chart (two_rounds d) queues order)
+  pub causes : ℕ → ℕ → Cause
+  pub are : AreCauses (enforced_chart (two_rounds d) queues order) causes
   pub pairs : List (ℕ × ℕ)
-  pub told : AreRoundRaces d (enforced_chart (twice d) queues order) allowed lacks pairs
+  pub told : AreRoundRaces d (enforced_chart (two_rounds d) queues order) allowed causes pairs
   pub answered : passed ≡ nat_eq (length pairs) 0
 
 -- behind a chart that passes it is asked of two rounds

@@ -1,9 +1,7 @@
 -- what is promised
-pub mod Answers
-pub mod Checking
 pub mod Judging
 pub mod Explaining
 pub mod Readying
 -- what the code keeps
-pub mod Plain
+pub mod LeftRaces
 pub mod Readied

@@ -1,38 +1,55 @@
--- Sticks and races that are left, as they come.
-use Rattle.std.specs.Prelude.{◌≡◌, ℕ, ◌<◌, Bool, List, Option, None, Some, Result, IfOk, length}
+-- The rows of blocked pairs and of races that are left, and the answer on ready instances.
+use Rattle.std.specs.Prelude.{◌≡◌, ℕ, ◌<◌, ◌&&◌, Bool, true, List, [], ◌++◌, Option, None, Some, MatchOption, IsTrue, length, nat_eq, is_some}
 use Rattle.std.specs.List.{All}
+use Rattle.std.specs.Option.{option_copied}
 use Rattle.msc_chart.specs.declared.queue.Queues.{Queues}
+use Rattle.msc_chart.specs.Charts.{is_input}
 use Rattle.msc_chart.specs.Drawings.{Drawing}
-use Rattle.msc_chart.specs.Lists.{pairs_of, pairs_to}
-use Rattle.msc_chart.specs.Rounds.{twice}
-use Rattle.msc_judge.specs.Pages.{Puts}
-use Rattle.msc_judge.specs.declared.page.WriteFault.{WriteFault}
+use Rattle.msc_chart.specs.Rounds.{two_rounds}
 use Rattle.msc_ready.specs.Held.{ready_in, wiring_of, HasVisualOrder, ReadyChart}
-use Rattle.msc_ready.specs.Rounds.{between_of, is_between, AreBetween}
-use Rattle.msc_ready.specs.Running.{AreStickRuns}
-use Rattle.msc_ready.specs.Sticks.{is_stick, IsStick}
-use Rattle.msc_report.specs.declared.rounds.RoundNames.{RoundNames}
+use Rattle.msc_ready.specs.Rounds.{between_of, AreBetween}
+use Rattle.msc_ready.specs.Running.{AreBlockedPairRuns}
+use Rattle.msc_ready.specs.BlockedPairs.{IsBlockedPair}
+use Rattle.msc_ready.specs.Views.{HasAhead}
+use Rattle.msc_reason.specs.Named.{AreEventsOf}
+use Rattle.msc_report.specs.EventTexts.{AreTextsOf}
 use Rattle.msc_report.specs.declared.style.Style.{Style}
-use Rattle.msc_text.specs.Readying.{again_texts, lines_of, once_texts, PrintsAgain, StickTexts}
-use Rattle.msc_text.specs.declared.telling.KnownRun.{KnownRun}
+use Rattle.msc_text.specs.Readying.{again_text, finishes, lines_of, more_after, ready_text, AreStickFacts, StickFacts, PrintsAgain, StickTexts}
+use Rattle.msc_text.specs.declared.readying.ReadyAnswer.{ReadyAnswer}
+use Rattle.msc_text.specs.declared.readying.StickTable.{StickTable}
+use Rattle.msc_text.specs.declared.blocked_pairs.KnownRun.{KnownRun}
 
--- how sticks are told: of two rounds, where their events have names of rounds
-abbrev pub texts_by : Style → Drawing → Option RoundNames → StickTexts
-texts_by style d None = once_texts style d
-texts_by style d (Some names) = again_texts style names.chart.now
+-- how blocked pairs are printed: these three
+abbrev pub stick_texts : (ℕ × ℕ → List ℕ) → (ℕ × ℕ → List ℕ) → (List ℕ → List ℕ) → StickTexts
+stick_texts bare behind run = record { bare = bare; behind = behind; run = run }
 
--- whether a pair is a stick that is told: of two rounds one between them
-abbrev pub test_by : ReadyChart → Option RoundNames → ℕ → ℕ → Bool
-test_by r None = is_stick (wiring_of r) (ready_in r) r.order
-test_by r (Some names) = is_between r names.chart.now
+-- a blocked pair of this drawing can be printed with the one that is ahead of it, or with this run
+pub record CanAppendStick (d : Drawing) (blocked_pair : ℕ × ℕ) (ahead : Option (ℕ × ℕ)) (run : Option (List ℕ)) : Type 0 where
+  pub first : IsTrue (is_input d.events blocked_pair.0)
+  pub second : IsTrue (is_input d.events blocked_pair.1)
+  pub ahead_known : MatchOption ahead (Unit {0}) (λ p. (p.0 < length d.events) × (p.1 < length d.events))
+  pub run_known : MatchOption run (Unit {0}) (AreEventsOf d)
 
--- all sticks that are told, ascending
-abbrev pub told_of : ReadyChart → Option RoundNames → List (ℕ × ℕ)
-told_of r names = pairs_of (test_by r names) (length r.chart.events)
+-- a pair can be printed as a blocked pair: it is one, of the chart whose events are named
+pub record CanPrintStick (r : ReadyChart) (named : Drawing) (ahead : List (Option (ℕ × ℕ))) (p : ℕ × ℕ) : Type 0 where
+  pub blocked_pair : IsBlockedPair (wiring_of r) (ready_in r) p.0 p.1
+  pub has_ahead : HasAhead r ahead
+  pub same : r.chart ≡ named
 
--- those whose first event is e, ascending
-abbrev pub told_from : ReadyChart → Option RoundNames → ℕ → List (ℕ × ℕ)
-told_from r names e = pairs_to (test_by r names) e (length r.chart.events)
+-- these are the runs of pairs: each first blocked pair is shown by that of its second event
+pub record ArePairRuns (r : ReadyChart) (runs : ℕ × ℕ → List ℕ) : Type 0 where
+  pub each : ℕ → List ℕ
+  pub are : AreBlockedPairRuns (wiring_of r) (ready_in r) each
+  pub same : (p : ℕ × ℕ) → runs p ≡ each p.1
+
+-- each of these runs is the one of its second event
+abbrev pub AreRuns : (ℕ → List ℕ) → List KnownRun → Type 0
+AreRuns runs = All (λ known. known.run.items ≡ runs known.second)
+
+-- so it is where a run shows each first blocked pair with a second event
+abbrev pub AreKnown : ReadyChart → List KnownRun → Type 0
+AreKnown r known =
+    (runs : ℕ → List ℕ) → AreBlockedPairRuns (wiring_of r) (ready_in r) runs → AreRuns runs known
 
 -- this is a chart under an architecture whose instances are ready, or those of a list
 pub record IsReadyOf (d : Drawing) (asked : Queues) (only : Option (List Bool)) (r : ReadyChart) : Type 0 where
@@ -40,43 +57,61 @@ pub record IsReadyOf (d : Drawing) (asked : Queues) (only : Option (List Bool)) 
   pub queues : r.queues ≡ asked
   pub lines : r.lines ≡ lines_of only
 
--- this is the chart of two rounds, where they are asked for
-abbrev pub AreRoundsOf : Drawing → Queues → Option (List Bool) → Option ReadyChart → Type 0
+-- this is the chart of two rounds, if they are asked for
+abbrev pub AreRoundsOf : Drawing → Queues → Option (List Bool) → Option StickTable → Type 0
 AreRoundsOf d queues only None = Unit {0}
-AreRoundsOf d queues only (Some r) = IsReadyOf (twice d) queues only r
+AreRoundsOf d queues only (Some two) = IsReadyOf (two_rounds d) queues only two.blocked_pairs × HasAhead two.blocked_pairs two.ahead.items
 
--- what is said of two rounds of a chart: the sticks between them, and the run of each that is first
-pub record AreTold (d : Drawing) (r : ReadyChart) : Type 0 where
+-- and it can be printed with the names of the events of two rounds
+abbrev pub AreUnrolled : Drawing → Option StickTable → Type 0
+AreUnrolled d None = Unit {0}
+AreUnrolled d (Some two) = (two.blocked_pairs.chart ≡ two_rounds d) × HasAhead two.blocked_pairs two.ahead.items
+
+-- the facts on two rounds of a chart: the blocked pairs between them, and the run of each that is
+-- first
+pub record AreBetweenRounds (d : Drawing) (r : ReadyChart) : Type 0 where
   pub visual : HasVisualOrder r
-  pub sticks : AreBetween r d (between_of r d)
+  pub blocked_pairs : AreBetween r d (between_of r d)
   pub runs : ℕ → List ℕ
-  pub are_runs : AreStickRuns (wiring_of r) (ready_in r) runs
+  pub are_runs : AreBlockedPairRuns (wiring_of r) (ready_in r) runs
 
--- something is printed of two rounds, where they are asked for
-abbrev pub SaysAgain : Bool → Drawing → Queues → Option (List Bool) → Type 0
-SaysAgain again d queues only =
-    (more : ℕ) (style : Style) → (none : Bool) × (text : List ℕ) × PrintsAgain again d queues only more style none text
+-- there is no blocked pair between two rounds, if they are asked for
+abbrev pub has_none_between : Drawing → Option StickTable → Bool
+has_none_between d None = true
+has_none_between d (Some two) = nat_eq (length (between_of two.blocked_pairs d)) 0
 
--- what is printed of two rounds, where they are asked for, was put behind a page, and it was answered
--- whether there is no stick between them
-abbrev pub PutsAgain : Bool → Drawing → Queues → Option (List Bool) → ℕ → Style → Result Bool WriteFault → Option (List ℕ) → Option (List ℕ) → List ℕ → List ℕ → Type 0
-PutsAgain again d queues only more style result before after old new =
-    (none : Bool) × (text : List ℕ) × PrintsAgain again d queues only more style none text
-    × Puts result before after old new text × IfOk result (λ answer. answer ≡ none)
+-- this is the text on the blocked pairs between two rounds, if they are asked for
+abbrev pub IsAgainText : Style → Drawing → Option StickTable → ℕ → List ℕ → Type 0
+IsAgainText style d None more text = text ≡ []
+IsAgainText style d (Some two) more text =
+    (runs : ℕ → List ℕ) × AreBlockedPairRuns (wiring_of two.blocked_pairs) (ready_in two.blocked_pairs) runs
+    × (text ≡ again_text style d two.blocked_pairs two.ahead.items runs more)
 
--- each pair of the list is a stick
-abbrev pub AreSticksIn : ReadyChart → List (ℕ × ℕ) → Type 0
-AreSticksIn r = All (λ p. IsStick (wiring_of r) (ready_in r) p.0 p.1)
+-- there is such a text, and it is what is promised
+abbrev pub HasAgainText : Drawing → Queues → Option (List Bool) → Option StickTable → Type 0
+HasAgainText d queues only two =
+    (more : ℕ) (style : Style) → (text : List ℕ) × IsAgainText style d two more text
+    × PrintsAgain (is_some two) d queues only more style (has_none_between d two) text
 
--- each pair of the list is of two of so many events
-abbrev pub AreEvents : ℕ → List (ℕ × ℕ) → Type 0
-AreEvents n = All (λ p. (p.0 < n) × (p.1 < n))
+-- the answer can be printed
+pub record CanPrintReady (answer : ReadyAnswer) : Type 0 where
+  pub lines : (l : List Bool) → option_copied answer.query.only ≡ Some l → length l ≡ length answer.one.now.blocked_pairs.chart.instances
+  pub ahead : HasAhead answer.one.now.blocked_pairs answer.one.now.ahead.items
+  pub texts : AreTextsOf answer.one.now.blocked_pairs.chart answer.texts.now
+  pub two : AreUnrolled answer.names.chart.now (option_copied answer.two)
 
--- each of these runs is the one of its second event
-abbrev pub AreRuns : (ℕ → List ℕ) → List KnownRun → Type 0
-AreRuns runs = All (λ known. known.run.items ≡ runs known.second)
+-- this is its text
+pub record IsReadyText (answer : ReadyAnswer) (text : List ℕ) : Type 0 where
+  pub known : StickFacts
+  pub is : AreStickFacts answer.one.now.blocked_pairs known
+  pub ahead : known.ahead ≡ answer.one.now.ahead.items
+  pub may : known.may ≡ answer.may
+  pub behind : List ℕ
+  pub again : IsAgainText answer.query.style answer.names.chart.now (option_copied answer.two) (more_after answer.one.now.blocked_pairs answer.query.show known) behind
+  pub same : text ≡ ready_text answer.query.style answer.one.now.blocked_pairs (option_copied answer.query.only) answer.query.show known ++ behind
 
--- so it is where a run shows each first stick with a second event
-abbrev pub AreKnown : ReadyChart → List KnownRun → Type 0
-AreKnown r known =
-    (runs : ℕ → List ℕ) → AreStickRuns (wiring_of r) (ready_in r) runs → AreRuns runs known
+-- and it is answered whether the system finishes, and there is no blocked pair between two rounds
+abbrev pub IsReadyAnswer : ReadyAnswer → Bool → Type 0
+IsReadyAnswer answer passed =
+    (k : StickFacts) → AreStickFacts answer.one.now.blocked_pairs k
+    → passed ≡ (finishes answer.one.now.blocked_pairs (option_copied answer.query.only) k && has_none_between answer.names.chart.now (option_copied answer.two))

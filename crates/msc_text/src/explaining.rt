@@ -1,5 +1,4 @@
-//! What is printed of two events of a chart: why the first comes before the second, or how it need
-//! not.
+//! Why one event of a chart comes before another, or a run in which it does not.
 
 ghost use Rattle.std.specs.Prelude.{◌≡◌, ◌<◌, length, IfOk};
 ghost use Rattle.msc_chart.specs.Orders.{wired};
@@ -10,14 +9,14 @@ ghost use Rattle.msc_report.specs.Reasons.{explained_text, NamesRun};
 ghost use Rattle.msc_text.specs.Explaining.{is_enforced, PrintsReason};
 
 use msc_chart::{Chart, Event, Queues};
-use msc_judge::Page;
+use msc_print::Page;
 use msc_race::Enforced;
 use msc_reason::laws::{a_reason_names_events, a_why_is_enough};
 use msc_reason::{Reason, explain};
 use msc_report::{Style, write_explained};
 use std::alloc::{AllocError, Global};
 
-/// Why `e` is enforced before `f`, or how it need not be.
+/// The reason why `e` is enforced before `f`, or a run in which it does not come first.
 fn reason_of(
     alloc: Global,
     chart: &Chart,
@@ -55,7 +54,7 @@ fn page_of(
     page.if_written(written)
 }
 
-/// Whether it is why the first event is enforced before the second.
+/// Whether the reason says that the first event is enforced before the second.
 fn is_enforced(reason: &Reason) -> bool
     ensures { result ≡ is_enforced reason.now }
 {
@@ -65,10 +64,10 @@ fn is_enforced(reason: &Reason) -> bool
     }
 }
 
-/// What is printed of two events of a chart under an architecture: why `e` comes before `f`, a
-/// chain of steps, each of which is a rule of the enforced order; or how it need not, a run that
-/// has `f` and not `e` before it, a short one where that is wanted, with what the pair lacks where it
-/// is a race. Answers too whether `e` is enforced before `f`. An error is a growth of memory that was
+/// The explanation of two events of a chart under an architecture. If `e` is enforced before `f`,
+/// it is a chain of steps, each by a rule of the enforced order. Otherwise it is a run that has `f`
+/// and not `e` before it, a short one if requested, and what the pair lacks if it is a race.
+/// Returns also whether `e` is enforced before `f`. An error is a growth of memory that was
 /// refused.
 pub fn explain_pair(
     alloc: Global,
@@ -85,7 +84,7 @@ pub fn explain_pair(
 {
     a_reason_names_events();
     a_why_is_enough();
-    chart.accepted();
+    chart.facts();
     let reason = reason_of(alloc, chart, queues, e, f, short)?;
     let page = page_of(alloc, chart, queues, e, f, &reason, style)?;
     Ok((page, is_enforced(&reason)))

@@ -1,193 +1,273 @@
-//! What is asked of the races of a chart, in bytes.
+//! Writes the races of a chart in a format, or answers whether there are any that count.
 
-ghost use Rattle.std.specs.Prelude.{◌≡◌, ◌&&◌, IfOk, List, Option, is_some, length, nat_eq};
+ghost use Rattle.std.specs.Prelude.{◌≡◌, ◌&&◌, IfOk, List, None, Option, is_some, length, nat_eq};
 ghost use Rattle.std.specs.Prelude.{option_map};
-ghost use Rattle.msc_chart.specs.Rounds.{twice};
 ghost use Rattle.msc_judge.specs.Findings.{Answers};
-ghost use Rattle.msc_judge.specs.Pages.{Tells};
+ghost use Rattle.msc_print.specs.Pages.{Tells};
 ghost use Rattle.msc_judge.specs.Rounds.{AnswersRounds};
 ghost use Rattle.msc_mark.specs.declared.mark.Mark.{Mark};
 ghost use Rattle.msc_reason.specs.Counting.{counting};
 ghost use Rattle.msc_reason.specs.LeftOut.{of_kinds};
-ghost use Rattle.msc_reason.specs.Marked.{lack_in};
+ghost use Rattle.msc_reason.specs.Marked.{cause_in};
 ghost use Rattle.msc_reason.specs.Named.{AreEventsOf};
-ghost use Rattle.msc_text.specs.Judging.{asked, left_out, round_texts_in, texts_in, AreTwoRounds};
+ghost use Rattle.msc_text.specs.Judging.{asked, left_out, round_texts_in, texts_in, AreItsRounds};
 ghost use Rattle.msc_text.specs.Judging.{IsMarking, JudgesChart, Passes, PassesOnce, PassesRounds};
 
-use msc_chart::{Chart, Queues, RoundNumbers};
-use msc_judge::{Marking, Question, Rounds, Silent, WriteFault, judge, judge_rounds};
+use msc_chart::{Chart, Queues, Unrolled};
+use msc_judge::{CheckOptions, Marking, RaceCheck, Rounds, Silent, judge, judge_rounds};
 use msc_mark::{Accepted, Marks};
-use msc_place::Sites;
+use msc_place::EventPositions;
+use msc_print::WriteFault;
 use msc_race::Enforced;
-use msc_race::laws::{short_runs_show, the_chosen_run_reverses};
+use msc_race::laws::{short_witnesses_show, the_witness_reverses};
 use msc_reason::{KindSet, LeftOut, Listing, none_counts};
-use msc_report::{Counts, Editor, Lines, RoundEditor, RoundLines, RoundNames, Style};
+use msc_report::{Counts, EditorLines, Lines, RoundEditor, RoundLines, RoundNames, Style};
 use std::alloc::{AllocError, Global};
 use std::io::Write;
 
-/// How what is asked of a chart's races is written.
+/// The format of an answer on the races of a chart.
 #[derive(Clone, Copy)]
-pub enum Format<'f> {
-    /// The head of the verdict, and for each race lines, in a style.
+pub enum ChartFormat<'f> {
+    /// The head of the verdict and the lines of each race, in a style.
     Lines(Style<'f>),
-    /// One line with the number of races, and of the closest of those that count, for the file of
-    /// this name.
+    /// One line for the file of this name, with the number of races, and of the closest of those
+    /// that count.
     Count(&'f [u8]),
-    /// For each race the lines that editors read, of a text whose events stand there.
-    Editor(&'f Sites<'f>),
+    /// The lines for editors of each race, with the places of the events in the text.
+    Editor(&'f EventPositions<'f>),
 }
 
-/// Writes what is asked of a chart's races in a format; answers whether none counts and no mark
-/// accepts none.
+/// Writes the races of a chart in a format; returns whether none counts and each mark accepts a
+/// race.
 fn judge_in<W: Write>(
     alloc: Global,
     enforced: Enforced<'_>,
-    question: Question,
+    options: CheckOptions,
     marking: Marking<'_>,
-    format: Format<'_>,
+    format: ChartFormat<'_>,
     writer: &mut W,
 ) -> Result<bool, WriteFault>
     requires { AreEventsOf enforced.chart marking.stale.now }
-    ensures { Answers enforced.entry (asked format.entry question) marking.entry
+    ensures { Answers enforced.entry (asked format.entry options) marking.entry
         (texts_in format.entry enforced.entry.chart)
         result (W.contents writer.old) (W.contents writer.new) }
 {
-    the_chosen_run_reverses();
-    short_runs_show();
-    enforced.enforced();
+    the_witness_reverses();
+    short_witnesses_show();
+    enforced.facts();
     let races = enforced.count_races();
     match format {
-        Format::Lines(style) => {
-            let lines = Lines::of(alloc, enforced.chart(), races, style)?;
-            judge(alloc, enforced, races, question, marking, &lines, writer)
+        ChartFormat::Lines(style) => {
+            let renderer = &Lines::of(alloc, enforced.chart(), races, style)?;
+            let check = RaceCheck {
+                enforced,
+                races,
+                options,
+                marking,
+                renderer,
+            };
+            judge(alloc, check, writer)
         }
-        Format::Count(file) => {
-            let counted = Question::counted(question.allowed);
-            let counts = Counts { file };
-            judge(alloc, enforced, races, counted, marking, &counts, writer)
+        ChartFormat::Count(file) => {
+            let check = RaceCheck {
+                enforced,
+                races,
+                options: CheckOptions::counted(options.allowed),
+                marking,
+                renderer: &Counts { file },
+            };
+            judge(alloc, check, writer)
         }
-        Format::Editor(sites) => {
-            let asked = question.for_editors();
-            let editor = Editor { sites };
-            judge(alloc, enforced, races, asked, marking, &editor, writer)
+        ChartFormat::Editor(event_positions) => {
+            let renderer = &EditorLines::of(alloc, enforced.chart(), races, event_positions)?;
+            let check = RaceCheck {
+                enforced,
+                races,
+                options: options.for_editors(),
+                marking,
+                renderer,
+            };
+            judge(alloc, check, writer)
         }
     }
 }
 
-/// Writes the same, and behind it what is asked of two rounds of the chart; answers whether there is
-/// no race between these either.
-fn judge_twice<'j, W: Write>(
+/// Writes the races of a chart, and then those between two rounds of it. Returns whether no race
+/// counts, each mark accepts a race, and no race is between the rounds.
+fn judge_rounds_of<'j, W: Write>(
     alloc: Global,
     enforced: Enforced<'j>,
-    question: Question,
+    options: CheckOptions,
     marking: Marking<'_>,
     rounds: Rounds<'j, 'j>,
-    format: Format<'j>,
+    format: ChartFormat<'j>,
     writer: &mut W,
 ) -> Result<bool, WriteFault>
     requires stale { AreEventsOf enforced.chart marking.stale.now }
     requires one { rounds.numbers.now ≡ enforced.chart }
-    requires two { rounds.listing.now.judged.chart ≡ twice enforced.chart }
-    requires kinds { rounds.listing.now.allowed ≡ of_kinds question.allowed }
+    requires kinds { rounds.listing.now.allowed ≡ of_kinds options.allowed }
     ensures { AnswersRounds enforced.entry rounds.entry.listing.now.judged
-        (asked format.entry question) marking.entry
+        (asked format.entry options) marking.entry
         (texts_in format.entry enforced.entry.chart)
         (round_texts_in format.entry enforced.entry.chart)
         result (W.contents writer.old) (W.contents writer.new) }
 {
-    the_chosen_run_reverses();
-    short_runs_show();
-    enforced.enforced();
-    rounds.listing.enforced().enforced();
+    the_witness_reverses();
+    short_witnesses_show();
+    enforced.facts();
+    rounds.listing.enforced().facts();
     let races = enforced.count_races();
-    let names = RoundNames {
-        chart: enforced.chart(),
-        numbers: rounds.numbers,
-    };
+    let (chart, numbers) = (enforced.chart(), rounds.numbers);
     match format {
-        Format::Lines(style) => {
-            let lines = Lines::of(alloc, enforced.chart(), races, style)?;
-            let again = RoundLines { names, style };
-            judge_rounds(
-                alloc, enforced, races, question, marking, &lines, rounds, &again, writer,
-            )
+        ChartFormat::Lines(style) => {
+            let renderer = &Lines::of(alloc, chart, races, style)?;
+            let names = RoundNames {
+                chart,
+                numbers,
+                texts: renderer.texts(),
+            };
+            let check = RaceCheck {
+                enforced,
+                races,
+                options,
+                marking,
+                renderer,
+            };
+            judge_rounds(alloc, check, rounds, &RoundLines { names, style }, writer)
         }
-        Format::Count(file) => {
-            let counted = Question::counted(question.allowed);
-            let counts = Counts { file };
-            judge_rounds(
-                alloc, enforced, races, counted, marking, &counts, rounds, &Silent, writer,
-            )
+        ChartFormat::Count(file) => {
+            let check = RaceCheck {
+                enforced,
+                races,
+                options: CheckOptions::counted(options.allowed),
+                marking,
+                renderer: &Counts { file },
+            };
+            judge_rounds(alloc, check, rounds, &Silent, writer)
         }
-        Format::Editor(sites) => {
-            let asked = question.for_editors();
-            let editor = Editor { sites };
-            let again = RoundEditor { names, sites };
+        ChartFormat::Editor(event_positions) => {
+            let renderer = &EditorLines::of(alloc, chart, races, event_positions)?;
+            let names = RoundNames {
+                chart,
+                numbers,
+                texts: None,
+            };
+            let check = RaceCheck {
+                enforced,
+                races,
+                options: options.for_editors(),
+                marking,
+                renderer,
+            };
             judge_rounds(
-                alloc, enforced, races, asked, marking, &editor, rounds, &again, writer,
+                alloc,
+                check,
+                rounds,
+                &RoundEditor {
+                    names,
+                    event_positions,
+                },
+                writer,
             )
         }
     }
 }
 
-/// Writes what is asked of a chart's races by marks in a format, and of its two rounds where these
+/// Writes the races of a chart with these marks in a format, and those of its two rounds if they
 /// are given.
 fn judge_by<W: Write>(
     alloc: Global,
     enforced: Enforced<'_>,
-    question: Question,
+    options: CheckOptions,
     marking: Marking<'_>,
-    two: Option<&Chart>,
-    format: Format<'_>,
+    rounds: Option<&Unrolled<'_>>,
+    format: ChartFormat<'_>,
     writer: &mut W,
 ) -> Result<bool, WriteFault>
     requires stale { AreEventsOf enforced.chart marking.stale.now }
-    requires two { AreTwoRounds enforced.chart two }
+    requires rounds { AreItsRounds enforced.chart rounds }
     ensures { (marks : Option (List Mark)) → IsMarking enforced.entry marks marking.entry
-        → Tells W.contents (JudgesChart enforced.entry.chart enforced.entry.queues question marks
-        (is_some two.entry) format.entry) result writer.old writer.new }
+        → Tells W.contents (JudgesChart enforced.entry.chart enforced.entry.queues options marks
+        (is_some rounds.entry) format.entry) result writer.old writer.new }
 {
-    enforced.enforced();
-    let Some(two) = two else {
-        return judge_in(alloc, enforced, question, marking, format, writer);
+    enforced.facts();
+    let Some(unrolled) = rounds else {
+        return judge_in(alloc, enforced, options, marking, format, writer);
     };
-    let numbers = RoundNumbers::of(alloc, enforced.chart())?;
-    let both = Enforced::of(alloc, two, enforced.queues())?;
-    both.enforced();
-    let left = LeftOut::of_kinds(question.allowed);
+    let both = Enforced::of(alloc, unrolled.two(), enforced.queues())?;
+    both.facts();
+    let left = LeftOut::of_kinds(options.allowed);
     let listing = Listing::of(alloc, both, left, false)?;
     let rounds = Rounds {
         listing: &listing,
-        numbers: &numbers,
+        numbers: unrolled.numbers(),
     };
-    judge_twice(alloc, enforced, question, marking, rounds, format, writer)
+    judge_rounds_of(alloc, enforced, options, marking, rounds, format, writer)
 }
 
-/// Writes what is asked of a chart's races under an architecture in a format, where marks are asked
-/// without those that they accept, and behind it of the chart of two rounds, where that is given,
-/// the closest races between the first and the second. Answers whether none counts, no mark accepts
-/// none, and none is between the rounds. `Device` is answered where the writer fails.
+/// A chart under an architecture, with its marks and its two rounds.
+#[derive(Clone, Copy)]
+pub struct CheckInput<'j> {
+    pub chart: &'j Chart,
+    pub queues: Queues,
+    /// The marks of the chart's text, if the races that they accept do not count.
+    pub marks: Option<&'j Marks>,
+    /// Two rounds of the chart, if the races between them count too.
+    pub rounds: Option<&'j Unrolled<'j>>,
+}
+
+impl<'j> CheckInput<'j> {
+    /// A chart under an architecture, with these marks and rounds.
+    pub fn of(
+        chart: &'j Chart,
+        queues: Queues,
+        marks: Option<&'j Marks>,
+        rounds: Option<&'j Unrolled<'j>>,
+    ) -> CheckInput<'j>
+        ensures chart { result.chart ≡ chart.entry }
+        ensures queues { result.queues ≡ queues }
+        ensures marks { result.marks ≡ marks.entry }
+        ensures rounds { result.rounds ≡ rounds.entry }
+    {
+        CheckInput {
+            chart,
+            queues,
+            marks,
+            rounds,
+        }
+    }
+}
+
+/// Writes the races of a chart that the options select, in a format, and then, if two rounds are
+/// given, the closest races between the first and the second. Returns whether no race counts, each
+/// mark accepts a race, and no race is between the rounds. `Device` says that a write failed.
 pub fn judge_chart<W: Write>(
     alloc: Global,
-    chart: &Chart,
-    queues: Queues,
-    question: Question,
-    marks: Option<&Marks>,
-    two: Option<&Chart>,
-    format: Format<'_>,
+    input: CheckInput<'_>,
+    options: CheckOptions,
+    format: ChartFormat<'_>,
     writer: &mut W,
 ) -> Result<bool, WriteFault>
-    requires { AreTwoRounds chart.now two }
-    ensures { Tells W.contents (JudgesChart chart.now queues question
-        (option_map (λ m. m.now) marks.entry) (is_some two.entry) format.entry)
+    requires { AreItsRounds input.chart.now input.rounds }
+    ensures { Tells W.contents (JudgesChart input.entry.chart.now input.entry.queues options
+        (option_map (λ m. m.now) input.entry.marks) (is_some input.entry.rounds) format.entry)
         result writer.old writer.new }
 {
-    chart.accepted();
+    let (chart, queues, marks) = (input.chart, input.queues, input.marks);
+    chart.facts();
     let enforced = Enforced::of(alloc, chart, queues)?;
-    enforced.enforced();
+    enforced.facts();
     let Some(marks) = marks else {
         let marking = Marking::none();
-        return judge_by(alloc, enforced, question, marking, two, format, writer);
+        return judge_by(
+            alloc,
+            enforced,
+            options,
+            marking,
+            input.rounds,
+            format,
+            writer,
+        );
     };
     let accepted = Accepted::of(alloc, marks, chart, queues)?;
     let pairs = accepted.pairs(alloc, &enforced)?;
@@ -196,11 +276,19 @@ pub fn judge_chart<W: Write>(
         accepted: Some(&pairs),
         stale: stale.as_slice(),
     };
-    judge_by(alloc, enforced, question, marking, two, format, writer)
+    judge_by(
+        alloc,
+        enforced,
+        options,
+        marking,
+        input.rounds,
+        format,
+        writer,
+    )
 }
 
-/// Whether no race counts, where these kinds are left out and what marks accept, and no mark accepts
-/// none.
+/// Whether no race counts, and each mark accepts a race. Races of these kinds and accepted races do
+/// not count.
 fn none_left(
     alloc: Global,
     enforced: &Enforced<'_>,
@@ -208,7 +296,7 @@ fn none_left(
     marking: Marking<'_>,
 ) -> Result<bool, AllocError>
     ensures { IfOk result (λ none. none ≡ (nat_eq (length
-        (counting enforced.now (left_out allowed marking.entry) (lack_in enforced.now))) 0
+        (counting enforced.now (left_out allowed marking.entry) (cause_in enforced.now))) 0
         && nat_eq (length marking.entry.stale.now) 0)) }
 {
     if !marking.stale.is_empty() {
@@ -221,8 +309,8 @@ fn none_left(
     none_counts(alloc, enforced, left)
 }
 
-/// Whether no race of a chart counts under an architecture, where these kinds are left out and, where
-/// marks are asked, those races that they accept, and no mark accepts none.
+/// Whether no race of a chart counts under an architecture, and each mark accepts a race. Races of
+/// these kinds do not count, nor those that marks accept, if marks are given.
 fn passes_once(
     alloc: Global,
     chart: &Chart,
@@ -233,9 +321,9 @@ fn passes_once(
     ensures { IfOk result
         (PassesOnce chart.now queues allowed (option_map (λ m. m.now) marks.entry)) }
 {
-    chart.accepted();
+    chart.facts();
     let enforced = Enforced::of(alloc, chart, queues)?;
-    enforced.enforced();
+    enforced.facts();
     let Some(marks) = marks else {
         return none_left(alloc, &enforced, allowed, Marking::none());
     };
@@ -249,52 +337,45 @@ fn passes_once(
     none_left(alloc, &enforced, allowed, marking)
 }
 
-/// Whether no race of no kind that is left out is between two rounds of a chart.
+/// Whether no race is between two rounds of a chart, but of these kinds.
 fn passes_rounds(
     alloc: Global,
-    chart: &Chart,
-    two: &Chart,
+    unrolled: &Unrolled<'_>,
     queues: Queues,
     allowed: KindSet,
 ) -> Result<bool, AllocError>
-    requires { two.now ≡ twice chart.now }
-    ensures { IfOk result (PassesRounds chart.now queues allowed) }
+    ensures { IfOk result (PassesRounds unrolled.now queues allowed) }
 {
-    two.accepted();
-    let numbers = RoundNumbers::of(alloc, chart)?;
-    let both = Enforced::of(alloc, two, queues)?;
-    both.enforced();
+    let both = Enforced::of(alloc, unrolled.two(), queues)?;
+    both.facts();
     let listing = Listing::of(alloc, both, LeftOut::of_kinds(allowed), false)?;
     let rounds = Rounds {
         listing: &listing,
-        numbers: &numbers,
+        numbers: unrolled.numbers(),
     };
     rounds.are_closest();
     rounds.has_none(alloc)
 }
 
-/// Whether no race of a chart counts under an architecture, where these kinds are left out and, where
-/// marks are asked, those races that they accept, no mark accepts none, and no race is between the
-/// rounds of the chart of two, where that is given. It stops at the first race that counts, and makes
-/// no text. An error is a growth of memory that was refused.
+/// Whether no race of a chart counts, each mark accepts a race, and no race is between the two
+/// rounds, if these are given. Races of these kinds do not count. It stops at the first race that
+/// counts, and makes no text. An error is a growth of memory that was refused.
 pub fn passes_chart(
     alloc: Global,
-    chart: &Chart,
-    queues: Queues,
+    input: CheckInput<'_>,
     allowed: KindSet,
-    marks: Option<&Marks>,
-    two: Option<&Chart>,
 ) -> Result<bool, AllocError>
-    requires { AreTwoRounds chart.now two }
-    ensures { IfOk result (Passes chart.now queues allowed (option_map (λ m. m.now) marks.entry)
-        (is_some two.entry)) }
+    requires { AreItsRounds input.chart.now input.rounds }
+    ensures { IfOk result (Passes input.entry.chart.now input.entry.queues allowed
+        (option_map (λ m. m.now) input.entry.marks) (is_some input.entry.rounds)) }
 {
+    let (chart, queues, marks) = (input.chart, input.queues, input.marks);
     let passed = passes_once(alloc, chart, queues, allowed, marks)?;
-    let Some(two) = two else {
+    let Some(rounds) = input.rounds else {
         return Ok(passed);
     };
     if !passed {
         return Ok(false);
     }
-    passes_rounds(alloc, chart, two, queues, allowed)
+    passes_rounds(alloc, rounds, queues, allowed)
 }

@@ -1,8 +1,6 @@
 -- What running a chart answers.
-use Rattle.std.proofs.Common.{◌≡◌, ◌≢◌, ℕ, ◌<◌, Bool, List, length, Some, Result, Err, IsTrue, ◌↔◌, subst, ap, ◌∙◌}
+use Rattle.std.proofs.Common.{◌≡◌, ℕ, ◌<◌, Bool, List, length, Some, IsTrue, ◌↔◌, subst, ap, ◌∙◌}
 use Rattle.std.specs.List.{All}
-use Rattle.msc_parser.specs.declared.fault.ParseFault.{ParseFault}
-use Rattle.msc_chart.specs.declared.fault.ChartFault.{ChartFault}
 use Rattle.msc_chart.specs.declared.queue.Queues.{Queues}
 use Rattle.msc_chart.specs.Drawings.{Drawing, IsAccepted}
 use Rattle.msc_chart.specs.Orders.{wired}
@@ -10,31 +8,9 @@ use Rattle.msc_ending.specs.declared.end.End.{End}
 use Rattle.msc_execution.specs.Executions.{Outcome, IsExecution, AreFinished, IsFinished}
 use Rattle.msc_gather.specs.Gathering.{IsGathered}
 use Rattle.msc_gather.specs.Laws.{WholeLogsGiveWholeTraces}
-use Rattle.msc_ending.specs.declared.fault.RunFault.{RunFault}
-use Rattle.msc_ending.specs.declared.fault.RunFault.TheVariants as runs
-use Rattle.msc_report.specs.declared.fault.Fault.{Fault}
-use Rattle.msc_report.specs.declared.fault.Fault.TheVariants.{Parse, Chart}
-use Rattle.msc_report.specs.Refusals.{of_run}
 use Rattle.msc_report.specs.Traces.{trace_text}
 use Rattle.msc_race.proofs.Runs.RunEvents.{run_events}
-use Rattle.msc_source.specs.Texts.{IsChartOf}
-use Rattle.msc_tool.specs.Running.{NamesAnInstance, PrintsExecution}
-
--- what keeps a chart from being run is no fault of a text
-pub run_refuses_no_text : {A : Type 0} (r : RunFault) (f : ParseFault) → ◌≢◌ {A = Result A Fault} (Err (of_run r)) (Err (Parse f))
-run_refuses_no_text {A} (runs.NotStarted i) f e = cc
-run_refuses_no_text {A} runs.Memory f e = cc
-
--- and none of a draft
-pub run_refuses_no_draft : {A : Type 0} (r : RunFault) (f : ChartFault) → ◌≢◌ {A = Result A Fault} (Err (of_run r)) (Err (Chart f))
-run_refuses_no_draft {A} (runs.NotStarted i) f e = cc
-run_refuses_no_draft {A} runs.Memory f e = cc
-
--- an instance that could not be started is one of the text's chart
-pub run_names : {A : Type 0} (text : List ℕ) (d : Drawing) (r : RunFault) → IsChartOf text d
-    → ((i : ℕ) → r ≡ runs.NotStarted i → i < length d.instances) → NamesAnInstance {A = A} text (Err (of_run r))
-run_names {A} text d (runs.NotStarted j) of_text said i e = (d, of_text, let same : j ≡ i = cc in said i (ap runs.NotStarted same))
-run_names {A} text d runs.Memory of_text said i e = absurd cc
+use Rattle.msc_tool.specs.Running.{PrintsExecution}
 
 -- a trace is of events of the chart
 pub trace_events : (queues : Queues) (d : Drawing) (logs : List (List ℕ)) (events : List ℕ)

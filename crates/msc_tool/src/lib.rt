@@ -1,14 +1,13 @@
-//! The answers of the program `msc` as calls: reading an input, a text's canonical text, the
-//! verdict on its chart, an execution of its chart and its trace.
+//! An execution of a chart, printed with its trace.
 //!
-//! What needs a text alone is done by `msc_text` and handed on; what runs a chart stands here.
+//! # Choices
+//!
+//! - The text of an execution is made as a whole before it is written: a trace has at most 3,072
+//!   lines. So nothing was written if memory ran out.
+//! - [`gather`](msc_gather::gather) returns a fault if logs have no run, for callers with logs of
+//!   their own. A law states that this never happens after an execution.
 #![tactic(auto)]
 
-mod reading;
 mod running;
 
-pub use msc_report::{Fault, write_draft, write_fault, write_trace, write_verdict};
-pub use msc_source::CALL_LIMIT;
-pub use msc_text::{check_text, read_text};
-pub use reading::read_all;
-pub use running::{print_execution, run_text};
+pub use running::print_execution;

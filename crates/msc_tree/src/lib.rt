@@ -1,7 +1,16 @@
-//! Trees of elements, as SVG and HTML are written from them, and their bytes.
+//! Trees of elements, from which SVG and HTML are written, and their bytes.
 //!
-//! The trees are only in the definitions: each call puts the bytes of a part behind a page. The
-//! elements here are those that pictures are made of. Lengths are pixels.
+//! Only the definitions have trees: each call appends the bytes of a part to a page. The elements
+//! here are those of pictures. Lengths are pixels.
+//!
+//! # Choices
+//!
+//! - A block is appended as its beginning, the lines of its children and its end. A law states that
+//!   the result is the block.
+//! - Each value is escaped when it is appended, numbers and paths too. So no clause has to state
+//!   that they are free of the four bytes.
+//! - Children are a list type of their own (`Nodes`), since a data type cannot be inside a list of
+//!   itself.
 #![tactic(auto)]
 
 pub mod laws;

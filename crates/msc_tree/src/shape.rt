@@ -1,4 +1,4 @@
-//! The elements that pictures are made of, each in a line.
+//! The elements of pictures, each in a line.
 
 ghost use Rattle.std.specs.Prelude.{◌≡◌, ◌++◌, OnOk, codes};
 ghost use Rattle.msc_tree.specs.Shapes.{area_attributes, center_attributes, circle, end_circle};
@@ -9,7 +9,7 @@ ghost use Rattle.msc_tree.specs.Trees.{attributes_text, closed, line_text, opene
 use crate::tree::{put_attribute, put_decimal, put_escaped, put_numbered};
 use std::alloc::AllocError;
 
-/// Where a rectangle lies.
+/// The place of a rectangle.
 #[derive(Clone, Copy)]
 pub struct Area {
     pub x: usize,
@@ -18,7 +18,7 @@ pub struct Area {
     pub height: usize,
 }
 
-/// Puts where a rectangle lies behind a page.
+/// Appends the place of a rectangle to a page.
 fn put_area(page: &mut Vec<u8>, area: Area) -> Result<(), AllocError>
     ensures { OnOk result
         (page.new.items ≡ page.old.items ++ attributes_text (area_attributes area)) }
@@ -29,7 +29,7 @@ fn put_area(page: &mut Vec<u8>, area: Area) -> Result<(), AllocError>
     put_numbered(page, b"height", area.height)
 }
 
-/// Puts how round corners are behind a page, where they are.
+/// Appends the radius of round corners to a page, if there are any.
 fn put_rounding(page: &mut Vec<u8>, round: usize) -> Result<(), AllocError>
     ensures { OnOk result
         (page.new.items ≡ page.old.items ++ attributes_text (rounding round)) }
@@ -40,7 +40,7 @@ fn put_rounding(page: &mut Vec<u8>, round: usize) -> Result<(), AllocError>
     put_numbered(page, b"rx", round)
 }
 
-/// Puts the attributes of a rectangle behind a page.
+/// Appends the attributes of a rectangle to a page.
 fn put_rect_attributes(
     page: &mut Vec<u8>,
     name: &[u8],
@@ -55,7 +55,7 @@ fn put_rect_attributes(
     put_rounding(page, round)
 }
 
-/// Puts a rectangle behind a page.
+/// Appends a rectangle to a page.
 pub fn put_rect(
     page: &mut Vec<u8>,
     class: &[u8],
@@ -70,7 +70,7 @@ pub fn put_rect(
     page.extend_from_slice(b"/>\n")
 }
 
-/// Puts a path behind a page.
+/// Appends a path to a page.
 pub fn put_path(page: &mut Vec<u8>, class: &[u8], d: &[u8]) -> Result<(), AllocError>
     ensures { OnOk result
         (page.new.items ≡ page.old.items ++ line_text (path class.now d.now)) }
@@ -81,7 +81,7 @@ pub fn put_path(page: &mut Vec<u8>, class: &[u8], d: &[u8]) -> Result<(), AllocE
     page.extend_from_slice(b"/>\n")
 }
 
-/// Puts the attributes of a text at a place behind a page.
+/// Appends the attributes of a text at a place to a page.
 fn put_text_attributes(
     page: &mut Vec<u8>,
     name: &[u8],
@@ -96,7 +96,7 @@ fn put_text_attributes(
     put_numbered(page, b"y", y)
 }
 
-/// Puts the beginning of an element that holds a text at a place behind a page.
+/// Appends the beginning of an element with a text at a place to a page.
 fn put_opened(
     page: &mut Vec<u8>,
     element: &[u8],
@@ -113,7 +113,7 @@ fn put_opened(
     page.extend_from_slice(b">")
 }
 
-/// Puts the end of an element, and of its line, behind a page.
+/// Appends the end of an element, and of its line, to a page.
 fn put_closed(page: &mut Vec<u8>, element: &[u8]) -> Result<(), AllocError>
     ensures { OnOk result
         (page.new.items ≡ page.old.items ++ (closed element.now ++ codes "\n")) }
@@ -123,7 +123,7 @@ fn put_closed(page: &mut Vec<u8>, element: &[u8]) -> Result<(), AllocError>
     page.extend_from_slice(b">\n")
 }
 
-/// Puts an element that holds a text at a place behind a page.
+/// Appends an element with a text at a place to a page.
 fn put_held(
     page: &mut Vec<u8>,
     element: &[u8],
@@ -140,7 +140,7 @@ fn put_held(
     put_closed(page, element)
 }
 
-/// Puts a text at a place behind a page.
+/// Appends a text at a place to a page.
 pub fn put_text_at(
     page: &mut Vec<u8>,
     class: &[u8],
@@ -154,7 +154,7 @@ pub fn put_text_at(
     put_held(page, b"text", class, x, y, text)
 }
 
-/// Puts the class and the center of a circle behind a page.
+/// Appends the class and the center of a circle to a page.
 fn put_center(page: &mut Vec<u8>, name: &[u8], x: usize, y: usize) -> Result<(), AllocError>
     ensures { OnOk result
         (page.new.items ≡ page.old.items ++ attributes_text (center_attributes name.now x y)) }
@@ -164,7 +164,7 @@ fn put_center(page: &mut Vec<u8>, name: &[u8], x: usize, y: usize) -> Result<(),
     put_numbered(page, b"cy", y)
 }
 
-/// Puts a circle behind a page.
+/// Appends a circle to a page.
 fn put_circle(
     page: &mut Vec<u8>,
     name: &[u8],
@@ -181,7 +181,7 @@ fn put_circle(
     page.extend_from_slice(b"/>\n")
 }
 
-/// Puts the mark of an end of a race behind a page.
+/// Appends the mark of an end of a race to a page.
 pub fn put_end_circle(page: &mut Vec<u8>, x: usize, y: usize) -> Result<(), AllocError>
     ensures { OnOk result
         (page.new.items ≡ page.old.items ++ line_text (end_circle x y)) }
@@ -189,7 +189,7 @@ pub fn put_end_circle(page: &mut Vec<u8>, x: usize, y: usize) -> Result<(), Allo
     put_circle(page, b"end", x, y, b"4")
 }
 
-/// Puts an element that holds a text and has no attributes behind a page.
+/// Appends an element with a text and without attributes to a page.
 pub fn put_plain(page: &mut Vec<u8>, name: &[u8], text: &[u8]) -> Result<(), AllocError>
     ensures { OnOk result
         (page.new.items ≡ page.old.items ++ line_text (plain name.now text.now)) }
@@ -203,7 +203,7 @@ pub fn put_plain(page: &mut Vec<u8>, name: &[u8], text: &[u8]) -> Result<(), All
     page.extend_from_slice(b">\n")
 }
 
-/// Puts letters of a path and a point behind a path.
+/// Appends letters of a path and a point to a path.
 pub fn put_point(d: &mut Vec<u8>, letters: &[u8], x: usize, y: usize) -> Result<(), AllocError>
     ensures { OnOk result (d.new.items ≡ d.old.items ++ point letters.now x y) }
 {
@@ -213,7 +213,7 @@ pub fn put_point(d: &mut Vec<u8>, letters: &[u8], x: usize, y: usize) -> Result<
     put_decimal(d, y)
 }
 
-/// Puts letters of a path and a number behind a path.
+/// Appends letters of a path and a number to a path.
 pub fn put_step(d: &mut Vec<u8>, letters: &[u8], n: usize) -> Result<(), AllocError>
     ensures { OnOk result (d.new.items ≡ d.old.items ++ step letters.now n) }
 {

@@ -8,7 +8,7 @@ ghost use Rattle.msc_tree.specs.Trees.{attribute_text, escaped, escaped_byte};
 use itoa::Buffer;
 use std::alloc::AllocError;
 
-/// Puts what stands for a byte behind a page.
+/// Appends the escaped form of a byte to a page.
 fn put_escaped_byte(page: &mut Vec<u8>, byte: u8) -> Result<(), AllocError>
     ensures { OnOk result (page.new.items ≡ page.old.items ++ escaped_byte byte) }
 {
@@ -28,7 +28,7 @@ fn put_escaped_byte(page: &mut Vec<u8>, byte: u8) -> Result<(), AllocError>
     Ok(())
 }
 
-/// Puts what stands for a text behind a page.
+/// Appends the escaped form of a text to a page.
 pub fn put_escaped(page: &mut Vec<u8>, text: &[u8]) -> Result<(), AllocError>
     ensures { OnOk result (page.new.items ≡ page.old.items ++ escaped text.now) }
 {
@@ -38,7 +38,7 @@ pub fn put_escaped(page: &mut Vec<u8>, text: &[u8]) -> Result<(), AllocError>
     Ok(())
 }
 
-/// Puts a number behind a page.
+/// Appends a number to a page.
 pub fn put_decimal(page: &mut Vec<u8>, n: usize) -> Result<(), AllocError>
     ensures { OnOk result (page.new.items ≡ page.old.items ++ decimal n) }
 {
@@ -46,7 +46,7 @@ pub fn put_decimal(page: &mut Vec<u8>, n: usize) -> Result<(), AllocError>
     page.extend_from_slice(buffer.format(n).as_bytes())
 }
 
-/// Puts an attribute behind a page.
+/// Appends an attribute to a page.
 pub fn put_attribute(page: &mut Vec<u8>, name: &[u8], value: &[u8]) -> Result<(), AllocError>
     ensures { OnOk result
         (page.new.items ≡ page.old.items ++ attribute_text (valued name.now value.now)) }
@@ -58,7 +58,7 @@ pub fn put_attribute(page: &mut Vec<u8>, name: &[u8], value: &[u8]) -> Result<()
     page.extend_from_slice(b"\"")
 }
 
-/// Puts an attribute whose value is a number behind a page.
+/// Appends an attribute whose value is a number to a page.
 pub fn put_numbered(page: &mut Vec<u8>, name: &[u8], n: usize) -> Result<(), AllocError>
     ensures { OnOk result
         (page.new.items ≡ page.old.items ++ attribute_text (numbered name.now n)) }

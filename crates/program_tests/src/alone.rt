@@ -1,11 +1,11 @@
-//! Instances run one by one in the thread of the test.
+//! Instances that run one by one in the thread of the test.
 
 use crate::host::{Host, chart_of};
 use example_charts::{ONE_MESSAGE, RELAY, TWO_SENDERS};
 use msc_chart::{Chart, Event, Queues};
 use msc_instance::{AlwaysOpen, End, Gate, InstanceEnds, run_instance, wire};
 
-/// The gate that says no to one event.
+/// The gate that refuses one event.
 #[derive(Clone, Copy)]
 pub struct Never(pub Event);
 
@@ -24,8 +24,8 @@ impl Gate for Never {
 /// How an instance ends, and its log.
 type Left<'a> = (End, &'a [Event]);
 
-/// Whether an instance with these ends and patience 3 ends so; not where there are no ends, or they
-/// do not fit.
+/// Whether this is the end of an instance with these ends and patience 3; false if there are no
+/// ends, or they do not fit.
 fn is_left<G: Gate>(
     rt: &impl Host,
     chart: &Chart,
@@ -61,7 +61,7 @@ fn is_left_after<G: Gate>(
     left.end == wanted.0 && left.log.as_slice() == wanted.1
 }
 
-/// Whether a message with a clock goes into the last outlet.
+/// Whether the last outlet accepts a message with a clock.
 pub fn is_put(ends: &mut InstanceEnds, m: u32, clock: u64) -> bool {
     match ends.outlets.last_mut() {
         Some((_, outlet)) => outlet.send(m, clock).is_ok(),
@@ -69,7 +69,7 @@ pub fn is_put(ends: &mut InstanceEnds, m: u32, clock: u64) -> bool {
     }
 }
 
-/// What the sender of `one_message` does before its receiver is run.
+/// The act of the sender of `one_message` before its receiver runs.
 #[derive(Clone, Copy, Debug)]
 enum Before {
     Nothing,
@@ -94,7 +94,7 @@ fn does(rt: &impl Host, chart: &Chart, ends: Option<InstanceEnds>, before: Befor
     }
 }
 
-/// Whether the receiver of a chart of one message ends so after that.
+/// Whether this is the end of the receiver of a chart of one message after that.
 fn is_received_in(rt: &impl Host, chart: &Chart, before: Before, wanted: Left) -> bool {
     let mut ends = wire(rt.alloc(), chart, Queues::Pair).expect(rt, "ends");
     let takes = ends.pop();
@@ -102,12 +102,12 @@ fn is_received_in(rt: &impl Host, chart: &Chart, before: Before, wanted: Left) -
     is_done && is_left(rt, chart, 1, takes, &AlwaysOpen, wanted)
 }
 
-/// Whether the receiver of `one_message` ends so after that.
+/// Whether this is the end of the receiver of `one_message` after that.
 fn is_received(rt: &impl Host, before: Before, wanted: Left) -> bool {
     is_received_in(rt, &chart_of(rt, ONE_MESSAGE), before, wanted)
 }
 
-/// What the sender of `one_message` does, and how its receiver ends then.
+/// The act of the sender of `one_message`, and the end of its receiver after it.
 const RECEIVED: &[(Before, Left)] = &[
     (Before::Nothing, (End::Impatient, &[])),
     (Before::Stops, (End::Starved, &[])),
@@ -134,7 +134,7 @@ fn is_spent_in(rt: &impl Host, chart: &Chart) -> bool {
     is_sent && is_left(rt, chart, 2, ends.pop(), &AlwaysOpen, wanted)
 }
 
-/// Whether that of `relay` does.
+/// Whether the last instance of `relay` does.
 fn is_spent(rt: &impl Host) -> bool {
     is_spent_in(rt, &chart_of(rt, RELAY))
 }
@@ -155,7 +155,7 @@ fn takes_nothing_in(rt: &impl Host, chart: &Chart) -> bool {
         && is_left_after(rt, chart, 1, takes, &AlwaysOpen, 0, untaken)
 }
 
-/// Whether those of `one_message` do.
+/// Whether the instances of `one_message` do.
 fn takes_nothing(rt: &impl Host) -> bool {
     takes_nothing_in(rt, &chart_of(rt, ONE_MESSAGE))
 }
@@ -165,8 +165,8 @@ fn without_patience_nothing_is_taken(rt: HostRuntime) {
     assert!(rt; takes_nothing(&rt));
 }
 
-/// Whether the second of three instances logs both its inputs in this order, run after the third
-/// and then the first have sent.
+/// Whether the second of three instances logs both its inputs in this order, if it runs after the
+/// third and then the first have sent.
 fn takes_in_order_in(rt: &impl Host, chart: &Chart) -> bool {
     let mut ends = wire(rt.alloc(), chart, Queues::Pair).expect(rt, "ends");
     let (third, second) = (ends.pop(), ends.pop());
@@ -179,7 +179,7 @@ fn takes_in_order_in(rt: &impl Host, chart: &Chart) -> bool {
         && is_left(rt, chart, 1, second, &AlwaysOpen, (End::Finished, &[1, 2]))
 }
 
-/// Whether that of `two_senders` does.
+/// Whether the second instance of `two_senders` does.
 fn takes_in_order(rt: &impl Host) -> bool {
     takes_in_order_in(rt, &chart_of(rt, TWO_SENDERS))
 }
@@ -189,13 +189,13 @@ fn a_round_goes_over_the_inlets_from_the_first_on(rt: HostRuntime) {
     assert!(rt; takes_in_order(&rt));
 }
 
-/// An instance with three inlets, to the first of which two messages come.
+/// An instance with three inlets; the first gets two messages.
 const THREE_SENDERS: &[u8] = b"msc t; instance a; out p to b; out q to b; endinstance; \
 instance b; in p from a; in q from a; in r from c; in s from d; endinstance; \
 instance c; out r to b; endinstance; instance d; out s to b; endinstance; endmsc;";
 
 /// Whether the second of four instances takes once from each of its three inlets, and then the
-/// second message of the first, where all others have sent.
+/// second message of the first, if all others have sent.
 fn takes_once_in(rt: &impl Host, chart: &Chart) -> bool {
     let mut ends = wire(rt.alloc(), chart, Queues::Pair).expect(rt, "ends");
     let (fourth, third, second) = (ends.pop(), ends.pop(), ends.pop());
@@ -218,7 +218,7 @@ fn takes_once_in(rt: &impl Host, chart: &Chart) -> bool {
         )
 }
 
-/// Whether that of `three_senders` does.
+/// Whether the second instance of `three_senders` does.
 fn takes_once(rt: &impl Host) -> bool {
     takes_once_in(rt, &chart_of(rt, THREE_SENDERS))
 }

@@ -1,13 +1,13 @@
-//! Calls on the text of a chart that check it: what they answer, and writers that fail.
+//! Calls that check the text of a chart: their results, and writers that fail.
 
 use crate::devices::{Narrow, byte_writer};
 use crate::host::{Host, chart_of};
 use example_charts::{RELAY, TWO_SENDERS};
+use msc_calls::{Fault, check_text};
 use msc_chart::{Chart, Queues};
 use msc_report::write_race;
-use msc_tool::{Fault, check_text};
 
-/// Whether `check_text` answers this of `relay`.
+/// Whether `check_text` returns this for `relay`.
 fn is_answered(rt: &impl Host, queues: Queues, passed: bool) -> bool {
     let mut writer = byte_writer(rt.alloc(), 0);
     check_text(rt.alloc(), RELAY, queues, 0, &mut writer).ok() == Some(passed)
@@ -27,18 +27,19 @@ fn the_answer_is_true_for_pass(rt: HostRuntime) {
     }
 }
 
-/// What `check_text` writes of `two_senders` under `Pair`.
+/// The output of `check_text` for `two_senders` under `Pair`.
 const WRITTEN: &[u8] = b"chart t\nqueues pair\nraces 1\n\
 race 1 2 on b: in m1 from a; in m2 from c\nrun 0 3 2 1\n";
 
-/// How many calls a writer that takes a byte at a time gets that, if it does.
+/// The number of calls of a writer that takes a byte at a time and gets that output, if it does.
 fn calls_for_all(rt: &impl Host) -> Option<u32> {
     let mut writer = byte_writer(rt.alloc(), 0);
     check_text(rt.alloc(), TWO_SENDERS, Queues::Pair, 1, &mut writer).expect(rt, "a verdict");
     (writer.written.as_slice() == WRITTEN).then_some(writer.calls)
 }
 
-/// Whether a writer that fails at this call is a device fault, with a beginning of that written.
+/// Whether a writer that fails at this call is a device fault, with a beginning of that output
+/// written.
 fn fails_at(rt: &impl Host, call: u32) -> bool {
     let mut writer = byte_writer(rt.alloc(), call);
     let fault = check_text(rt.alloc(), TWO_SENDERS, Queues::Pair, 1, &mut writer).err();
@@ -72,7 +73,7 @@ fn a_refused_text_leaves_the_writer_with_no_call(rt: HostRuntime) {
     }
 }
 
-/// Whether a race of a chart of four events is written, with a run behind it.
+/// Whether a race of a chart of four events is written, followed by a run.
 fn is_race_written(writer: &mut Narrow, chart: &Chart) -> bool {
     chart.events() == 4 && write_race(writer, chart, 1, 2, Some(&[0, 3, 2, 1])).is_ok()
 }

@@ -4,8 +4,8 @@ use std::alloc::Global;
 use std::io;
 use std::io::{ErrorKind, IsTerminal, Read, Write};
 
-/// A reader that is interrupted `interruptions` times, then gives `bytes` at most `step` at a time,
-/// and fails at its call number `fails_at`, from 1.
+/// A reader that is interrupted `interruptions` times, then gives `bytes`, at most `step` at a
+/// time, and fails at its call number `fails_at`, from 1.
 #[derive(Drop)]
 pub struct Unsteady<'a> {
     pub interruptions: u32,
@@ -16,7 +16,7 @@ pub struct Unsteady<'a> {
 }
 
 impl<'a> Unsteady<'a> {
-    /// A reader of these bytes that neither stops nor fails.
+    /// A reader of these bytes that is never interrupted and never fails.
     pub fn new(bytes: &'a [u8]) -> Unsteady<'a> {
         Unsteady {
             interruptions: 0,
@@ -55,7 +55,7 @@ pub struct Narrow {
     pub fails_at: u32,
 }
 
-/// A writer that takes a byte at a time and fails at this call, from 1, or at none where it is 0.
+/// A writer that takes a byte at a time and fails at this call, from 1; at none if it is 0.
 pub fn byte_writer(alloc: Global, fails_at: u32) -> Narrow {
     Narrow {
         written: Vec::new(alloc),
@@ -81,7 +81,7 @@ impl Write for Narrow {
     }
 }
 
-/// A writer that keeps what it takes back until it is flushed, and then fails.
+/// A writer that holds back what it takes until it is flushed, and then fails.
 #[derive(Drop)]
 pub struct Unflushed {
     pub flushes: u32,
@@ -114,7 +114,7 @@ impl Screen {
         }
     }
 
-    /// What was written to it.
+    /// The bytes that were written to it.
     pub fn into_shown(self) -> Vec<u8> {
         self.shown
     }

@@ -1,11 +1,11 @@
-//! The lines of faults, beside the messages that their types print.
+//! The lines of faults, compared with the messages that their types print.
 
 use crate::host::Host;
+use msc_calls::{Fault, write_fault};
 use msc_chart::ChartFault;
 use msc_lexer::LexFault;
 use msc_parser::ParseFault;
 use msc_report::{EventName, NamedFault, write_pair_fault};
-use msc_tool::{Fault, write_fault};
 
 /// A fault of charts of each kind that has a number, the number, and its line.
 const CHART_FAULTS: &[(ChartFault, u32, &str)] = &[
@@ -61,7 +61,7 @@ const CHART_FAULTS: &[(ChartFault, u32, &str)] = &[
     ),
 ];
 
-/// Whether the line of a fault is this.
+/// Whether this is the line of a fault.
 fn is_line(rt: &impl Host, fault: Fault, wanted: &str) -> bool {
     let mut line = Vec::new(rt.alloc());
     write_fault(&mut line, &fault).expect(rt, "a line");
@@ -149,7 +149,7 @@ fn a_fault_without_a_number_is_printed_as_its_message(rt: HostRuntime) {
     }
 }
 
-/// A fault of running a chart and its line: its number stands before its message.
+/// A fault of running a chart and its line: its number precedes its message.
 const RUN_FAULTS: &[(Fault, u32, &str)] = &[
     (
         Fault::NotStarted(0),
@@ -209,7 +209,7 @@ const PAIR_FAULTS: &[(NamedFault, &str)] = &[
     ),
 ];
 
-/// Whether the line of a fault of pairs is this.
+/// Whether this is the line of a fault of pairs.
 fn is_pair_line(rt: &impl Host, fault: NamedFault, wanted: &str) -> bool {
     let mut line = Vec::new(rt.alloc());
     let is_written = write_pair_fault(&mut line, fault).is_ok();

@@ -11,7 +11,7 @@ use msc_instance::{End, Execution, Gate, run_chart};
 use std::sync::atomic::{AtomicBool, AtomicU64, Ordering};
 use std::thread;
 
-/// How often a gate looks for another instance.
+/// The number of times that a gate looks for another instance.
 const TURNS: u64 = 1_000_000_000;
 
 /// The gate at which the outputs of `two_senders` wait for each other.
@@ -22,7 +22,7 @@ struct Meeting {
     asked: AtomicU64,
 }
 
-/// Waits until one is there, and says whether it is.
+/// Waits until one has come, and returns whether it has.
 fn comes(one: &AtomicBool) -> bool {
     for _ in 0..TURNS {
         if one.load(Ordering::SeqCst) {
@@ -33,7 +33,7 @@ fn comes(one: &AtomicBool) -> bool {
     false
 }
 
-/// Says that one is there, and waits until the other is.
+/// Notes that one has come, and waits until the other has.
 fn meets(one: &AtomicBool, other: &AtomicBool) -> bool {
     one.store(true, Ordering::SeqCst);
     comes(other)
@@ -56,7 +56,7 @@ impl Gate for Meeting {
     }
 }
 
-/// How the instances of `two_senders` end where the first message is taken first, and where the
+/// The ends of the instances of `two_senders` if the first message is taken first, and if the
 /// second is.
 const MET: [Wanted; 2] = [
     (
@@ -69,7 +69,7 @@ const MET: [Wanted; 2] = [
     ),
 ];
 
-/// Whether the instances of a chart end in one of these ways, and the gate is asked four times.
+/// Whether the instances of a chart end in one of these ways, and the gate is called four times.
 fn meet_in(rt: &impl Parallel, chart: &Chart, queues: Queues) -> bool {
     let gate = Meeting {
         first: AtomicBool::new(false),
@@ -96,8 +96,8 @@ fn outputs_that_wait_for_each_other(rt: HostRuntime) {
     }
 }
 
-/// The gate that says no to one event of `relay`, and lets the second message to b go only once the
-/// first has come, so that b takes them in one order under each architecture.
+/// The gate that refuses one event of `relay`, and allows the second message to b only once the
+/// first was sent, so that b takes them in one order under each architecture.
 #[derive(Drop)]
 struct InOrder {
     never: Event,
@@ -120,7 +120,7 @@ impl Gate for InOrder {
     }
 }
 
-/// The execution of a chart under an architecture and the gate that says no to this event.
+/// The execution of a chart under an architecture and the gate that refuses this event.
 fn stopped_in(rt: &impl Parallel, chart: &Chart, queues: Queues, event: Event) -> Execution {
     let gate = InOrder {
         never: event,
@@ -134,7 +134,7 @@ fn stopped_at(rt: &impl Parallel, queues: Queues, event: Event) -> Execution {
     stopped_in(rt, &chart_of(rt, RELAY), queues, event)
 }
 
-/// An event of `relay` at which the gate says no, and how the three instances end.
+/// An event of `relay` that the gate refuses, and the ends of the three instances.
 const STOPPED: &[(Event, Wanted)] = &[
     (
         0,
@@ -180,7 +180,7 @@ const STOPPED: &[(Event, Wanted)] = &[
     ),
 ];
 
-/// Whether the instances of `relay` end so.
+/// Whether these are the ends of the instances of `relay`.
 fn is_stopped_at(rt: &impl Parallel, queues: Queues, event: Event, wanted: Wanted) -> bool {
     is_execution(&stopped_at(rt, queues, event), wanted)
 }
@@ -195,7 +195,7 @@ fn a_gate_that_says_no_to_an_event(rt: HostRuntime) {
     }
 }
 
-/// Whether the account is closed and has this put, nothing taken, and all of it left.
+/// Whether the account is closed, and has these messages put, none taken, and all of them left.
 fn is_untaken(account: &Account, put: &[u32]) -> bool {
     account.closed
         && account.put.as_slice() == put
@@ -203,8 +203,8 @@ fn is_untaken(account: &Account, put: &[u32]) -> bool {
         && account.left.as_slice() == put
 }
 
-/// Whether an execution has first the mailbox of instance 1, whose last sender put this and nobody
-/// took it.
+/// Whether an execution has first the mailbox of instance 1, to which the last sender has put these
+/// messages, and none was taken.
 fn is_left_in_mailbox(execution: &Execution, put: &[u32]) -> bool {
     match execution.queues.first() {
         Some((1, mailbox)) => match mailbox.senders.last() {
@@ -215,7 +215,7 @@ fn is_left_in_mailbox(execution: &Execution, put: &[u32]) -> bool {
     }
 }
 
-/// Whether it is so where the gate says no to the first input of `relay`.
+/// Whether it has if the gate refuses the first input of `relay`.
 fn is_left(rt: &impl Parallel, put: &[u32]) -> bool {
     is_left_in_mailbox(&stopped_at(rt, Queues::Mailbox, 2), put)
 }
@@ -225,18 +225,18 @@ fn what_nobody_takes_is_left_in_the_mailbox(rt: HostRuntime) {
     assert!(rt; is_left(&rt, &[2]));
 }
 
-/// In this chart x waits for what z sends, and b for what x sends then.
+/// In this chart x waits for a message from z, and b for the message that x sends then.
 const HELD_UP: &[u8] = b"msc t; instance x; in p from z; in s from b; out r to b; endinstance; \
 instance b; out s to x; in r from x; endinstance; instance z; out p to x; endinstance; endmsc;";
 
-/// How the instances of `held_up` end where z may not send. Nobody's patience is needed: b closes
-/// its outlet as soon as it has sent, and so x sees that nobody sends to it any more.
+/// The ends of the instances of `held_up` if z may not send. No instance uses up its patience: b
+/// closes its outlet as soon as it has sent, and so x sees that all its senders have ended.
 const HELD: Wanted = (
     &[End::Starved, End::Starved, End::Stopped],
     &[&[1], &[3], &[]],
 );
 
-/// Whether the instances of a chart end so where the gate says no to event 5.
+/// Whether these are the ends of the instances of a chart if the gate refuses event 5.
 fn are_held_in(rt: &impl Parallel, chart: &Chart) -> bool {
     let execution = run_chart(rt, rt.alloc(), chart, Queues::Pair, &Never(5), PATIENCE).expect(
         rt,
@@ -245,7 +245,7 @@ fn are_held_in(rt: &impl Parallel, chart: &Chart) -> bool {
     is_execution(&execution, HELD)
 }
 
-/// Whether those of `held_up` do.
+/// Whether these are the ends of the instances of `held_up`.
 fn are_held(rt: &impl Parallel) -> bool {
     are_held_in(rt, &chart_of(rt, HELD_UP))
 }

@@ -4,7 +4,7 @@ use crate::host::Host;
 use crate::queues::pair;
 use msc_fifo::{Sent, Taken};
 
-/// Whether a sender puts and closes where all other ends are gone.
+/// Whether a sender puts and closes if all other ends are gone.
 fn is_put_without_receiver(rt: &impl Host) -> bool {
     let (mut zero, one, inlet) = pair(rt, 1, 1);
     drop(one);
@@ -14,7 +14,7 @@ fn is_put_without_receiver(rt: &impl Host) -> bool {
     is_put
 }
 
-/// Whether the receiver takes what was put where all senders are gone.
+/// Whether the receiver takes the messages that were put if all senders are gone.
 fn is_taken_without_senders(rt: &impl Host) -> bool {
     let (mut zero, one, mut inlet) = pair(rt, 1, 1);
     let is_put = zero.send(5, 3) == Ok(Sent { place: 0, clock: 4 });

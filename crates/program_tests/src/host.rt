@@ -1,4 +1,4 @@
-//! What the helpers of tests take: they end the process where a call of theirs fails.
+//! The host of the helpers of tests, which end the process if a call of theirs fails.
 
 use msc_chart::Chart;
 use msc_parser::parse;
@@ -13,12 +13,12 @@ pub trait Host: Abort + AllocGlobal {}
 
 impl<R: Abort + AllocGlobal> Host for R {}
 
-/// What the instances of a chart need as well.
+/// The further traits that the instances of a chart need.
 pub trait Parallel: Abort + AllocGlobal + Threads + Wait + Sync {}
 
 impl<R: Abort + AllocGlobal + Threads + Wait + Sync> Parallel for R {}
 
-/// What the program needs as well.
+/// The further traits that the program needs.
 pub trait Machine: Abort + AllocGlobal + Files + Threads + Wait + Sync {}
 
 impl<R: Abort + AllocGlobal + Files + Threads + Wait + Sync> Machine for R {}

@@ -3,13 +3,13 @@
 use crate::devices::{Unsteady, byte_writer};
 use crate::host::Host;
 use example_charts::EMPTY;
+use msc_calls::{CALL_LIMIT, Fault, check_text, read_all, read_text};
 use msc_chart::{ChartFault, Queues};
 use msc_source::ReadFault;
-use msc_tool::{CALL_LIMIT, Fault, check_text, read_all, read_text};
 use std::io::ErrorKind;
 
-/// Whether a reader that is interrupted so often, and gives so many bytes at a time, is read to its
-/// end.
+/// Whether a reader that is interrupted this number of times, and gives this number of bytes at a
+/// time, is read to its end.
 fn is_read(rt: &impl Host, interruptions: u32, step: usize) -> bool {
     let mut reader = Unsteady::new(EMPTY);
     reader.interruptions = interruptions;
@@ -23,7 +23,8 @@ fn an_input_in_memory(rt: HostRuntime) {
     assert!(rt; is_read(&rt, 0, usize::MAX));
 }
 
-/// Whether reading an input that is always interrupted is a device fault after so many calls.
+/// Whether reading an input that is always interrupted is a device fault after this number of
+/// calls.
 fn is_given_up(rt: &impl Host, calls: u32) -> bool {
     let mut reader = Unsteady::new(EMPTY);
     reader.interruptions = u32::MAX;
@@ -52,7 +53,7 @@ fn failing_reads_are_a_device_fault(rt: HostRuntime) {
     }
 }
 
-/// The kind of the error with which reading this input fails.
+/// The kind of the error of reading this input.
 fn cause(rt: &impl Host, reader: &mut Unsteady) -> Option<ErrorKind> {
     match msc_source::read_all(rt.alloc(), reader) {
         Err(ReadFault::Device(error)) => Some(error.kind()),
@@ -67,7 +68,7 @@ fn cause_of_failure(rt: &impl Host) -> Option<ErrorKind> {
     cause(rt, &mut reader)
 }
 
-/// The cause where each call is interrupted.
+/// The cause if each call is interrupted.
 fn cause_of_giving_up(rt: &impl Host) -> Option<ErrorKind> {
     let mut reader = Unsteady::new(EMPTY);
     reader.interruptions = u32::MAX;
@@ -80,7 +81,7 @@ fn a_device_fault_of_reading_has_its_cause(rt: HostRuntime) {
     assert!(rt; cause_of_giving_up(&rt) == Some(ErrorKind::TimedOut));
 }
 
-/// How many bytes are read of an input of so many.
+/// The number of bytes that are read of an input of `count` bytes.
 fn count_read(rt: &impl Host, count: usize) -> usize {
     let long = vec![in rt.alloc(); b' '; count].expect(rt, "memory");
     let read = read_all(rt.alloc(), &mut Unsteady::new(&long)).expect(rt, "bytes");
@@ -143,7 +144,7 @@ fn is_read_as(rt: &impl Host, text: &[u8], wanted: &[u8]) -> bool {
     written.as_slice() == wanted
 }
 
-/// Whether the check of a text is refused for this fault.
+/// Whether this is the fault with which the check of a text is refused.
 fn is_check_refused(rt: &impl Host, text: &[u8], wanted: Fault) -> bool {
     let mut writer = byte_writer(rt.alloc(), 0);
     check_text(rt.alloc(), text, Queues::Pair, 0, &mut writer).err() == Some(wanted)

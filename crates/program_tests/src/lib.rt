@@ -1,5 +1,5 @@
-//! Tests of queues, of instances alone and on threads, and of inputs and outputs that fail. What the
-//! program prints is compared with stored outputs instead, in `charts/`.
+//! Tests of queues, of instances by themselves and on threads, and of inputs and outputs that fail.
+//! The printed outputs of the program are compared with stored ones instead, in `charts/`.
 #![tactic(auto)]
 
 #[cfg(test)]

@@ -22,8 +22,8 @@ fn command_line(rt: &impl Machine, words: &[&str]) -> Vec<String> {
     all
 }
 
-/// Runs the program over these words and this standard input, into this output; gives its exit
-/// status and what went to standard error.
+/// Runs the program over these words and this standard input, into this output. Returns its exit
+/// status and the bytes on standard error.
 fn run_into<O: Write>(
     rt: &impl Machine,
     words: &[&str],
@@ -49,10 +49,10 @@ const RUNS: &[&[&str]] = &[
     &["list", "-"],
 ];
 
-/// What is printed to standard error where a device fails, and the exit status.
+/// The output on standard error if a device fails, and the exit status.
 const DEVICE_FAULT: (&[u8], u8) = (b"device fault\n", 4);
 
-/// Whether a run over these words answers that the first call of its output failed.
+/// Whether a run over these words reports that the first call of its output failed.
 fn fails_at_once(rt: &impl Machine, words: &[&str]) -> bool {
     let mut output = Narrow {
         written: Vec::new(rt.alloc()),
@@ -64,10 +64,11 @@ fn fails_at_once(rt: &impl Machine, words: &[&str]) -> bool {
     (faults.as_slice(), status) == DEVICE_FAULT
 }
 
-/// Whether a run over these words flushes its output once, and answers that this failed.
-fn fails_when_flushed(rt: &impl Machine, words: &[&str]) -> bool {
+/// Whether a run over these words and this text flushes its output once, and reports that this
+/// failed.
+fn fails_when_flushed(rt: &impl Machine, words: &[&str], text: &[u8]) -> bool {
     let mut output = Unflushed { flushes: 0 };
-    let (status, faults) = run_into(rt, words, ONE_MESSAGE, &mut output);
+    let (status, faults) = run_into(rt, words, text, &mut output);
     ((faults.as_slice(), status), output.flushes) == (DEVICE_FAULT, 1)
 }
 
@@ -81,6 +82,27 @@ fn an_output_that_fails_at_its_first_call(rt: HostRuntime) {
 #[test]
 fn an_output_that_fails_when_it_is_flushed(rt: HostRuntime) {
     for &words in RUNS {
-        assert!(rt; fails_when_flushed(&rt, words), "{words:?}");
+        assert!(rt; fails_when_flushed(&rt, words, ONE_MESSAGE), "{words:?}");
+    }
+}
+
+/// The words of a run that prints lines for editors, and a text that it refuses.
+const REFUSED: &[(&[&str], &[u8])] = &[
+    (
+        &["check", "--queues", "pair", "--format", "lines", "-"],
+        b"msc open;",
+    ),
+    (
+        &[
+            "check", "--from", "any", "--queues", "pair", "--format", "lines", "-",
+        ],
+        b"sequenceDiagram\n  A->>",
+    ),
+];
+
+#[test]
+fn the_lines_of_a_refusal_are_flushed(rt: HostRuntime) {
+    for &(words, text) in REFUSED {
+        assert!(rt; fails_when_flushed(&rt, words, text), "{words:?}");
     }
 }

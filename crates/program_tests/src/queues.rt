@@ -1,5 +1,5 @@
-//! Queues in one thread and in three. What clauses say is proved; these tests have the answers that
-//! no clause fixes: that what was put is found, that calls succeed with ample memory, and threads.
+//! Queues in one thread and in three. The clauses are proved; these tests cover the results that no
+//! clause fixes: that messages are found, that calls succeed with ample memory, and threads.
 
 ghost use Rattle.std.specs.Prelude.{◌≡◌, ◌≤◌};
 ghost use Rattle.msc_fifo.specs.Ends.{new_inlet, new_outlet, IsSameInlet, IsSameOutlet};
@@ -33,7 +33,7 @@ impl Model for Ends {
         × ((e.one.queue ≡ e.inlet.queue) × (e.one.sender ≡ 1)) };
 }
 
-/// A call on one of the ends, and what it answers.
+/// A call on one of the ends, and its result.
 enum Call {
     /// A sender puts a message with a clock, at a place with a clock.
     Put(u32, u32, u64, u32, u64),
@@ -41,18 +41,18 @@ enum Call {
     Refuse(u32, u32, u64, SendFault),
     /// A sender closes its outlet.
     Close(u32),
-    /// A sender has so many messages left, and is closed or open.
+    /// A sender has this number of messages left, and is closed or open.
     Left(u32, u32, bool),
     /// A take with a clock.
     Take(u64, Taken),
-    /// So many senders have not ended.
+    /// This number of senders have not ended.
     Unended(u32),
 }
 
-/// What an account shows: put, taken, left, and whether the outlet was closed.
+/// The data of an account: put, taken, left, and whether the outlet was closed.
 type Shown<'a> = (&'a [u32], &'a [u32], &'a [u32], bool);
 
-/// Calls on the ends of a queue with these quotas, and what is settled then.
+/// Calls on the ends of a queue with these quotas, and the settled queue after them.
 struct Row {
     quotas: (u32, u32),
     calls: &'static [Call],
@@ -80,7 +80,7 @@ impl Ends {
         Ends { zero, one, inlet }
     }
 
-    /// Makes a call, and says whether it answers what it should.
+    /// Makes a call, and returns whether its result is right.
     fn answers(&mut self, call: &Call) -> bool {
         match *call {
             Call::Put(0, m, handed, place, clock) => {
@@ -110,7 +110,7 @@ impl Ends {
         }
     }
 
-    /// Makes calls as long as they answer what they should, and says whether all do.
+    /// Makes calls as long as their results are right, and returns whether all are.
     fn answers_all(&mut self, calls: &[Call]) -> bool {
         for call in calls {
             if !self.answers(call) {
@@ -120,8 +120,8 @@ impl Ends {
         true
     }
 
-    /// Settles the queue, the outlets handed over in the other order; and where that was refused
-    /// memory, once more with what was handed back.
+    /// Settles the queue, with the outlets in the other order. If memory is refused, it does so
+    /// once more with the ends that are handed back.
     fn settled(self, rt: &impl Host) -> Settled {
         let Ends { zero, one, inlet } = self;
         let mut outlets = Vec::with_capacity(rt.alloc(), 2).expect(rt, "memory");
@@ -137,7 +137,7 @@ impl Ends {
     }
 }
 
-/// Whether the account of a sender shows this.
+/// Whether these are the data of the account of a sender.
 fn is_shown(settled: &Settled, sender: usize, shown: &Shown) -> bool {
     let Some(account) = settled.senders.get(sender) else {
         return false;
@@ -148,7 +148,7 @@ fn is_shown(settled: &Settled, sender: usize, shown: &Shown) -> bool {
         && account.closed == shown.3
 }
 
-/// Whether these senders, messages and clocks stand at the places.
+/// Whether the places have these senders, messages and clocks.
 fn are_placed(settled: &Settled, places: &[(u32, Option<u32>, u64)]) -> bool {
     for (place, (sender, message, clock)) in settled.places.iter().zip(places) {
         if place.sender != *sender || place.message != *message || place.clock != *clock {
@@ -158,13 +158,13 @@ fn are_placed(settled: &Settled, places: &[(u32, Option<u32>, u64)]) -> bool {
     settled.places.len() == places.len()
 }
 
-/// Whether this is settled after the calls of a row.
+/// Whether this is the settled queue after the calls of a row.
 fn is_settled(settled: &Settled, row: &Row) -> bool {
     let are_shown = is_shown(settled, 0, &row.zero) && is_shown(settled, 1, &row.one);
     are_shown && settled.senders.len() == 2 && are_placed(settled, row.places)
 }
 
-/// Whether the calls of a row answer what they should, and then this is settled.
+/// Whether the results of the calls of a row are right, and then this is the settled queue.
 fn is_as_said(rt: &impl Host, row: &Row) -> bool {
     let mut ends = Ends::new(rt, row.quotas);
     if !ends.answers_all(row.calls) {
@@ -253,7 +253,7 @@ const CLOCKS: Row = Row {
     ],
 };
 
-/// A second close changes nothing, and the end mark has a place beside the quota.
+/// A second close changes nothing, and the end mark has a place besides the quota.
 const A_SECOND_CLOSE: Row = Row {
     quotas: (2, 0),
     calls: &[

@@ -2,26 +2,26 @@
 
 use crate::host::Parallel;
 use example_charts::TWO_SENDERS;
+use msc_calls::run_text;
 use msc_chart::{Event, Queues};
 use msc_instance::Gate;
-use msc_tool::run_text;
 use std::sync::atomic::{AtomicU64, Ordering};
 use std::thread;
 
-/// How often a gate looks whether it was asked for another event.
+/// The number of times that a gate looks whether it was called for another event.
 const TURNS: u64 = 1_000_000_000;
 
-/// A gate of `two_senders` at which events wait until it was asked for others.
+/// A gate of `two_senders` at which events wait until it was called for others.
 #[derive(Drop)]
 struct Waiting {
-    /// For each event the one that it waits for, if it waits.
+    /// For each event, the event for which it waits, if it waits.
     awaited: Awaited,
-    /// How often the gate was asked for each event.
+    /// The number of calls of the gate for each event.
     asked: [AtomicU64; 4],
 }
 
 impl Waiting {
-    /// A gate that was asked for nothing.
+    /// A gate that was not called.
     fn new(awaited: Awaited) -> Waiting {
         Waiting {
             awaited,
@@ -34,7 +34,7 @@ impl Waiting {
         }
     }
 
-    /// How often it was asked for an event.
+    /// The number of calls for an event.
     fn count(&self, event: Event) -> u64 {
         match self.asked.get(event as usize) {
             Some(count) => count.load(Ordering::SeqCst),
@@ -42,7 +42,7 @@ impl Waiting {
         }
     }
 
-    /// Waits until it was asked for an event, or has looked in vain too often.
+    /// Waits until the gate was called for an event, or it has looked in vain too often.
     fn waits_for(&self, event: Event) -> bool {
         for _ in 0..TURNS {
             if self.count(event) > 0 {
@@ -84,7 +84,7 @@ trace 4\n0 a out m1 to b\n3 c out m2 to b\n2 b in m2 from c\n1 b in m1 from a\n"
 const M2_AHEAD: &[u8] = b"instance a finished\ninstance b finished\ninstance c finished\n\
 trace 4\n3 c out m2 to b\n0 a out m1 to b\n2 b in m2 from c\n1 b in m1 from a\n";
 
-/// For each event of `two_senders` the one that it waits for.
+/// For each event of `two_senders`, the event for which it waits.
 type Awaited = [Option<Event>; 4];
 
 /// c sends once b has m1.
@@ -96,7 +96,7 @@ const AFTER_M2: Awaited = [Some(2), None, None, None];
 /// Both outputs wait for each other.
 const MEETING: Awaited = [Some(3), None, None, Some(0)];
 
-/// What events wait for, an architecture, and the traces that may come of that.
+/// The events for which events wait, an architecture, and the traces that may result.
 const FORCED: &[(Awaited, Queues, [&[u8]; 2])] = &[
     (AFTER_M1, Queues::Pair, [M1_ALONE, M1_ALONE]),
     (AFTER_M1, Queues::Mailbox, [M1_ALONE, M1_ALONE]),
@@ -109,7 +109,7 @@ const FORCED: &[(Awaited, Queues, [&[u8]; 2])] = &[
     (MEETING, Queues::Single, [M1_ALONE, M2_FIRST]),
 ];
 
-/// Whether the run of `two_senders` with such a gate finishes with one of these traces, and asks
+/// Whether the run of `two_senders` with such a gate finishes with one of these traces, and calls
 /// the gate once for each event.
 fn is_forced(rt: &impl Parallel, queues: Queues, awaited: Awaited, traces: &[&[u8]]) -> bool {
     let mut output = Vec::new(rt.alloc());

@@ -1,11 +1,11 @@
-//! How large a queue can be: what is refused, and that the largest is filled and emptied.
+//! The greatest size of a queue: larger ones are refused, and the largest is filled and emptied.
 
 ghost use Rattle.std.specs.Prelude.{◌≤◌};
 
 use crate::host::Host;
 use msc_fifo::{Inlet, Outlet, QueueFault, SendFault, Taken, queue, settle};
 
-/// Quotas, and why no queue has them, or none where a queue has them.
+/// Quotas, and why no queue has them, or none if a queue has them.
 const LIMITS: &[(&[u32], Option<QueueFault>)] = &[
     (&[], Some(QueueFault::NoSender)),
     (&[1024, 1], Some(QueueFault::TooLarge)),
@@ -41,7 +41,7 @@ fn is_new(rt: &impl Host, quotas: &[u32]) -> bool {
     }
 }
 
-/// Whether a queue with these quotas is new, or is refused so.
+/// Whether a queue with these quotas is new, or is refused with this fault.
 fn is_made(rt: &impl Host, quotas: &[u32], refusal: Option<QueueFault>) -> bool {
     match refusal {
         Some(_) => queue(rt.alloc(), quotas).err() == refusal,
@@ -56,7 +56,7 @@ fn limits(rt: HostRuntime) {
     }
 }
 
-/// Puts the messages 0 to 31 of a sender and closes; whether each was sent, and no more.
+/// Puts the messages 0 to 31 of a sender and closes. Returns whether each was sent, and no more.
 fn fills(outlet: &mut Outlet) -> bool {
     let mut all = true;
     for m in 0..32 {
@@ -67,7 +67,7 @@ fn fills(outlet: &mut Outlet) -> bool {
     all
 }
 
-/// Takes the messages 0 to 31 of a sender, and its end mark; whether each was found.
+/// Takes the messages 0 to 31 of a sender, and its end mark. Returns whether each was found.
 fn empties(inlet: &mut Inlet, sender: u32) -> bool
     requires { sender ≤ 31 }
 {
@@ -78,7 +78,7 @@ fn empties(inlet: &mut Inlet, sender: u32) -> bool
     all & (inlet.take(0) == Taken::Ended(sender))
 }
 
-/// Whether the largest queue takes all that may be put into it, and gives it back.
+/// Whether the largest queue takes all that may be put into it, and returns it.
 fn is_filled_and_emptied(rt: &impl Host) -> bool {
     let (mut outlets, mut inlet) = queue(rt.alloc(), &[32; 32]).expect(rt, "a queue");
     let mut all = true;

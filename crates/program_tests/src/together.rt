@@ -5,10 +5,10 @@ use example_charts::{EMPTY, LOCAL_EVENTS};
 use msc_chart::{Chart, Event, Queues};
 use msc_instance::{AlwaysOpen, End, Execution, run_chart};
 
-/// As many rounds as there can be.
+/// The greatest number of rounds.
 pub const PATIENCE: u32 = u32::MAX;
 
-/// How each instance ends, and the log of each.
+/// The end of each instance, and the log of each.
 pub type Wanted<'a> = (&'a [End], &'a [&'a [Event]]);
 
 /// Whether an execution has these ends and these logs.
@@ -24,8 +24,8 @@ pub fn is_execution(execution: &Execution, wanted: Wanted) -> bool {
     true
 }
 
-/// Whether the instances of a chart end so with a gate that is always open, and so many queues are
-/// settled.
+/// Whether these are the ends of the instances of a chart with a gate that is always open, and this
+/// number of queues is settled.
 fn is_run_of(
     rt: &impl Parallel,
     chart: &Chart,
@@ -40,7 +40,7 @@ fn is_run_of(
     is_execution(&execution, wanted) && execution.queues.len() == count
 }
 
-/// The same of a text's chart.
+/// The same for a text's chart.
 fn is_run(rt: &impl Parallel, text: &[u8], queues: Queues, wanted: Wanted, count: usize) -> bool {
     is_run_of(rt, &chart_of(rt, text), queues, wanted, count)
 }

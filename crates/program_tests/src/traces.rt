@@ -1,4 +1,4 @@
-//! The texts of executions: how the instances ended, and the trace.
+//! The texts of executions: the ends of the instances, and the trace.
 
 ghost use Rattle.std.specs.Prelude.{◌<◌, IsTrue, length};
 ghost use Rattle.std.specs.List.{All};
@@ -6,11 +6,11 @@ ghost use Rattle.std.specs.List.{All};
 use crate::devices::{Narrow, byte_writer};
 use crate::host::{Host, chart_of};
 use example_charts::{EMPTY, LOCAL_EVENTS, NUMBERED, ONE_MESSAGE, RELAY};
+use msc_calls::write_trace;
 use msc_chart::{Chart, Event, Queues};
 use msc_ending::End;
-use msc_tool::write_trace;
 
-/// A chart's text, the architecture, how each instance ended, the trace, and what is printed.
+/// A chart's text, the architecture, the end of each instance, the trace, and the printed text.
 type Printed = (
     &'static [u8],
     Queues,
@@ -19,7 +19,7 @@ type Printed = (
     &'static [u8],
 );
 
-/// Executions of worked charts, whole ones and such as stopped on the way.
+/// Executions of worked charts, both complete ones and ones that stopped on the way.
 const PRINTED: &[Printed] = &[
     (
         EMPTY,
@@ -94,8 +94,8 @@ fn are_events(chart: &Chart, events: &[Event]) -> bool
     events.iter().all(|e| *e < count)
 }
 
-/// Whether `write_trace` succeeds on a chart. Not where the events are not the chart's, or the ends
-/// not as many as its instances.
+/// Whether `write_trace` succeeds on a chart; false if the events are not the chart's, or there are
+/// not as many ends as instances.
 fn is_written(writer: &mut Narrow, chart: &Chart, printed: &Printed) -> bool {
     let (_, queues, ends, trace, _) = *printed;
     if ends.len() != chart.instances() as usize {
@@ -110,7 +110,7 @@ fn is_written(writer: &mut Narrow, chart: &Chart, printed: &Printed) -> bool {
     }
 }
 
-/// Whether this is what is written through a writer that takes a byte at a time.
+/// Whether this is the text that is written through a writer that takes a byte at a time.
 fn writes(rt: &impl Host, printed: &Printed) -> bool {
     let chart = chart_of(rt, printed.0);
     let mut writer = byte_writer(rt.alloc(), 0);

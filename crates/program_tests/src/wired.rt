@@ -6,8 +6,8 @@ use example_charts::RELAY;
 use msc_chart::{Chart, Queues};
 use msc_instance::{InstanceEnds, wire};
 
-/// The queues of an instance's outlets, each with how many messages it has left, and those of its
-/// inlets.
+/// The queues of an instance's outlets, each with the number of messages that it has left, and
+/// those of its inlets.
 type Wired = (&'static [(u32, u32)], &'static [u32]);
 
 /// The ends of the three instances of `relay` under an architecture.
@@ -76,13 +76,13 @@ fn the_ends_of_relay(rt: HostRuntime) {
     }
 }
 
-/// What is done to the ends of an instance before it is looked whether they fit.
+/// The change of an instance's ends before the test whether they fit.
 #[derive(Clone, Copy, Debug)]
 enum Change {
     Nothing,
     /// Its outlets are closed.
     Closed,
-    /// Its outlets stand in falling order.
+    /// Its outlets are in descending order.
     Falling,
     /// Its last outlet gets a message.
     Spent,
@@ -95,7 +95,7 @@ fn close_all(ends: &mut InstanceEnds) {
     }
 }
 
-/// Changes ends so, and says whether that could be done.
+/// Changes ends in this way, and returns whether that was possible.
 fn is_changed(ends: &mut InstanceEnds, change: Change) -> bool {
     match change {
         Change::Nothing => true,
@@ -111,8 +111,8 @@ fn is_changed(ends: &mut InstanceEnds, change: Change) -> bool {
     }
 }
 
-/// Whether the first of these ends, when they are changed so, fit an instance of a chart; none
-/// where they could not be.
+/// Whether the first of these ends, after this change, fit an instance of a chart; none if the
+/// change was not possible.
 fn first_fit(all: &mut [InstanceEnds], chart: &Chart, change: Change, i: u32) -> Option<bool> {
     let ends = all.first_mut()?;
     if !is_changed(ends, change) {
@@ -121,13 +121,13 @@ fn first_fit(all: &mut [InstanceEnds], chart: &Chart, change: Change, i: u32) ->
     Some(ends.fits(chart, i))
 }
 
-/// The same of the ends of a chart.
+/// The same for the ends of a chart.
 fn fit_in(rt: &impl Host, chart: &Chart, change: Change, i: u32) -> Option<bool> {
     let mut all = wire(rt.alloc(), chart, Queues::Single).expect(rt, "ends");
     first_fit(&mut all, chart, change, i)
 }
 
-/// The same of `relay`.
+/// The same for `relay`.
 fn fit(rt: &impl Host, change: Change, i: u32) -> Option<bool> {
     fit_in(rt, &chart_of(rt, RELAY), change, i)
 }

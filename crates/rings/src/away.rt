@@ -1,4 +1,4 @@
-//! How many steps each number is away from the start.
+//! The distance of each number from the start, in steps.
 
 ghost use Rattle.std.specs.Prelude.{◌≡◌, ◌+◌, ◌*◌, ◌<◌, length, replicate, IfOk, OnOk};
 ghost use Rattle.bit_rows.specs.Rows.{word_count};
@@ -8,11 +8,11 @@ ghost use Rattle.rings.specs.Searching.{never, IsAway, IsSearch};
 use bit_rows::table;
 use std::alloc::{AllocError, Global};
 
-/// What stands for a number from which no way leads to the start.
+/// The value for a number from which no path leads to the start.
 pub(crate) const NEVER: u32 = u32::MAX;
 
-/// Marks each number that leads to the one at place `at` of the queue and was not reached before,
-/// as one step farther away, and puts it into the queue.
+/// Marks each number that leads to the one at place `at` of the queue and was not reached before as
+/// one step farther away, and appends it to the queue.
 fn reach(
     steps: &[u64],
     n: u32,
@@ -37,15 +37,15 @@ fn reach(
     Ok(())
 }
 
-/// The list in which no number was reached.
+/// The list before any number is reached.
 fn nowhere(alloc: Global, n: u32) -> Result<Vec<u32>, AllocError>
     ensures { IfOk result (λ away. away.items ≡ replicate n never) }
 {
     vec![in alloc; NEVER; n as usize]
 }
 
-/// How many steps each number is away from the start: a search from the start against the pairs,
-/// the nearest first.
+/// The distance of each number from the start, in steps: a search from the start against the pairs,
+/// the nearest numbers first.
 pub(crate) fn away_from(
     alloc: Global,
     steps: &[u64],

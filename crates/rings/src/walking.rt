@@ -10,8 +10,8 @@ use crate::away::{NEVER, away_from};
 use bit_rows::table;
 use std::alloc::{AllocError, Global};
 
-/// Of the numbers that `x` leads to and that are less than `bound` away the nearest, and of those
-/// the least.
+/// The nearest of the numbers to which `x` leads and whose distance is less than `bound`; if there
+/// are several, the least.
 fn nearest(steps: &[u64], n: u32, x: u32, away: &[u32], bound: u32) -> Option<u32>
     requires square { length steps.now ≡ n * word_count n }
     requires number { x < n }
@@ -30,8 +30,8 @@ fn nearest(steps: &[u64], n: u32, x: u32, away: &[u32], bound: u32) -> Option<u3
     found
 }
 
-/// A ring through `start`, if there is one: of the shortest the least, number by number. `steps`
-/// has a row for each number below `n`. The only error is want of memory.
+/// A ring through `start`, if there is one: the least of the shortest rings, number by number.
+/// `steps` has a row for each number below `n`. The only error is that memory ran out.
 pub fn ring(
     alloc: Global,
     steps: &[u64],

@@ -1,11 +1,11 @@
--- The rows of a beginning of a chosen run hold what may come next, and what is free of it.
+-- The rows of a beginning of a witness hold what may come next, and what is free of it.
 use Rattle.std.proofs.Common.{◌≡◌, ◌≢◌, ℕ, ◌<◌, Bool, true, false, ◌||◌, ◌↔◌, inl, inr, Result, Ok, Err, OnOk, List, [], ◌∷◌, ◌++◌, length, refl, sym, ◌∙◌, subst}
 use Rattle.std.proofs.lemmas.Bool.{and_parts, and_from, or_cases, or_left, or_right}
 use Rattle.msc_chart.specs.Lists.{occurs, IsLeast}
 use Rattle.msc_chart.specs.Charts.{partner}
 use Rattle.msc_chart.specs.Orders.{WiredChart, IsWired, queue, IsEnforcedOrder}
 use Rattle.msc_chart.specs.Runs.{MayCome, is_waiting, state}
-use Rattle.msc_chart.specs.Chosen.{IsFree, MayComeFree}
+use Rattle.msc_chart.specs.Witness.{IsFree, MayComeFree}
 use Rattle.msc_chart.proofs.ListLemmas.{occurs_other}
 use Rattle.bit_rows.specs.Rows.{has, IsWithout}
 use Rattle.msc_race.specs.Rows.{is_masked}

@@ -1,16 +1,16 @@
--- Which mask the next event of a chosen run is picked with.
+-- Which mask the next event of a witness is picked with.
 use Rattle.std.proofs.Common.{◌≡◌, ℕ, ◌<◌, false, ◌↔◌, inl, inr, List, Option, None, Some, IfNone}
 use Rattle.std.specs.Prelude.{IsTrue}
 use Rattle.msc_chart.specs.Lists.{occurs, IsLeast}
 use Rattle.msc_chart.specs.Orders.{IsWired}
 use Rattle.msc_chart.specs.Runs.{MayCome, IsWhole}
-use Rattle.msc_chart.specs.Chosen.{IsFree, IsChosenNext, MayComeFree, SomeFreeLeft}
+use Rattle.msc_chart.specs.Witness.{IsFree, IsWitnessNext, MayComeFree, SomeFreeLeft}
 use Rattle.msc_order.specs.Tables.{orders}
 use Rattle.msc_race.specs.declared.choosing.Choice.{Choice}
 use Rattle.msc_race.specs.declared.beginning.Beginning.{Beginning}
 use Rattle.msc_race.specs.Rows.{is_masked}
 use Rattle.msc_race.specs.Choices.{wired_chart, event_count, IsChoice}
-use Rattle.msc_race.specs.Laws.{ChosenRunsGoOn, ChosenStepsAreARun, NoRunIsStuck}
+use Rattle.msc_race.specs.Laws.{WitnessesGoOn, WitnessStepsAreARun, NoRunIsStuck}
 use Rattle.msc_race.specs.Remainders.{HoldsExactly, IsUnheld}
 use Rattle.msc_race.specs.Beginnings.{run_of, HaveCommon, IsBeginning}
 use Rattle.msc_race.proofs.Making.ChoiceLemmas.{iff_trans}
@@ -26,9 +26,10 @@ module _ (choice : Choice) (b : Beginning) where
   abbrev pub is_picked : List ℕ → ℕ → Type 0
   is_picked mask y = IsTrue (is_masked b.lines.controlled b.queued.inputs mask y)
 
-  -- the least event that is picked with the mask is the next one, and where none is, the run is whole
+  -- the least event that is picked with the mask is the next one, and where none is, the run is
+  -- whole
   pub record IsMask (mask : List ℕ) : Type 0 where
-    pub next : (x : ℕ) → IsLeast (is_picked mask) x → IsChosenNext (wired_chart choice) choice.e (run_of b) x
+    pub next : (x : ℕ) → IsLeast (is_picked mask) x → IsWitnessNext (wired_chart choice) choice.e (run_of b) x
     pub whole : ((y : ℕ) → is_picked mask y → ⊥) → IsWhole (wired_chart choice) (run_of b)
 
   module _ (settled : IsChoice choice) (kept : IsBeginning choice b) (is_wired : IsWired (wired_chart choice)) where
@@ -44,7 +45,7 @@ module _ (choice : Choice) (b : Beginning) where
     free_left some = (some.0, (kept.told.free some.0).0 some.1, ((kept.left some.0).0 some.2).1)
 
     -- with no free event left, the mask is all that is left
-    pub mask_of_all : ChosenStepsAreARun → NoRunIsStuck → (HaveCommon b.remaining.free.items b.lines.left.items → ⊥)
+    pub mask_of_all : WitnessStepsAreARun → NoRunIsStuck → (HaveCommon b.remaining.free.items b.lines.left.items → ⊥)
         → IsMask b.lines.left.items
     mask_of_all steps stuck none =
         let chart = wired_chart choice in
@@ -63,7 +64,7 @@ module _ (choice : Choice) (b : Beginning) where
         }
 
     -- with a free event left, the mask holds those that do not wait
-    mask_of_free : ChosenRunsGoOn → HaveCommon b.remaining.free.items b.lines.left.items → (mask : List ℕ) (P : ℕ → Type 0) → HoldsExactly mask P
+    mask_of_free : WitnessesGoOn → HaveCommon b.remaining.free.items b.lines.left.items → (mask : List ℕ) (P : ℕ → Type 0) → HoldsExactly mask P
         → ((y : ℕ) → (MayCome (wired_chart choice) (run_of b) y × P y) ↔ MayComeFree (wired_chart choice) choice.e (run_of b) y)
         → IsMask mask
     mask_of_free goes_on some mask P held ready =
@@ -80,8 +81,9 @@ module _ (choice : Choice) (b : Beginning) where
               absurd (nothing next.0 ((same next.0).1 ((ready next.0).1 next.1)));
         }
 
-    -- while an output to the queue of e that is passed on is left, these are the events that are not held
-    pub mask_of_unheld : ChosenRunsGoOn → HaveCommon b.remaining.free.items b.lines.left.items → HaveCommon b.remaining.passed.items b.lines.left.items
+    -- while an output to the queue of e that is passed on is left, these are the events that are
+    -- not held
+    pub mask_of_unheld : WitnessesGoOn → HaveCommon b.remaining.free.items b.lines.left.items → HaveCommon b.remaining.passed.items b.lines.left.items
         → IsMask b.remaining.unheld.items
     mask_of_unheld goes_on some passed =
         let chart = wired_chart choice in
@@ -92,7 +94,7 @@ module _ (choice : Choice) (b : Beginning) where
         ((kept.told.passed t).0 passed.1) ((kept.left t).0 passed.2).1)
 
     -- and when none is left, all free events
-    pub mask_of_rest : ChosenRunsGoOn → HaveCommon b.remaining.free.items b.lines.left.items → (HaveCommon b.remaining.passed.items b.lines.left.items → ⊥)
+    pub mask_of_rest : WitnessesGoOn → HaveCommon b.remaining.free.items b.lines.left.items → (HaveCommon b.remaining.passed.items b.lines.left.items → ⊥)
         → IsMask b.remaining.free.items
     mask_of_rest goes_on some none =
         let chart = wired_chart choice in

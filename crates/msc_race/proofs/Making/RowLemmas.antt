@@ -1,4 +1,4 @@
--- What the rows of a chosen run hold, word by word.
+-- What the rows of a witness hold, word by word.
 use Rattle.std.proofs.Common.{◌≡◌, ℕ, ◌*◌, ◌/◌, ◌%◌, ◌<◌, ◌≤◌, ◌↔◌, Bool, true, false, not, ◌&&◌, inl, inr, eqb, ltb, List, length, get_or, sym, ap, ◌∙◌, arith, bit_or, bit_and}
 use Rattle.std.proofs.lemmas.Bool.{lt-ltb, ltb-true, cases_lt}
 use Rattle.std.specs.Prelude.{IsTrue}

@@ -1,4 +1,4 @@
--- Two events that are not enforced in an order have a short run: what comes next can be told.
+-- Two events that are not enforced in an order have a short witness: what comes next can be told.
 use Rattle.std.proofs.Common.{◌≡◌, ℕ, zero, suc, ◌<◌, ◌≤◌, Bool, true, ◌||◌, ◌⊎◌, inl, inr, eqb, List, [], ◌∷◌, ◌++◌, length, refl, arith}
 use Rattle.std.proofs.lemmas.Bool.{eqb-true, eq-eqb, false_from_ne_true, or_cases, or_left, or_right}
 use Rattle.std.proofs.Math.Nat.{le_refl}
@@ -6,7 +6,7 @@ use Rattle.msc_chart.specs.Lists.{occurs, Steps}
 use Rattle.msc_chart.specs.Charts.{IsAcyclic}
 use Rattle.msc_chart.specs.Orders.{WiredChart, IsWired, IsEnforcedOrder}
 use Rattle.msc_chart.proofs.Left.{is_left, left_less}
-use Rattle.msc_race.specs.Short.{IsHeldFor, IsNeeded, IsShortNext, IsShortRun, IsTakenFor, MayComeFor}
+use Rattle.msc_race.specs.Short.{IsHeldFor, IsNeeded, IsShortNext, IsShortWitness, IsTakenFor, MayComeFor}
 use Rattle.msc_race.proofs.Shared.{by_test, clash, count_below, Steps-push}
 use Rattle.msc_race.proofs.Runs.Inside.{held_from, held_parts, is_held, is_passed_on, passed_on_from, passed_on_parts, MayComeInside}
 use Rattle.msc_race.proofs.Runs.EventLemmas.{output_below}
@@ -14,8 +14,8 @@ use Rattle.msc_race.proofs.Runs.Deciding.{inside_decided, least_below}
 use Rattle.msc_race.proofs.Runs.Growing.{left_counted}
 use Rattle.msc_race.proofs.Runs.Tables.{enforced_order}
 use Rattle.msc_race.proofs.Runs.WholeRuns.{everything}
-use Rattle.msc_race.proofs.Runs.ChosenExists.{chosen_exists}
-use Rattle.msc_race.proofs.Pasts.ShortRuns.{all_needed, never_needed, short_steps}
+use Rattle.msc_race.proofs.Runs.WitnessExists.{witness_exists}
+use Rattle.msc_race.proofs.Pasts.ShortWitnesses.{all_needed, never_needed, short_steps}
 
 -- the event is f, or before f in an order
 is_needed_by : (ℕ → ℕ → Bool) → ℕ → ℕ → Bool
@@ -114,18 +114,18 @@ module _ (chart : WiredChart) (is_wired : IsWired chart) (f : ℕ) (below : f < 
             ends_from fuel (past ++ x ∷ []) (omega arith) (Steps-push (IsShortNext chart f) past x steps found.1)
       ]
 
-  -- and so there is a short run
-  short_from : (e : ℕ) → e < length chart.events → IsAcyclic chart.events → CanEnd → (events : List ℕ) × IsShortRun chart e f events
+  -- and so there is a short witness
+  short_from : (e : ℕ) → e < length chart.events → IsAcyclic chart.events → CanEnd → (events : List ℕ) × IsShortWitness chart e f events
   short_from e e_below acyclic end =
       by_test (occurs end.0 f)
       (λ there. (end.0, inl (end.1, all_needed chart is_wired end.0 (short_steps chart f end.0 end.1) f there)))
       (λ out.
-      let chosen = chosen_exists chart is_wired acyclic e e_below in
-      (_, inr (never_needed chart f end.0 end.1 (λ x next. end.2 x next.itself) out, (chosen.0, chosen.1, refl))))
+      let witness = witness_exists chart is_wired acyclic e e_below in
+      (_, inr (never_needed chart f end.0 end.1 (λ x next. end.2 x next.itself) out, (witness.0, witness.1, refl))))
 
 module _ (chart : WiredChart) (is_wired : IsWired chart) (acyclic : IsAcyclic chart.events) where
-  -- Two events have a short run.
-  pub short_exists : (e f : ℕ) → e < length chart.events → f < length chart.events → (events : List ℕ) × IsShortRun chart e f events
+  -- Two events have a short witness.
+  pub short_exists : (e f : ℕ) → e < length chart.events → f < length chart.events → (events : List ℕ) × IsShortWitness chart e f events
   short_exists e f e_below f_below =
       let table = enforced_order chart is_wired in
       let fuel : ℕ = count_below (is_left everything []) (length chart.events) in

@@ -1,4 +1,4 @@
--- The next event of a short run, as the rows hold it.
+-- The next event of a short witness, as the rows hold it.
 use Rattle.std.proofs.Common.{◌≡◌, ℕ, ◌<◌, ◌↔◌, true, inl, inr, List, [], ◌∷◌, ◌++◌, length, refl}
 use Rattle.msc_chart.specs.Charts.{is_output}
 use Rattle.msc_chart.specs.Orders.{WiredChart, IsWired, queue}

@@ -1,4 +1,4 @@
--- What short runs and reversing runs show.
+-- What short witnesses and reversing runs show.
 use Rattle.std.proofs.Common.{◌≡◌, ℕ, Bool, true, false, List, [], ◌∷◌, ◌++◌, Option, None, Some, refl, sym, ap, ◌∙◌}
 use Rattle.std.specs.Prelude.{MatchOption}
 use Rattle.std.proofs.lemmas.Bool.{false_from_ne_true}
@@ -9,7 +9,7 @@ use Rattle.msc_race.specs.Reversals.{ComesFirst, IsReversingRun}
 use Rattle.msc_race.specs.Short.{IsShortAnswer}
 use Rattle.msc_race.specs.Shown.{IsShown}
 
--- a short run shows its pair
+-- a short witness shows its pair
 pub shown_short : (chart : WiredChart) (e f : ℕ) (events : List ℕ) → IsShortAnswer chart e f events → IsShown true chart e f events
 shown_short chart e f events answer = record {
   shown = answer.short;
@@ -22,10 +22,10 @@ shown_short chart e f events answer = record {
   apart = answer.apart;
 }
 
--- and so does the chosen run of its first event
+-- and so does the witness of its first event
 pub shown_whole : (chart : WiredChart) (e f : ℕ) (events : List ℕ) → IsReversingRun chart e f events → IsShown false chart e f events
 shown_whole chart e f events reversing = record {
-  shown = reversing.chosen;
+  shown = reversing.witness;
   run = reversing.run;
   whole = λ _. reversing.whole;
   reverses = reversing.reverses;

@@ -1,23 +1,31 @@
--- What the enforced order relates.
-use Rattle.std.proofs.Common.{◌≡◌, ℕ, ◌<◌, true, ◌⊎◌, inl, inr, length, sym, ◌∙◌, subst}
+-- What the order of events relates, and the enforced order.
+use Rattle.std.proofs.Common.{◌≡◌, ℕ, ◌<◌, Bool, true, ◌⊎◌, inl, inr, length, sym, ◌∙◌, subst}
 use Rattle.msc_chart.specs.Charts.{partner, is_input}
 use Rattle.msc_chart.specs.Orders.{WiredChart, IsWired, queue, Enforced}
 use Rattle.msc_chart.specs.Orders.Enforced.{drawn, sent, joined, queued}
+use Rattle.msc_chart.specs.Precedence.{Precedes, none_ready}
+use Rattle.msc_chart.proofs.Precedence.{none_ready_is_enforced}
 use Rattle.msc_race.proofs.Runs.EventLemmas.{output_below, controlled_no_input, before_parts, partner_of_output}
 
 module _ (chart : WiredChart) (is_wired : IsWired chart) where
-  -- it relates events of the chart
-  pub enforced_below : (x y : ℕ) → Enforced chart x y
+  -- the order relates events of the chart, whichever lines are ready
+  pub precedes_below : (ready : ℕ → Bool) (fifo : Bool) (x y : ℕ) → Precedes chart ready fifo x y
       → (x < length chart.events) × (y < length chart.events)
-  enforced_below x y (drawn b o) = let p = before_parts chart.events x y b in (p.0, p.1)
-  enforced_below x y (sent o p) =
+  precedes_below ready fifo x y (Precedes.drawn b o) = let p = before_parts chart.events x y b in (p.0, p.1)
+  precedes_below ready fifo x y (Precedes.awaited b i l) = let p = before_parts chart.events x y b in (p.0, p.1)
+  precedes_below ready fifo x y (Precedes.sent o p) =
       let below = output_below chart.events x o in
       (below, subst (λ (z : ℕ). z < length chart.events) p (is_wired.matched.in_range x below))
-  enforced_below x y (joined {y = m} h k) = ((enforced_below x m h).0, (enforced_below m y k).1)
-  enforced_below x y (queued {s = s} {t = t} os ot same h p q) = (
+  precedes_below ready fifo x y (Precedes.joined {y = m} h k) = ((precedes_below ready fifo x m h).0, (precedes_below ready fifo m y k).1)
+  precedes_below ready fifo x y (Precedes.queued {s = s} {t = t} rule os ot same h p q l) = (
     subst (λ (z : ℕ). z < length chart.events) p (is_wired.matched.in_range s (output_below chart.events s os)),
     subst (λ (z : ℕ). z < length chart.events) q (is_wired.matched.in_range t (output_below chart.events t ot)),
   )
+
+  -- so does the enforced order
+  pub enforced_below : (x y : ℕ) → Enforced chart x y
+      → (x < length chart.events) × (y < length chart.events)
+  enforced_below x y h = precedes_below none_ready true x y ((none_ready_is_enforced chart x y).1 h)
 
   -- x is the output of the input y, or is enforced before that output, or is an input of y's queue
   -- whose output is enforced before y's output

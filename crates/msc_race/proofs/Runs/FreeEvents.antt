@@ -2,7 +2,7 @@
 use Rattle.std.proofs.Common.{◌≡◌, ℕ, ◌<◌, Bool, true, false, ◌&&◌, ◌≢◌, not, ◌⊎◌, inl, inr, length, eqb, ltb}
 use Rattle.std.proofs.lemmas.Bool.{ltb-true, lt-ltb, eqb-true, eqb-false, ne_eqb, and_parts, and_from, not-true, not_from_false, false_from_ne_true}
 use Rattle.msc_chart.specs.Orders.{WiredChart, Enforced, IsEnforcedOrder}
-use Rattle.msc_chart.specs.Chosen.{IsFree}
+use Rattle.msc_chart.specs.Witness.{IsFree}
 use Rattle.msc_race.proofs.Shared.{by_test, clash}
 
 -- an event other than e that is not after e in an order

@@ -3,10 +3,13 @@ use Rattle.std.proofs.Common.{◌≡◌, ℕ, ◌<◌, Bool, true, inl, inr, len
 use Rattle.msc_chart.specs.Charts.{IsAcyclic, partner, is_input}
 use Rattle.msc_chart.specs.Orders.{WiredChart, IsWired, queue, Enforced, IsEnforcedOrder}
 use Rattle.msc_chart.specs.Orders.Enforced.{drawn, sent, joined, queued}
+use Rattle.msc_chart.specs.Precedence.{none_ready}
+use Rattle.msc_race.proofs.Shared.{clash}
 use Rattle.msc_race.proofs.Runs.EventLemmas.{output_below, before_parts, partner_of_output, partner_of_input}
 use Rattle.msc_race.proofs.Runs.EnforcedPairs.{into_input}
 use Rattle.msc_race.proofs.Runs.Inside.{is_held, held_parts, passed_on_parts}
-use Rattle.msc_race.proofs.Runs.Progress.{needed_cases, CanGoFirst}
+use Rattle.msc_race.proofs.Runs.Needed.{needed_cases}
+use Rattle.msc_race.proofs.Runs.Progress.{CanGoFirst}
 use Rattle.msc_race.proofs.Runs.WholeRuns.{enforced_acyclic}
 use Rattle.msc_race.proofs.Runs.FreeEvents.{is_free_of, free_of_test, test_of_free, not_free}
 
@@ -48,7 +51,7 @@ module _ (chart : WiredChart) (is_wired : IsWired chart) (order : ℕ → ℕ �
   pub free_first : IsAcyclic chart.events
       → CanGoFirst chart (is_free_of chart order e) (Enforced chart)
   free_first acyclic = record {
-    base = λ x y h. needed_cases chart.events x y h (λ b o. drawn b o) (λ o p. sent o p);
+    base = λ x y h. needed_cases chart none_ready x y h (λ b o. drawn b o) (λ b i l. clash l refl) (λ o p. sent o p);
     trans = λ x y z h k. joined h k;
     irreflexive = λ x x_below h. enforced_acyclic chart is_wired acyclic x h;
     drawn_inside = λ x s b o free. free_before x s (before_parts chart.events x s b).0 (drawn b o) free;

@@ -1,10 +1,10 @@
--- What is free by a test is free, and the other way round; so are the events that may come free, and
--- what is held, passed on and left.
+-- What is free by a test is free, and the other way round; so are the events that may come free,
+-- and what is held, passed on and left.
 use Rattle.std.proofs.Common.{◌≡◌, ℕ, ◌<◌, Bool, true, List, length}
 use Rattle.std.proofs.lemmas.Bool.{false_from_ne_true}
 use Rattle.msc_chart.specs.Lists.{occurs, IsLeast}
 use Rattle.msc_chart.specs.Orders.{WiredChart, IsEnforcedOrder}
-use Rattle.msc_chart.specs.Chosen.{IsFree, IsHeld, IsPassedOn, MayComeFree, SomeFreeLeft}
+use Rattle.msc_chart.specs.Witness.{IsFree, IsHeld, IsPassedOn, MayComeFree, SomeFreeLeft}
 use Rattle.msc_race.proofs.Shared.{by_test, clash}
 use Rattle.msc_race.proofs.Runs.Inside.{is_held, is_passed_on, held_from, held_parts, passed_on_from, passed_on_parts, MayComeInside, SomeLeft}
 use Rattle.msc_race.proofs.Runs.FreeEvents.{is_free_of, free_of_test, test_of_free}

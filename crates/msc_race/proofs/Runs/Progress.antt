@@ -1,50 +1,24 @@
 -- From a run inside a set of events that can go first, another event of the set may come.
-use Rattle.std.proofs.Common.{◌≡◌, ℕ, ◌<◌, Bool, true, false, ◌&&◌, ◌||◌, not, ◌⊎◌, inl, inr, List, [], eqb, length, sym, ◌∙◌, subst}
-use Rattle.std.proofs.lemmas.Bool.{eqb-true, eq-eqb, and_parts, and_from, or_left, or_right, or_cases, not-true, not_from_false, false_from_ne_true}
+use Rattle.std.proofs.Common.{◌≡◌, ℕ, ◌<◌, Bool, true, false, ◌&&◌, not, ◌⊎◌, inl, inr, List, [], length, sym, ◌∙◌, subst}
+use Rattle.std.proofs.lemmas.Bool.{and_parts, and_from, not-true, not_from_false, false_from_ne_true}
 use Rattle.std.proofs.Math.Nat.{le_refl}
-use Rattle.msc_chart.specs.declared.event.ChartEvent.{ChartEvent}
 use Rattle.msc_chart.specs.Lists.{occurs, Steps}
-use Rattle.msc_chart.specs.Charts.{partner, is_output, is_input, is_controlled, before}
+use Rattle.msc_chart.specs.Charts.{partner, is_input, is_controlled, before}
 use Rattle.msc_chart.specs.Orders.{WiredChart, IsWired, queue}
 use Rattle.msc_chart.specs.Runs.{MayCome, is_waiting}
+use Rattle.msc_chart.specs.Precedence.{none_ready}
 use Rattle.msc_race.proofs.Shared.{by_test, clash, count_below, find_below, descend, step_at, first_occurs, before_first_fails, filter-first}
 use Rattle.msc_race.proofs.Runs.EventLemmas.{output_below, input_below, controlled_or_input, controlled_no_input, not_both, before_parts, partner_of_output, partner_of_input}
 use Rattle.msc_chart.proofs.Waiting.{waiting_from, waiting_parts}
 use Rattle.msc_chart.proofs.Left.{is_left, left_from, left_parts}
+use Rattle.msc_race.proofs.Runs.Needed.{is_needed, needed_drawn, needed_sent}
 use Rattle.msc_race.proofs.Runs.Inside.{is_held, is_passed_on, held_from, held_parts, passed_on_from, passed_on_parts, passed_on_decided, MayComeInside, SomeLeft}
-
-module _ (events : List ChartEvent) (x y : ℕ) where
-  -- x has to come before y by a rule of a run: it is drawn before y, which is controlled, or is the
-  -- output of the input y
-  pub is_needed : Bool
-  is_needed = (before events x y && is_controlled events y) || (is_output events x && eqb (partner events x) y)
-
-  -- what is drawn before a controlled event has to come before it
-  pub needed_drawn : before events x y ≡ true → is_controlled events y ≡ true → is_needed ≡ true
-  unfolding is_needed
-  needed_drawn h o = or_left _ _ (and_from _ _ h o)
-
-  -- an output has to come before its input
-  pub needed_sent : is_output events x ≡ true → partner events x ≡ y → is_needed ≡ true
-  unfolding is_needed
-  needed_sent o same = or_right _ _ (and_from _ _ o (eq-eqb _ _ same))
-
-  -- and there is no third case
-  pub needed_cases : {X : Type 0} → is_needed ≡ true
-      → (before events x y ≡ true → is_controlled events y ≡ true → X)
-      → (is_output events x ≡ true → partner events x ≡ y → X) → X
-  unfolding is_needed
-  needed_cases h drawn sent =
-      elim (or_cases _ _ h) [
-        | inl a ↦ let both = and_parts _ _ a in drawn both.0 both.1
-        | inr b ↦ let both = and_parts _ _ b in sent both.0 (eqb-true _ _ both.1)
-      ]
 
 -- A set of events that can go first: it holds what has to come before its events, in an order R
 -- without cycles in which no held output stands before an output of its queue that is passed on; and
 -- held outputs have one queue.
 pub record CanGoFirst (chart : WiredChart) (inside : ℕ → Bool) (R : ℕ → ℕ → Type 0) : Type 0 where
-  pub base : (x y : ℕ) → is_needed chart.events x y ≡ true → R x y
+  pub base : (x y : ℕ) → is_needed chart none_ready x y ≡ true → R x y
   pub trans : (x y z : ℕ) → R x y → R y z → R x z
   pub irreflexive : (x : ℕ) → x < length chart.events → R x x → ⊥
   pub drawn_inside : (x s : ℕ) → before chart.events x s ≡ true → is_controlled chart.events s ≡ true
@@ -112,7 +86,7 @@ module _ (chart : WiredChart) (is_wired : IsWired chart) (inside : ℕ → Bool)
   -- Where the set is quiet, what is left and has nothing left that it needs is controlled, and may come.
   ready : HasNoneInFlight chart inside past
       → (x : ℕ) → x < length chart.events → is_left inside past x ≡ true
-      → ((y : ℕ) → y < length chart.events → is_left inside past y ≡ true → is_needed chart.events y x ≡ false)
+      → ((y : ℕ) → y < length chart.events → is_left inside past y ≡ true → is_needed chart none_ready y x ≡ false)
       → MayCome chart past x
   ready quiet x below left least =
       let x_left = left_parts inside past x left in
@@ -123,24 +97,24 @@ module _ (chart : WiredChart) (is_wired : IsWired chart) (inside : ℕ → Bool)
           controlled = λ again y drawn. by_test (occurs past y) (λ there. there)
               (λ out.
               let y_left = left_from inside past y (first.drawn_inside y x drawn o x_left.0) out in
-              clash (needed_drawn chart.events y x drawn o) (least y (before_parts chart.events y x drawn).0 y_left));
+              clash (needed_drawn chart none_ready y x drawn o) (least y (before_parts chart.events y x drawn).0 y_left));
           input = λ i. absurd (controlled_no_input chart.events x o i);
         }
         | inr i ↦
             let s : ℕ = partner chart.events x in
             let o = partner_of_input chart.events is_wired.matched x i in
             let s_left = left_from inside past s (first.sent_inside x i x_left.0) (quiet x i x_left.0 x_left.1) in
-            clash (needed_sent chart.events s x o (is_wired.matched.to_and_fro x below))
+            clash (needed_sent chart none_ready s x o (is_wired.matched.to_and_fro x below))
             (least s (is_wired.matched.in_range x below) s_left)
       ]
 
   -- From any event that is left one comes back to such an event.
   earliest : (g : ℕ) → g < length chart.events → is_left inside past g ≡ true
       → (x : ℕ) × (x < length chart.events) × (is_left inside past x ≡ true) × ((x ≡ g) ⊎ R x g)
-      × ((y : ℕ) → y < length chart.events → is_left inside past y ≡ true → is_needed chart.events y x ≡ false)
+      × ((y : ℕ) → y < length chart.events → is_left inside past y ≡ true → is_needed chart none_ready y x ≡ false)
   earliest g below left =
       let fuel : ℕ = count_below (is_left inside past) (length chart.events) in
-      descend (length chart.events) (is_needed chart.events) R first.base first.trans first.irreflexive
+      descend (length chart.events) (is_needed chart none_ready) R first.base first.trans first.irreflexive
       fuel (is_left inside past) (le_refl fuel) g below left
 
   -- Where the set is quiet, some event of it that is left may come: if the earliest before g is held

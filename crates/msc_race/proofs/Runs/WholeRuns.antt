@@ -6,13 +6,15 @@ use Rattle.msc_chart.specs.Lists.{occurs, until, Steps}
 use Rattle.msc_chart.specs.Charts.{IsAcyclic, Visual}
 use Rattle.msc_chart.specs.Charts.Visual.{seen, passed, linked}
 use Rattle.msc_chart.specs.Orders.{WiredChart, IsWired, Enforced}
+use Rattle.msc_chart.specs.Precedence.{none_ready}
 use Rattle.msc_chart.specs.Runs.{Run, MayCome, IsWhole}
 use Rattle.msc_race.proofs.Shared.{clash, count_below, find_below, step_at, Steps-map}
 use Rattle.msc_race.proofs.Runs.Respects.{earlier}
 use Rattle.msc_race.proofs.Runs.EnforcedPairs.{enforced_below}
 use Rattle.msc_chart.proofs.Left.{is_left}
 use Rattle.msc_race.proofs.Runs.Inside.{held_parts, MayComeInside, SomeLeft, run_inside}
-use Rattle.msc_race.proofs.Runs.Progress.{needed_cases, CanGoFirst, progress}
+use Rattle.msc_race.proofs.Runs.Needed.{needed_cases}
+use Rattle.msc_race.proofs.Runs.Progress.{CanGoFirst, progress}
 use Rattle.msc_race.proofs.Runs.Growing.{all_of}
 
 -- the set of all events
@@ -23,7 +25,7 @@ module _ (chart : WiredChart) (is_wired : IsWired chart) (acyclic : IsAcyclic ch
   -- The set of all events can go first, in the visual order: none of its outputs is held.
   all_first : CanGoFirst chart everything (Visual chart.events)
   all_first = record {
-    base = λ x y h. needed_cases chart.events x y h (λ drawn o. seen drawn) (λ o same. passed o same);
+    base = λ x y h. needed_cases chart none_ready x y h (λ drawn o. seen drawn) (λ drawn i l. seen drawn) (λ o same. passed o same);
     trans = λ x y z h k. linked h k;
     irreflexive = acyclic;
     drawn_inside = λ x s drawn o member. refl;

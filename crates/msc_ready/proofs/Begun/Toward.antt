@@ -1,4 +1,4 @@
--- The way to the second output of a first stick, and on to where the system has stuck.
+-- The way to the second output of a first blocked pair, and on to where the system has stuck.
 use Rattle.std.proofs.Common.{◌≡◌, ℕ, ◌<◌, ◌⊎◌, Bool, true, false, inl, inr, List, [], ◌∷◌, ◌++◌, length, refl, sym, ap, ◌∙◌, subst, append_assoc}
 use Rattle.std.specs.Prelude.{IsTrue, IfNone, MatchOption, Option, None, Some}
 use Rattle.std.proofs.lemmas.Bool.{cases_eq, false_from_ne_true}
@@ -8,8 +8,8 @@ use Rattle.msc_chart.specs.Lists.{occurs, until, IsLeast, Steps}
 use Rattle.msc_chart.specs.Orders.{WiredChart, IsWired}
 use Rattle.msc_chart.specs.Runs.{Reverses}
 use Rattle.msc_ready.specs.Readiness.{MayComeReady, ReadyRun, ReadyOrder}
-use Rattle.msc_ready.specs.Running.{GoesOnAs, HasOutputsUpTo, IsStickNext, IsStickRun, IsTowardNext, IsUpTo}
-use Rattle.msc_ready.specs.Sticks.{IsFirstStick}
+use Rattle.msc_ready.specs.Running.{GoesOnAs, HasOutputsUpTo, IsBlockedPairNext, IsBlockedPairRun, IsTowardNext, IsUpTo}
+use Rattle.msc_ready.specs.BlockedPairs.{IsFirstBlockedPair}
 use Rattle.msc_ready.proofs.Shared.{by_test, clash, count_below, is_left, left_less, not_both, occurs-left, occurs_other, partner_of_input, until-append, until-within}
 use Rattle.msc_ready.proofs.Runs.Final.{final, lined_of, outputs_differ}
 use Rattle.msc_ready.proofs.Runs.Growing.{everything}
@@ -79,7 +79,7 @@ module _ (chart : WiredChart) (ready : ℕ → Bool) (t : ℕ) where
           elim (cases_eq s x) [ inl same ↦ same | inr other ↦ clash there (occurs_other run x s other ∙ new) ]
 
 module _ (chart : WiredChart) (is_wired : IsWired chart) (lines : HaveOneLine chart) (acyclic : IsAcyclic chart.events) (ready : ℕ → Bool)
-    (e f t : ℕ) (first : IsFirstStick chart ready e f) (is : t ≡ partner chart.events f) where
+    (e f t : ℕ) (first : IsFirstBlockedPair chart ready e f) (is : t ≡ partner chart.events f) where
   -- before t has occurred, something comes on the way to it
   pub comes_toward : (past : List ℕ) → ReadyRun chart ready past → HasOutputsUpTo chart ready t past → occurs past t ≡ false
       → (x : ℕ) × ComesToward chart ready t past x
@@ -101,25 +101,25 @@ module _ (chart : WiredChart) (is_wired : IsWired chart) (lines : HaveOneLine ch
       )
 
 module _ (chart : WiredChart) (is_wired : IsWired chart) (ready : ℕ → Bool)
-    (e f t : ℕ) (first : IsFirstStick chart ready e f) (is : t ≡ partner chart.events f) where
-  -- Where t has occurred on the way there, the first output has not. So the run is one for the stick
-  -- once no event may come.
-  pub stick_run : (front whole : List ℕ) → HasOutputsUpTo chart ready t front → occurs front t ≡ true → GoesOnAs front whole
-      → ReadyRun chart ready whole → ((x : ℕ) → MayComeReady chart ready whole x → ⊥) → Steps (IsStickNext chart ready t) [] whole
-      → IsStickRun chart ready e f whole
-  stick_run front whole outs there on run none chosen =
-      let lined = lined_of chart ready e f first.stick in
-      let e_out = partner_of_input chart.events is_wired.matched e first.stick.inputs.0 in
+    (e f t : ℕ) (first : IsFirstBlockedPair chart ready e f) (is : t ≡ partner chart.events f) where
+  -- Where t has occurred on the way there, the first output has not. So the run is one for the
+  -- blocked pair once no event may come.
+  pub blocked_pair_run : (front whole : List ℕ) → HasOutputsUpTo chart ready t front → occurs front t ≡ true → GoesOnAs front whole
+      → ReadyRun chart ready whole → ((x : ℕ) → MayComeReady chart ready whole x → ⊥) → Steps (IsBlockedPairNext chart ready t) [] whole
+      → IsBlockedPairRun chart ready e f whole
+  blocked_pair_run front whole outs there on run none witness =
+      let lined = lined_of chart ready e f first.blocked_pair in
+      let e_out = partner_of_input chart.events is_wired.matched e first.blocked_pair.inputs.0 in
       let t_there : occurs front (partner chart.events f) ≡ true = subst (λ (z : ℕ). occurs front z ≡ true) is there in
       let late : occurs (until front (partner chart.events f)) (partner chart.events e) ≡ false = false_from_ne_true _
       (λ early. elim (outs (partner chart.events e) e_out (until-within front _ _ early)) [
         | inl same ↦ outputs_differ chart is_wired ready e f lined (sym (same ∙ is))
-        | inr h ↦ first.stick.free (subst (λ (z : ℕ). ReadyOrder chart ready (partner chart.events e) z) is h)
+        | inr h ↦ first.blocked_pair.free (subst (λ (z : ℕ). ReadyOrder chart ready (partner chart.events e) z) is h)
       ]) in
       let reverses : Reverses front (partner chart.events e) (partner chart.events f) = (t_there, late) in
       let longer : ReadyRun chart ready (front ++ on.0) = subst (λ (l : List ℕ). ReadyRun chart ready l) on.1 run in
       record {
-        chosen = subst (λ (z : ℕ). Steps (IsStickNext chart ready z) [] whole) is chosen;
+        witness = subst (λ (z : ℕ). Steps (IsBlockedPairNext chart ready z) [] whole) is witness;
         stuck = record {
           run = run;
           unfinished = λ all. final chart is_wired ready e f lined front on.0 longer reverses

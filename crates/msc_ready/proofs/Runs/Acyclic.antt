@@ -4,43 +4,52 @@ use Rattle.std.proofs.Common.{◌≡◌, ℕ, ◌<◌, Bool, true, false, ◌⊎
 use Rattle.msc_chart.specs.Charts.{line, partner, is_output, is_input, IsAcyclic, Visual}
 use Rattle.msc_chart.specs.Charts.Visual.{seen, passed, linked}
 use Rattle.msc_chart.specs.Orders.{WiredChart, IsWired, queue}
+use Rattle.msc_chart.specs.Precedence.{Precedes}
+use Rattle.msc_chart.specs.Precedence.Precedes.{drawn, awaited, sent, joined, queued}
+use Rattle.msc_race.proofs.Runs.EnforcedPairs.{precedes_below}
 use Rattle.msc_ready.specs.Plain.{AreMates, Plain}
-use Rattle.msc_ready.specs.Plain.Plain.{plain_drawn, plain_awaited, plain_sent, plain_joined}
 use Rattle.msc_ready.specs.Readiness.{ReadyOrder}
-use Rattle.msc_ready.specs.Readiness.ReadyOrder.{drawn, awaited, sent, joined, queued}
 use Rattle.msc_ready.proofs.Runs.Keeping.{HaveOneLine}
-use Rattle.msc_ready.proofs.Shared.{clash, before_parts, controlled_no_input, controlled_or_input, input_below, not_both, output_below, partner_of_input, partner_of_output}
+use Rattle.msc_ready.proofs.Shared.{clash, controlled_no_input, input_below, not_both, output_below, partner_of_input, partner_of_output}
+
+module _ {chart : WiredChart} {ready : ℕ → Bool} {fifo : Bool} {x y z : ℕ} where
+  -- two steps, of which the second may be none
+  pub then_up : Precedes chart ready fifo x y → (y ≡ z) ⊎ Precedes chart ready fifo y z → Precedes chart ready fifo x z
+  then_up h up =
+      elim up [ inl same ↦ subst (λ (w : ℕ). Precedes chart ready fifo x w) same h | inr k ↦ joined h k ]
+
+  -- or the first
+  pub up_then : (x ≡ y) ⊎ Precedes chart ready fifo x y → Precedes chart ready fifo y z → Precedes chart ready fifo x z
+  up_then up k =
+      elim up [ inl same ↦ subst (λ (w : ℕ). Precedes chart ready fifo w z) (sym same) k | inr h ↦ joined h k ]
+
+  -- or both
+  pub join_up : (x ≡ y) ⊎ Precedes chart ready fifo x y → (y ≡ z) ⊎ Precedes chart ready fifo y z → (x ≡ z) ⊎ Precedes chart ready fifo x z
+  join_up h up =
+      elim h [ inl same ↦ subst (λ (w : ℕ). (w ≡ z) ⊎ Precedes chart ready fifo w z) (sym same) up | inr k ↦ inr (then_up k up) ]
 
 module _ (chart : WiredChart) (is_wired : IsWired chart) (ready : ℕ → Bool) where
-  -- it is part of the visual order
+  -- what lines and messages order is part of the visual order
   pub plain_visual : (x y : ℕ) → Plain chart ready x y → Visual chart.events x y
-  plain_visual x y (plain_drawn h o) = seen h
-  plain_visual x y (plain_awaited h i l) = seen h
-  plain_visual x y (plain_sent o p) = passed o p
-  plain_visual x y (plain_joined {y = m} h k) = linked (plain_visual x m h) (plain_visual m y k)
+  plain_visual x y (drawn h o) = seen h
+  plain_visual x y (awaited h i l) = seen h
+  plain_visual x y (sent o p) = passed o p
+  plain_visual x y (joined {y = m} h k) = linked (plain_visual x m h) (plain_visual m y k)
+  plain_visual x y (queued rule os ot same h p q l) = clash rule refl
 
   -- x is y, or is ordered before it
   abbrev pub UpTo : ℕ → ℕ → Type 0
   UpTo x y = (x ≡ y) ⊎ Plain chart ready x y
 
-  -- two steps of which the second may be none
-  pub then_up : {x y z : ℕ} → Plain chart ready x y → UpTo y z → Plain chart ready x z
-  then_up {x} {y} {z} h up =
-      elim up [ inl same ↦ subst (λ (w : ℕ). Plain chart ready x w) same h | inr k ↦ plain_joined h k ]
-
-  -- two steps of which the first may be none
-  pub up_then : {x y z : ℕ} → UpTo x y → Plain chart ready y z → Plain chart ready x z
-  up_then {x} {y} {z} up k =
-      elim up [ inl same ↦ subst (λ (w : ℕ). Plain chart ready w z) (sym same) k | inr h ↦ plain_joined h k ]
-
   -- what is ordered before an input of a line that is not ready is its output, or is before that
   pub into_loose : (x r : ℕ) → Plain chart ready x r → is_input chart.events r ≡ true
       → ready (line chart.events r) ≡ false → UpTo x (partner chart.events r)
-  into_loose x r (plain_drawn h o) i loose = absurd (controlled_no_input chart.events r o i)
-  into_loose x r (plain_awaited h j l) i loose = clash l loose
-  into_loose x r (plain_sent o p) i loose =
+  into_loose x r (drawn h o) i loose = absurd (controlled_no_input chart.events r o i)
+  into_loose x r (awaited h j l) i loose = clash l loose
+  into_loose x r (sent o p) i loose =
       inl (rw (← p) (sym (is_wired.matched.to_and_fro x (output_below chart.events x o))))
-  into_loose x r (plain_joined {y = m} h k) i loose = inr (then_up h (into_loose m r k i loose))
+  into_loose x r (joined {y = m} h k) i loose = inr (then_up h (into_loose m r k i loose))
+  into_loose x r (queued rule os ot same h p q l) i loose = clash rule refl
 
   -- over one use of the rule from x to y
   pub record IsOver (x y : ℕ) : Type 0 where
@@ -54,7 +63,7 @@ module _ (chart : WiredChart) (is_wired : IsWired chart) (ready : ℕ → Bool) 
   -- an input of a line that is not ready goes after its output
   pub plain_into : (r : ℕ) → is_input chart.events r ≡ true → Plain chart ready (partner chart.events r) r
   plain_into r i =
-      plain_sent (partner_of_input chart.events is_wired.matched r i)
+      sent (partner_of_input chart.events is_wired.matched r i)
       (is_wired.matched.to_and_fro r (input_below chart.events r i))
 
   -- what is before an output over a use of the rule is plainly so, if it is an output
@@ -67,7 +76,7 @@ module _ (chart : WiredChart) (is_wired : IsWired chart) (ready : ℕ → Bool) 
         | inr k ↦ k
       ] in
       let up = into_loose s h.r to_r i h.loose in
-      then_up (plain_joined (up_then up h.mates.outputs) (plain_into h.u h.mates.second)) h.from
+      then_up (joined (up_then up h.mates.outputs) (plain_into h.u h.mates.second)) h.from
 
   -- from an input of a line that is not ready to another, plainly: over the output of the second
   between_loose : (u r : ℕ) → is_input chart.events u ≡ true → is_input chart.events r ≡ true
@@ -79,11 +88,6 @@ module _ (chart : WiredChart) (is_wired : IsWired chart) (ready : ℕ → Bool) 
             absurd (not_both chart.events u (subst (λ (z : ℕ). is_output chart.events z ≡ true) (sym same) o) iu)
         | inr k ↦ k
       ]
-
-  -- no number to the number itself
-  join_up : {u m r : ℕ} → UpTo u m → UpTo m r → UpTo u r
-  join_up {u} {m} {r} h k =
-      elim h [ inl same ↦ subst (λ (z : ℕ). UpTo z r) (sym same) k | inr p ↦ inr (then_up p k) ]
 
   -- over two uses of the rule it is over one: either the second begins where the first ends, or what
   -- is between goes over an output
@@ -98,7 +102,7 @@ module _ (chart : WiredChart) (is_wired : IsWired chart) (ready : ℕ → Bool) 
             second = b.mates.second;
             one_queue = a.mates.one_queue ∙ ap (λ (z : ℕ). queue chart z) same ∙ b.mates.one_queue;
             loose = b.mates.loose;
-            outputs = plain_joined a.mates.outputs
+            outputs = joined a.mates.outputs
                 (subst (λ (z : ℕ). Plain chart ready (partner chart.events z) (partner chart.events b.u)) (sym same) b.mates.outputs);
           };
           loose = a.loose;
@@ -107,16 +111,16 @@ module _ (chart : WiredChart) (is_wired : IsWired chart) (ready : ℕ → Bool) 
         }
         | inr h ↦
             let early = between_loose a.u b.r a.mates.second b.mates.first b.loose h in
-            let late = plain_joined (plain_joined early b.mates.outputs) (plain_into b.u b.mates.second) in
+            let late = joined (joined early b.mates.outputs) (plain_into b.u b.mates.second) in
             record { r = a.r; u = a.u; mates = a.mates; loose = a.loose; to = a.to; from = inr (then_up late b.from) }
       ]
 
   -- each pair of the ready order is plain or over one use of the rule
   pub once : HaveOneLine chart → (x y : ℕ) → ReadyOrder chart ready x y → Plain chart ready x y ⊎ IsOver x y
-  once lines x y (drawn h o) = inl (plain_drawn h o)
-  once lines x y (awaited h i l) = inl (plain_awaited h i l)
-  once lines x y (sent o p) = inl (plain_sent o p)
-  once lines x y (queued {s = s} {t = t} os ot same h p q loose) =
+  once lines x y (drawn h o) = inl (drawn h o)
+  once lines x y (awaited h i l) = inl (awaited h i l)
+  once lines x y (sent o p) = inl (sent o p)
+  once lines x y (queued {s = s} {t = t} rule os ot same h p q loose) =
       let s_below = output_below chart.events s os in
       let t_below = output_below chart.events t ot in
       let x_input : is_input chart.events x ≡ true = rw (← p) (partner_of_output chart.events is_wired.matched s os) in
@@ -147,7 +151,7 @@ module _ (chart : WiredChart) (is_wired : IsWired chart) (ready : ℕ → Bool) 
   once lines x y (joined {y = m} h k) =
       elim (once lines x m h) [
         | inl a ↦ elim (once lines m y k) [
-          | inl b ↦ inl (plain_joined a b)
+          | inl b ↦ inl (joined a b)
           | inr b ↦ inr (record { r = b.r; u = b.u; mates = b.mates; loose = b.loose; to = inr (then_up a b.to); from = b.from })
         ]
         | inr a ↦ elim (once lines m y k) [
@@ -156,26 +160,12 @@ module _ (chart : WiredChart) (is_wired : IsWired chart) (ready : ℕ → Bool) 
         ]
       ]
 
-  -- the ready order relates events of the chart
-  pub ready_below : (x y : ℕ) → ReadyOrder chart ready x y
-      → (x < length chart.events) × (y < length chart.events)
-  ready_below x y (drawn b o) = let p = before_parts chart.events x y b in (p.0, p.1)
-  ready_below x y (awaited b i l) = let p = before_parts chart.events x y b in (p.0, p.1)
-  ready_below x y (sent o p) =
-      let below = output_below chart.events x o in
-      (below, subst (λ (z : ℕ). z < length chart.events) p (is_wired.matched.in_range x below))
-  ready_below x y (joined {y = m} h k) = ((ready_below x m h).0, (ready_below m y k).1)
-  ready_below x y (queued {s = s} {t = t} os ot same h p q l) = (
-    subst (λ (z : ℕ). z < length chart.events) p (is_wired.matched.in_range s (output_below chart.events s os)),
-    subst (λ (z : ℕ). z < length chart.events) q (is_wired.matched.in_range t (output_below chart.events t ot)),
-  )
-
   -- So no event stands before itself: over one use of the rule the outputs would stand in a ring.
   pub ready_acyclic : HaveOneLine chart → IsAcyclic chart.events → (e : ℕ) → ReadyOrder chart ready e e → ⊥
   ready_acyclic lines acyclic e h =
       let no_plain = λ (x : ℕ) (below : x < length chart.events) (k : Plain chart ready x x). acyclic x below (plain_visual x x k) in
       elim (once lines e e h) [
-        | inl plain ↦ no_plain e (ready_below e e h).0 plain
+        | inl plain ↦ no_plain e (precedes_below chart is_wired ready true e e h).0 plain
         | inr over ↦
             let s : ℕ = partner chart.events over.r in
             let s_below = is_wired.matched.in_range over.r (input_below chart.events over.r over.mates.first) in
@@ -183,24 +173,6 @@ module _ (chart : WiredChart) (is_wired : IsWired chart) (ready : ℕ → Bool) 
               | inl same ↦ no_plain s s_below (subst (λ (z : ℕ). Plain chart ready s (partner chart.events z)) same over.mates.outputs)
               | inr k ↦
                   let early = between_loose over.u over.r over.mates.second over.mates.first over.loose k in
-                  no_plain s s_below (plain_joined (plain_joined over.mates.outputs (plain_into over.u over.mates.second)) early)
+                  no_plain s s_below (joined (joined over.mates.outputs (plain_into over.u over.mates.second)) early)
             ]
       ]
-
-  -- with all instances ready it is the visual order
-  pub visual_of_ready : ((i : ℕ) → ready i ≡ true) → (x y : ℕ) → ReadyOrder chart ready x y → Visual chart.events x y
-  visual_of_ready all x y (drawn h o) = seen h
-  visual_of_ready all x y (awaited h i l) = seen h
-  visual_of_ready all x y (sent o p) = passed o p
-  visual_of_ready all x y (joined {y = m} h k) = linked (visual_of_ready all x m h) (visual_of_ready all m y k)
-  visual_of_ready all x y (queued {u = u} os ot same h p q l) = clash (all (line chart.events y)) l
-
-  -- and the visual order is in it
-  pub ready_of_visual : ((i : ℕ) → ready i ≡ true) → (x y : ℕ) → Visual chart.events x y → ReadyOrder chart ready x y
-  ready_of_visual all x y (seen h) =
-      elim (controlled_or_input chart.events y (before_parts chart.events x y h).1) [
-        | inl c ↦ drawn h c
-        | inr i ↦ awaited h i (all (line chart.events y))
-      ]
-  ready_of_visual all x y (passed o p) = sent o p
-  ready_of_visual all x y (linked {y = m} h k) = joined (ready_of_visual all x m h) (ready_of_visual all m y k)

@@ -1,17 +1,17 @@
--- With fewer lines ready, what lines and messages order before an event stays, but before the inputs of
--- the other lines. So the ready order can be told by the visual order.
+-- With fewer lines ready, what lines and messages order before an event stays, but before the
+-- inputs of the other lines. So the ready order can be told by the visual order.
 use Rattle.std.proofs.Common.{◌≡◌, ℕ, Bool, true, false, ◌⊎◌, ◌↔◌, inl, inr, List, arith, refl, sym, ◌∙◌, subst}
 use Rattle.msc_chart.specs.declared.event.ChartEvent.{ChartEvent}
 use Rattle.msc_chart.specs.Charts.{line, partner, is_output, is_input, before, Visual}
-use Rattle.msc_chart.specs.Charts.Visual.{seen, passed, linked}
 use Rattle.msc_chart.specs.Orders.{WiredChart, IsWired}
+use Rattle.msc_chart.specs.Precedence.{all_ready}
+use Rattle.msc_chart.specs.Precedence.Precedes.{drawn, awaited, sent, joined, queued}
 use Rattle.msc_chart.proofs.Drawn.{before_from}
+use Rattle.msc_chart.proofs.Precedence.{all_ready_is_visual}
 use Rattle.msc_ready.specs.Plain.{AreMates, GoesOver, IsPlainUpTo, Plain}
-use Rattle.msc_ready.specs.Plain.Plain.{plain_drawn, plain_awaited, plain_sent, plain_joined}
 use Rattle.msc_ready.specs.Readiness.{ReadyOrder}
-use Rattle.msc_ready.specs.Readiness.ReadyOrder.{drawn, awaited, sent, joined, queued}
-use Rattle.msc_ready.specs.Sticks.{IsStick}
-use Rattle.msc_ready.proofs.Shared.{by_test, clash, before_parts, controlled_or_input, input_below, not_both, partner_of_input}
+use Rattle.msc_ready.specs.BlockedPairs.{IsBlockedPair}
+use Rattle.msc_ready.proofs.Shared.{by_test, clash, before_parts, input_below, not_both, partner_of_input}
 use Rattle.msc_ready.proofs.Runs.Keeping.{HaveOneLine}
 use Rattle.msc_ready.proofs.Runs.Acyclic.{into_loose, once, outputs_plain, plain_into, plain_visual, then_up, up_then}
 
@@ -43,8 +43,8 @@ module _ (chart : WiredChart) (more ready : ℕ → Bool) where
       elim up [
         | inl same ↦ subst (λ (z : ℕ). Near z y) (sym same) near
         | inr h ↦ elim near [
-          | inl k ↦ inl (plain_joined h k)
-          | inr k ↦ inr (k.0, inr (elim k.1 [ inl same ↦ subst (λ (z : ℕ). Plain chart ready x z) same h | inr j ↦ plain_joined h j ]), k.2, k.3, k.4)
+          | inl k ↦ inl (joined h k)
+          | inr k ↦ inr (k.0, inr (then_up h k.1), k.2, k.3, k.4)
         ]
       ]
 
@@ -58,20 +58,21 @@ module _ (chart : WiredChart) (more ready : ℕ → Bool) where
 
   -- so what is before an event with more lines ready is near it with fewer
   near_of_more : (x y : ℕ) → Plain chart more x y → Both x y
-  near_of_more x y (plain_drawn b o) =
-      (inl (plain_drawn b o), λ i l w c. inl (plain_drawn (before_trans chart.events w x y c b) o))
-  near_of_more x y (plain_awaited b i l) =
+  near_of_more x y (drawn b o) =
+      (inl (drawn b o), λ i l w c. inl (drawn (before_trans chart.events w x y c b) o))
+  near_of_more x y (awaited b i l) =
       by_test (ready (line chart.events y))
-      (λ set. (inl (plain_awaited b i set), λ j k w c. inl (plain_awaited (before_trans chart.events w x y c b) i set)))
+      (λ set. (inl (awaited b i set), λ j k w c. inl (awaited (before_trans chart.events w x y c b) i set)))
       (λ loose. (
         inr (x, inl refl, b, i, loose),
         λ j k w c. inr (w, inl refl, before_trans chart.events w x y c b, i, loose),
       ))
-  near_of_more x y (plain_sent o p) = (inl (plain_sent o p), λ i l w c. absurd (not_both chart.events x o i))
-  near_of_more x y (plain_joined {y = m} h k) =
+  near_of_more x y (sent o p) = (inl (sent o p), λ i l w c. absurd (not_both chart.events x o i))
+  near_of_more x y (joined {y = m} h k) =
       let first = near_of_more x m h in
       let second = near_of_more m y k in
       (then_both x m y first.0 second, λ i l w c. then_both w m y (first.1 i l w c) second)
+  near_of_more x y (queued rule os ot same h p q l) = clash rule refl
 
   -- before any other event it stays as it is
   pub plain_of_more : (x y : ℕ) → Plain chart more x y → (is_input chart.events y ≡ true → ready (line chart.events y) ≡ true)
@@ -80,31 +81,18 @@ module _ (chart : WiredChart) (more ready : ℕ → Bool) where
       elim (near_of_more x y h).0 [ inl k ↦ k | inr k ↦ clash (tight k.3) k.4 ]
 
 module _ (chart : WiredChart) (ready : ℕ → Bool) where
-  -- all lines are ready
-  abbrev every : ℕ → Bool
-  every i = true
-
-  -- the visual order is what lines and messages order with all lines ready
-  plain_of_visual : (x y : ℕ) → Visual chart.events x y → Plain chart every x y
-  plain_of_visual x y (seen h) =
-      elim (controlled_or_input chart.events y (before_parts chart.events x y h).1) [
-        | inl c ↦ plain_drawn h c
-        | inr i ↦ plain_awaited h i refl
-      ]
-  plain_of_visual x y (passed o p) = plain_sent o p
-  plain_of_visual x y (linked {y = m} h k) = plain_joined (plain_of_visual x m h) (plain_of_visual m y k)
-
   -- before an event that is no input of another line it is the visual order
   pub plain_told : (x y : ℕ) → (is_input chart.events y ≡ true → ready (line chart.events y) ≡ true)
       → Visual chart.events x y → Plain chart ready x y
-  plain_told x y tight h = plain_of_more chart every ready x y (plain_of_visual x y h) tight
+  plain_told x y tight h = plain_of_more chart all_ready ready x y ((all_ready_is_visual chart false x y).1 h) tight
 
   -- it is part of the ready order
   pub ready_of_plain : (x y : ℕ) → Plain chart ready x y → ReadyOrder chart ready x y
-  ready_of_plain x y (plain_drawn b o) = drawn b o
-  ready_of_plain x y (plain_awaited b i l) = awaited b i l
-  ready_of_plain x y (plain_sent o p) = sent o p
-  ready_of_plain x y (plain_joined {y = m} h k) = joined (ready_of_plain x m h) (ready_of_plain m y k)
+  ready_of_plain x y (drawn b o) = drawn b o
+  ready_of_plain x y (awaited b i l) = awaited b i l
+  ready_of_plain x y (sent o p) = sent o p
+  ready_of_plain x y (joined {y = m} h k) = joined (ready_of_plain x m h) (ready_of_plain m y k)
+  ready_of_plain x y (queued rule os ot same h p q l) = clash rule refl
 
   module _ (is_wired : IsWired chart) where
     -- before an input of another line it is what is before its output, and that itself
@@ -119,7 +107,7 @@ module _ (chart : WiredChart) (ready : ℕ → Bool) where
           ],
           λ h. elim h [
             | inl same ↦ subst (λ (z : ℕ). Plain chart ready z y) (sym same) into
-            | inr k ↦ plain_joined (plain_told x (partner chart.events y) (λ i. absurd (not_both chart.events (partner chart.events y) o i)) k) into
+            | inr k ↦ joined (plain_told x (partner chart.events y) (λ i. absurd (not_both chart.events (partner chart.events y) o i)) k) into
           ],
         )
 
@@ -139,7 +127,8 @@ module _ (chart : WiredChart) (ready : ℕ → Bool) where
       λ h. ready_of_plain s t (plain_told s t (λ i. absurd (not_both chart.events t ot i)) h),
     )
 
-    -- the ready order is what lines and messages give, and what goes over one use of the rule of queues
+    -- the ready order is what lines and messages give, and what goes over one use of the rule of
+    -- queues
     pub ready_told : HaveOneLine chart → (x y : ℕ)
         → ReadyOrder chart ready x y ↔ (Plain chart ready x y ⊎ GoesOver chart ready x y)
     ready_told lines x y = (
@@ -149,8 +138,8 @@ module _ (chart : WiredChart) (ready : ℕ → Bool) where
           | inl same ↦ inr (over.u, subst (λ (z : ℕ). AreMates chart ready z over.u) (sym same) over.mates, over.from)
           | inr k ↦
               let up = into_loose chart is_wired ready x over.r k over.mates.first over.loose in
-              let on = plain_joined (up_then chart is_wired ready up over.mates.outputs) (plain_into chart is_wired ready over.u over.mates.second) in
-              inl (then_up chart is_wired ready on over.from)
+              let on = joined (up_then up over.mates.outputs) (plain_into chart is_wired ready over.u over.mates.second) in
+              inl (then_up on over.from)
         ]
       ],
       λ h. elim h [
@@ -163,7 +152,7 @@ module _ (chart : WiredChart) (ready : ℕ → Bool) where
             let u_back = is_wired.matched.to_and_fro over.0 (input_below chart.events over.0 m.second) in
             let queues = is_wired.one_queue x (input_below chart.events x m.first) ∙ m.one_queue
             ∙ sym (is_wired.one_queue over.0 (input_below chart.events over.0 m.second)) in
-            let link = queued x_out u_out queues (ready_of_plain _ _ m.outputs) x_back u_back m.loose in
+            let link = queued refl x_out u_out queues (ready_of_plain _ _ m.outputs) x_back u_back m.loose in
             elim over.2 [
               | inl same ↦ subst (λ (z : ℕ). ReadyOrder chart ready x z) same link
               | inr k ↦ joined link (ready_of_plain over.0 y k)
@@ -171,18 +160,18 @@ module _ (chart : WiredChart) (ready : ℕ → Bool) where
       ],
     )
 
--- with more lines ready each stick stays a stick
-pub stick_stays : (chart : WiredChart) → IsWired chart → HaveOneLine chart → (ready more : ℕ → Bool)
-    → ((i : ℕ) → ready i ≡ true → more i ≡ true) → (e f : ℕ) → IsStick chart ready e f → IsStick chart more e f
-stick_stays chart is_wired lines ready more wider e f stick =
-    let e_out = partner_of_input chart.events is_wired.matched e stick.inputs.0 in
-    let f_out = partner_of_input chart.events is_wired.matched f stick.inputs.1 in
+-- with more lines ready each blocked pair stays a blocked pair
+pub blocked_pair_stays : (chart : WiredChart) → IsWired chart → HaveOneLine chart → (ready more : ℕ → Bool)
+    → ((i : ℕ) → ready i ≡ true → more i ≡ true) → (e f : ℕ) → IsBlockedPair chart ready e f → IsBlockedPair chart more e f
+blocked_pair_stays chart is_wired lines ready more wider e f blocked_pair =
+    let e_out = partner_of_input chart.events is_wired.matched e blocked_pair.inputs.0 in
+    let f_out = partner_of_input chart.events is_wired.matched f blocked_pair.inputs.1 in
     record {
-      drawn = stick.drawn;
-      inputs = stick.inputs;
-      one_queue = stick.one_queue;
-      line = wider (line chart.events f) stick.line;
+      drawn = blocked_pair.drawn;
+      inputs = blocked_pair.inputs;
+      one_queue = blocked_pair.one_queue;
+      line = wider (line chart.events f) blocked_pair.line;
       free = λ h.
           let seen_so = (outputs_told chart more is_wired lines _ _ e_out f_out).0 h in
-          stick.free ((outputs_told chart ready is_wired lines _ _ e_out f_out).1 seen_so);
+          blocked_pair.free ((outputs_told chart ready is_wired lines _ _ e_out f_out).1 seen_so);
     }

@@ -1,11 +1,12 @@
--- A stick is final: where its outputs were sent in the other order, no continuation is whole.
+-- A blocked pair is final: where its outputs were sent in the other order, no continuation is
+-- whole.
 use Rattle.std.proofs.Common.{◌≡◌, ◌≢◌, ℕ, Bool, true, List, ◌++◌, ap, sym, ◌∙◌, subst}
 use Rattle.msc_chart.specs.Lists.{occurs, until}
 use Rattle.msc_chart.specs.Charts.{line, partner, is_input, before}
 use Rattle.msc_chart.specs.Orders.{WiredChart, IsWired, queue}
 use Rattle.msc_chart.specs.Runs.{IsWhole, Reverses, is_waiting}
 use Rattle.msc_ready.specs.Readiness.{MayComeReady, ReadyRun}
-use Rattle.msc_ready.specs.Sticks.{IsStick}
+use Rattle.msc_ready.specs.BlockedPairs.{IsBlockedPair}
 use Rattle.msc_ready.proofs.Shared.{clash, step_at, until-within, until-append, until-self, occurs-left, first_occurs, before_first_fails, before_differs, before_parts, partner_of_input, taken, until_swapped, until_until}
 
 -- two inputs of one queue that are drawn in an order on a ready line
@@ -16,10 +17,10 @@ pub record IsLined (chart : WiredChart) (ready : ℕ → Bool) (e f : ℕ) : Typ
   pub one_queue : queue chart e ≡ queue chart f
   pub set : ready (line chart.events f) ≡ true
 
--- a stick is two such inputs
-pub lined_of : (chart : WiredChart) (ready : ℕ → Bool) (e f : ℕ) → IsStick chart ready e f → IsLined chart ready e f
-lined_of chart ready e f stick =
-    record { drawn = stick.drawn; first = stick.inputs.0; second = stick.inputs.1; one_queue = stick.one_queue; set = stick.line }
+-- a blocked pair is two such inputs
+pub lined_of : (chart : WiredChart) (ready : ℕ → Bool) (e f : ℕ) → IsBlockedPair chart ready e f → IsLined chart ready e f
+lined_of chart ready e f blocked_pair =
+    record { drawn = blocked_pair.drawn; first = blocked_pair.inputs.0; second = blocked_pair.inputs.1; one_queue = blocked_pair.one_queue; set = blocked_pair.line }
 
 module _ (chart : WiredChart) (is_wired : IsWired chart) (ready : ℕ → Bool) (e f : ℕ)
     (lined : IsLined chart ready e f) where
@@ -31,8 +32,9 @@ module _ (chart : WiredChart) (is_wired : IsWired chart) (ready : ℕ → Bool) 
       ∙ is_wired.matched.to_and_fro f below.1 in
       before_differs chart.events e f lined.drawn back
 
-  -- In a whole ready run e stands before f, and when e came its output was the first of the queue: so
-  -- the output of f, if it had been sent before, would have been taken before. But f comes later.
+  -- In a whole ready run e stands before f, and when e came its output was the first of the queue:
+  -- so the output of f, if it had been sent before, would have been taken before. But f comes
+  -- later.
   pub no_whole_run : (whole : List ℕ) → ReadyRun chart ready whole → IsWhole chart whole
       → Reverses whole (partner chart.events e) (partner chart.events f) → ⊥
   no_whole_run whole run all reverses =

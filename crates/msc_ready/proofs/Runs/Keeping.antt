@@ -5,7 +5,8 @@ use Rattle.msc_chart.specs.Charts.{line, partner, is_input}
 use Rattle.msc_chart.specs.Orders.{WiredChart, IsWired, queue}
 use Rattle.msc_chart.specs.Runs.{MayCome, is_waiting, state}
 use Rattle.msc_ready.specs.Readiness.{MayComeReady, ReadyRun, ReadyOrder}
-use Rattle.msc_ready.specs.Readiness.ReadyOrder.{drawn, awaited, sent, joined, queued}
+use Rattle.msc_chart.specs.Precedence.{Precedes}
+use Rattle.msc_chart.specs.Precedence.Precedes.{drawn, awaited, sent, joined, queued}
 use Rattle.msc_ready.proofs.Shared.{clash, step_at, Steps-map, until-within, until-other, first_occurs, before_first_fails, output_below, partner_of_output, taken}
 
 -- the inputs of a queue are on one line
@@ -21,9 +22,8 @@ run_of_ready chart ready past xs steps =
     Steps-map (MayComeReady chart ready) (MayCome chart) (λ before x h. h.may) past xs steps
 
 module _ (chart : WiredChart) (is_wired : IsWired chart) (ready : ℕ → Bool) where
-  -- What stands in the ready order before an event that may come next has occurred, by the rules of
-  -- the order.
-  pub earlier : (e f : ℕ) → ReadyOrder chart ready e f → (past : List ℕ) → ReadyRun chart ready past
+  -- What precedes an event that may come next has occurred, by the rules of the order.
+  pub earlier : {fifo : Bool} (e f : ℕ) → Precedes chart ready fifo e f → (past : List ℕ) → ReadyRun chart ready past
       → MayComeReady chart ready past f → occurs past e ≡ true
   earlier e f (drawn h o) past run may = may.may.controlled o e h
   earlier e f (awaited h i l) past run may = may.awaited i l e h
@@ -35,7 +35,7 @@ module _ (chart : WiredChart) (is_wired : IsWired chart) (ready : ℕ → Bool) 
   earlier e f (joined {y = m} h k) past run may =
       let at_mid = step_at (MayComeReady chart ready) past m run (earlier m f k past run may) in
       until-within past m e (earlier e m h (until past m) at_mid.0 at_mid.1)
-  earlier e f (queued {s = s} {t = t} os ot same h p q l) past run may =
+  earlier e f (queued {s = s} {t = t} rule os ot same h p q l) past run may =
       let t_below = output_below chart.events t ot in
       let input : is_input chart.events f ≡ true = rw (← q) (partner_of_output chart.events is_wired.matched t ot) in
       let back : partner chart.events f ≡ t = rw (← q) (is_wired.matched.to_and_fro t t_below) in
@@ -47,7 +47,7 @@ module _ (chart : WiredChart) (is_wired : IsWired chart) (ready : ℕ → Bool) 
       rw p at (taken chart (queue chart f) past s os (same ∙ sym queues) out)
 
   -- so it stands before the event in every ready run
-  pub kept : (events : List ℕ) → ReadyRun chart ready events → (e f : ℕ) → ReadyOrder chart ready e f
+  pub kept : {fifo : Bool} (events : List ℕ) → ReadyRun chart ready events → (e f : ℕ) → Precedes chart ready fifo e f
       → occurs events f ≡ true → occurs (until events f) e ≡ true
   kept events run e f h there =
       let at_f = step_at (MayComeReady chart ready) events f run there in

@@ -1,23 +1,22 @@
--- There is one run of a first stick.
-use Rattle.std.proofs.Common.{◌≡◌, ℕ, ◌<◌, ◌⊎◌, Bool, true, false, inl, inr, List, [], ◌∷◌, ◌++◌, length, refl, sym, ap, ◌∙◌, subst, append_assoc, arith}
+-- There is one run of a first blocked pair.
+use Rattle.std.proofs.Common.{◌≡◌, ℕ, ◌<◌, ◌⊎◌, Bool, true, false, inl, inr, List, [], ◌∷◌, ◌++◌, length, refl, sym, ap, ◌∙◌, subst, append_assoc}
 use Rattle.std.specs.Prelude.{IsTrue}
-use Rattle.std.proofs.lemmas.Bool.{cases_eq, cases_lt}
+use Rattle.std.proofs.lemmas.Bool.{cases_eq}
 use Rattle.std.proofs.lemmas.List.{append-nil}
 use Rattle.msc_chart.specs.Charts.{IsAcyclic, is_input, partner}
 use Rattle.msc_chart.specs.Lists.{occurs, until, IsLeast, Steps}
 use Rattle.msc_chart.specs.Orders.{WiredChart, IsWired}
-use Rattle.msc_race.proofs.Runs.ChosenRuns.{least_unique}
+use Rattle.msc_race.proofs.Runs.Witnesses.{least_unique}
 use Rattle.msc_race.proofs.Runs.Deciding.{least_of}
 use Rattle.msc_ready.specs.Readiness.{MayComeReady}
-use Rattle.msc_ready.specs.Running.{AreStickRuns, ComesAsInput, ComesUpTo, HasOutputsUpTo, IsStickNext, IsStickRun, IsTowardNext, IsUpTo}
-use Rattle.msc_ready.specs.Sticks.{IsFirstStick}
+use Rattle.msc_ready.specs.Running.{AreBlockedPairRuns, ComesAsInput, ComesUpTo, HasOutputsUpTo, IsBlockedPairNext, IsBlockedPairRun, IsTowardNext, IsUpTo}
+use Rattle.msc_ready.specs.BlockedPairs.{IsFirstBlockedPair}
 use Rattle.msc_ready.proofs.Shared.{by_test, clash, not_both, occurs-left, step_at, Steps-map}
-use Rattle.msc_ready.proofs.Begun.Toward.{comes_so, comes_toward, stick_run}
-use Rattle.msc_ready.proofs.Runs.Acyclic.{ready_below}
+use Rattle.msc_ready.proofs.Begun.Toward.{comes_so, comes_toward, blocked_pair_run}
 use Rattle.msc_ready.proofs.Runs.Growing.{AreNew, IsDecided, reach_end, some_or_none}
 use Rattle.msc_ready.proofs.Runs.Keeping.{HaveOneLine}
 use Rattle.msc_ready.proofs.Runs.Sticking.{ready_decided}
-use Rattle.msc_ready.proofs.Runs.Tables.{ready_order}
+use Rattle.msc_race.proofs.Runs.Tables.{precedes_order}
 
 -- of a property that can be told the least number that has it, or none has it
 least_or_none : (P : ℕ → Type 0) → IsDecided P → (n : ℕ) → ((x : ℕ) → P x → x < n)
@@ -28,8 +27,8 @@ least_or_none P told n bound =
       | inr none ↦ inr (λ x h. none x (bound x h) h)
     ]
 
--- where at most one number comes next, and it can be told which or that there is none, it can be told of
--- each whether it does
+-- where at most one number comes next, and it can be told which or that there is none, it can be
+-- told of each whether it does
 one_decided : (P : ℕ → Type 0) → ((x y : ℕ) → P x → P y → x ≡ y) → ((x : ℕ) × P x) ⊎ ((x : ℕ) → P x → ⊥) → IsDecided P
 one_decided P unique found x =
     elim found [
@@ -69,7 +68,7 @@ module _ (chart : WiredChart) (ready : ℕ → Bool) (t : ℕ) where
       ]
 
   -- and at most one at all
-  next_unique : (past : List ℕ) (x y : ℕ) → IsStickNext chart ready t past x → IsStickNext chart ready t past y → x ≡ y
+  next_unique : (past : List ℕ) (x y : ℕ) → IsBlockedPairNext chart ready t past x → IsBlockedPairNext chart ready t past y → x ≡ y
   next_unique past x y h k =
       elim h [
         | inl a ↦ elim k [ inl c ↦ toward_unique past x y a c | inr d ↦ clash d.0 a.left ]
@@ -77,15 +76,15 @@ module _ (chart : WiredChart) (ready : ℕ → Bool) (t : ℕ) where
       ]
 
   -- what comes next so may come
-  may_of_next : (past : List ℕ) (x : ℕ) → IsStickNext chart ready t past x → MayComeReady chart ready past x
+  may_of_next : (past : List ℕ) (x : ℕ) → IsBlockedPairNext chart ready t past x → MayComeReady chart ready past x
   may_of_next past x h = elim h [ inl a ↦ (comes_so chart ready t past x a).0 | inr b ↦ b.1.itself ]
 
--- So there is one run at most for the sticks of one second event.
-pub one_stick_run : (chart : WiredChart) (ready : ℕ → Bool) (e g f : ℕ) (xs ys : List ℕ)
-    → IsStickRun chart ready e f xs → IsStickRun chart ready g f ys → xs ≡ ys
-one_stick_run chart ready e g f xs ys h k =
+-- So there is one run at most for the blocked pairs of one second event.
+pub one_blocked_pair_run : (chart : WiredChart) (ready : ℕ → Bool) (e g f : ℕ) (xs ys : List ℕ)
+    → IsBlockedPairRun chart ready e f xs → IsBlockedPairRun chart ready g f ys → xs ≡ ys
+one_blocked_pair_run chart ready e g f xs ys h k =
     let t : ℕ = partner chart.events f in
-    ends_alike (IsStickNext chart ready t) (next_unique chart ready t) [] xs ys h.chosen k.chosen
+    ends_alike (IsBlockedPairNext chart ready t) (next_unique chart ready t) [] xs ys h.witness k.witness
     (λ x next. h.stuck.none x (may_of_next chart ready t xs x next))
     (λ x next. k.stuck.none x (may_of_next chart ready t ys x next))
 
@@ -98,19 +97,13 @@ module _ (chart : WiredChart) (is_wired : IsWired chart) (lines : HaveOneLine ch
   -- and whether it is t or stands before it
   up_to_told : (past : List ℕ) → IsDecided (ComesUpTo chart ready t past)
   up_to_told past x =
-      let order = ready_order chart is_wired ready in
+      let order = precedes_order chart is_wired ready true in
       elim (may_told past x) [
         | inr never ↦ inr (λ h. never h.1)
         | inl may ↦ elim (cases_eq x t) [
           | inl same ↦ inl (inl same, may)
           | inr other ↦ by_test (order.0 x t)
-              (λ yes. elim (cases_lt t (length chart.events)) [
-                | inl below ↦ inl (inr (order.1.holds x t may.may.event below yes), may)
-                | inr far ↦ inr (λ h. elim h.0 [
-                  | inl same ↦ other same
-                  | inr o ↦ let below = (ready_below chart is_wired ready x t o).1 in omega (arith, below, far)
-                ])
-              ])
+              (λ yes. inl (inr (order.1.holds x t yes), may))
               (λ no. inr (λ h. elim h.0 [ inl same ↦ other same | inr o ↦ clash (order.1.complete x t o) no ]))
         ]
       ]
@@ -137,7 +130,7 @@ module _ (chart : WiredChart) (is_wired : IsWired chart) (lines : HaveOneLine ch
       ])
 
   -- what comes next at all, or that there is nothing
-  next_told : (past : List ℕ) → ((x : ℕ) × IsStickNext chart ready t past x) ⊎ ((x : ℕ) → IsStickNext chart ready t past x → ⊥)
+  next_told : (past : List ℕ) → ((x : ℕ) × IsBlockedPairNext chart ready t past x) ⊎ ((x : ℕ) → IsBlockedPairNext chart ready t past x → ⊥)
   next_told past =
       elim (toward_told past) [
         | inl next ↦ inl (next.0, inl next.1)
@@ -154,7 +147,7 @@ module _ (chart : WiredChart) (is_wired : IsWired chart) (lines : HaveOneLine ch
   toward_new past x h = let may = (comes_so chart ready t past x h).0 in (may.may.event, may.may.new)
 
   -- and so are all steps
-  next_new : AreNew (IsStickNext chart ready t) (length chart.events)
+  next_new : AreNew (IsBlockedPairNext chart ready t) (length chart.events)
   next_new past x h = let may = may_of_next chart ready t past x h in (may.may.event, may.may.new)
 
   -- the way to t, as far as it goes
@@ -168,16 +161,16 @@ module _ (chart : WiredChart) (is_wired : IsWired chart) (lines : HaveOneLine ch
 
   -- and on from there to an end
   abbrev WholeWay : List ℕ → Type 0
-  WholeWay front = (rest : List ℕ) × Steps (IsStickNext chart ready t) [] (front ++ rest)
-      × ((x : ℕ) → IsStickNext chart ready t (front ++ rest) x → ⊥)
+  WholeWay front = (rest : List ℕ) × Steps (IsBlockedPairNext chart ready t) [] (front ++ rest)
+      × ((x : ℕ) → IsBlockedPairNext chart ready t (front ++ rest) x → ⊥)
 
   -- the steps on the way to t are steps
-  steps_of_way : (front : List ℕ) → Steps (IsTowardNext chart ready t) [] front → Steps (IsStickNext chart ready t) [] front
-  steps_of_way front steps = Steps-map (IsTowardNext chart ready t) (IsStickNext chart ready t) (λ past x h. inl h) [] front steps
+  steps_of_way : (front : List ℕ) → Steps (IsTowardNext chart ready t) [] front → Steps (IsBlockedPairNext chart ready t) [] front
+  steps_of_way front steps = Steps-map (IsTowardNext chart ready t) (IsBlockedPairNext chart ready t) (λ past x h. inl h) [] front steps
 
   whole_way : (front : List ℕ) → Steps (IsTowardNext chart ready t) [] front → WholeWay front
-  whole_way front steps = reach_end (IsStickNext chart ready t) (length chart.events) next_new
-      (λ past. one_decided (IsStickNext chart ready t past) (next_unique chart ready t past) (next_told past)) front
+  whole_way front steps = reach_end (IsBlockedPairNext chart ready t) (length chart.events) next_new
+      (λ past. one_decided (IsBlockedPairNext chart ready t past) (next_unique chart ready t past) (next_told past)) front
       (steps_of_way front steps)
 
   -- each output on the way to t is t or stands before it
@@ -204,8 +197,8 @@ module _ (chart : WiredChart) (is_wired : IsWired chart) (lines : HaveOneLine ch
         ]
       ]
 
-  -- so the way gets to the second output of a first stick
-  reaches : (e f : ℕ) → IsFirstStick chart ready e f → t ≡ partner chart.events f → (front : List ℕ)
+  -- so the way gets to the second output of a first blocked pair
+  reaches : (e f : ℕ) → IsFirstBlockedPair chart ready e f → t ≡ partner chart.events f → (front : List ℕ)
       → Steps (IsTowardNext chart ready t) [] front → ((x : ℕ) → IsTowardNext chart ready t front x → ⊥) → occurs front t ≡ true
   reaches e f first is front steps none =
       by_test (occurs front t) (λ there. there) (λ new.
@@ -213,24 +206,24 @@ module _ (chart : WiredChart) (is_wired : IsWired chart) (lines : HaveOneLine ch
       let next = comes_toward chart is_wired lines acyclic ready e f t first is front run (way_outputs front steps) new in
       absurd (none_toward front none new next.0 next.1.0 next.1.1))
 
-  -- The whole way is the run of each first stick with this second output.
+  -- The whole way is the run of each first blocked pair with this second output.
   way_shows : (front : List ℕ) (steps : Steps (IsTowardNext chart ready t) [] front) → ((x : ℕ) → IsTowardNext chart ready t front x → ⊥)
-      → (whole : WholeWay front) → (e f : ℕ) → IsFirstStick chart ready e f → t ≡ partner chart.events f
-      → IsStickRun chart ready e f (front ++ whole.0)
+      → (whole : WholeWay front) → (e f : ℕ) → IsFirstBlockedPair chart ready e f → t ≡ partner chart.events f
+      → IsBlockedPairRun chart ready e f (front ++ whole.0)
   way_shows front steps none whole e f first is =
       let list : List ℕ = front ++ whole.0 in
       let there = reaches e f first is front steps none in
-      let run = Steps-map (IsStickNext chart ready t) (MayComeReady chart ready) (may_of_next chart ready t) [] list whole.1 in
-      stick_run chart is_wired ready e f t first is front list (way_outputs front steps) there (whole.0, refl) run
+      let run = Steps-map (IsBlockedPairNext chart ready t) (MayComeReady chart ready) (may_of_next chart ready t) [] list whole.1 in
+      blocked_pair_run chart is_wired ready e f t first is front list (way_outputs front steps) there (whole.0, refl) run
       (λ x may. elim (least_or_none (MayComeReady chart ready list) (may_told list) (length chart.events) (λ y h. h.may.event)) [
         | inl own ↦ whole.2 own.0 (inr (occurs-left front whole.0 t there, own.1))
         | inr nothing ↦ nothing x may
       ]) whole.1
 
--- So each first stick has its run.
-pub stick_runs : (chart : WiredChart) → IsWired chart → HaveOneLine chart → IsAcyclic chart.events → (ready : ℕ → Bool)
-    → (runs : ℕ → List ℕ) × AreStickRuns chart ready runs
-stick_runs chart is_wired lines acyclic ready = (
+-- So each first blocked pair has its run.
+pub blocked_pair_runs : (chart : WiredChart) → IsWired chart → HaveOneLine chart → IsAcyclic chart.events → (ready : ℕ → Bool)
+    → (runs : ℕ → List ℕ) × AreBlockedPairRuns chart ready runs
+blocked_pair_runs chart is_wired lines acyclic ready = (
   λ f. let t : ℕ = partner chart.events f in
       let front = way chart is_wired lines acyclic ready t in
       front.0 ++ (whole_way chart is_wired lines acyclic ready t front.0 front.1).0,

@@ -1,4 +1,4 @@
--- A chart without races has no stick.
+-- A chart without races has no blocked pair.
 use Rattle.std.proofs.Common.{◌≡◌, ℕ, ◌<◌, Bool, true, ◌⊎◌, inl, inr, refl, sym, ap, ◌∙◌, subst, arith}
 use Rattle.std.proofs.lemmas.Bool.{cases_lt}
 use Rattle.msc_chart.specs.Charts.{line, segment, partner, is_output, is_input, before, IsAcyclic}
@@ -10,9 +10,10 @@ use Rattle.msc_race.proofs.Runs.Tables.{enforced_told}
 use Rattle.msc_race.proofs.Runs.WholeRuns.{enforced_acyclic}
 use Rattle.msc_chart.proofs.Drawn.{before_from}
 use Rattle.msc_ready.specs.Readiness.{ReadyOrder}
-use Rattle.msc_ready.specs.Readiness.ReadyOrder.{drawn, awaited, sent, joined, queued}
-use Rattle.msc_ready.specs.Sticks.{HasNoStick}
+use Rattle.msc_chart.specs.Precedence.Precedes.{drawn, awaited, sent, joined, queued}
+use Rattle.msc_ready.specs.BlockedPairs.{HasNoBlockedPair}
 use Rattle.msc_ready.proofs.Shared.{by_test, clash, before_parts, input_below, not_both, output_below, partner_of_input, partner_of_output}
+use Rattle.msc_ready.proofs.Runs.Acyclic.{then_up, up_then}
 use Rattle.msc_ready.proofs.Runs.Keeping.{HaveOneLine}
 
 module _ (chart : WiredChart) (is_wired : IsWired chart) (lines : HaveOneLine chart) (acyclic : IsAcyclic chart.events)
@@ -56,7 +57,7 @@ module _ (chart : WiredChart) (is_wired : IsWired chart) (lines : HaveOneLine ch
   from_level r y z h (awaited b i l) = awaited (drawn_level r y z h b) i l
   from_level r y z h (sent o p) = absurd (not_both chart.events y o h.second)
   from_level r y z h (joined {y = m} a b) = joined (from_level r y m h a) b
-  from_level r y z h (queued {s = s} {t = t} os ot same a p q loose) =
+  from_level r y z h (queued {s = s} {t = t} rule os ot same a p q loose) =
       let y_input : is_input chart.events y ≡ true = h.second in
       let z_input : is_input chart.events z ≡ true = rw (← q) (partner_of_output chart.events is_wired.matched t ot) in
       let y_queue : queue chart y ≡ queue chart s = rw (← p) (is_wired.one_queue s (output_below chart.events s os)) in
@@ -64,21 +65,16 @@ module _ (chart : WiredChart) (is_wired : IsWired chart) (lines : HaveOneLine ch
       let one : line chart.events y ≡ line chart.events z = lines y z y_input z_input (y_queue ∙ same ∙ sym z_queue) in
       clash (subst (λ (i : ℕ). ready i ≡ true) one h.set) loose
 
-  -- from x, up to r, before z
-  up_to : (x r z : ℕ) → (x ≡ r) ⊎ ReadyOrder chart ready x r → ReadyOrder chart ready r z → ReadyOrder chart ready x z
-  up_to x r z up h =
-      elim up [ inl same ↦ subst (λ (w : ℕ). ReadyOrder chart ready w z) (sym same) h | inr k ↦ joined k h ]
-
   -- two such steps are one
   both_nearly : (x m y : ℕ) → Nearly x m → Nearly m y → Nearly x y
   both_nearly x m y h k =
       elim h [
         | inl a ↦ elim k [
           | inl b ↦ inl (joined a b)
-          | inr b ↦ inr (b.0, inr (elim b.1 [ inl same ↦ subst (λ (w : ℕ). ReadyOrder chart ready x w) same a | inr c ↦ joined a c ]), b.2)
+          | inr b ↦ inr (b.0, inr (then_up a b.1), b.2)
         ]
         | inr a ↦ elim k [
-          | inl b ↦ inl (up_to x a.0 y a.1 (from_level a.0 m y a.2 b))
+          | inl b ↦ inl (up_then a.1 (from_level a.0 m y a.2 b))
           | inr b ↦ elim b.1 [
             | inl same ↦
                 let level : AreLevel a.0 y = record {
@@ -89,13 +85,13 @@ module _ (chart : WiredChart) (is_wired : IsWired chart) (lines : HaveOneLine ch
                   set = b.2.set;
                 } in
                 inr (a.0, a.1, level)
-            | inr c ↦ inr (b.0, inr (up_to x a.0 b.0 a.1 (from_level a.0 m b.0 a.2 c)), b.2)
+            | inr c ↦ inr (b.0, inr (up_then a.1 (from_level a.0 m b.0 a.2 c)), b.2)
           ]
         ]
       ]
 
-  -- of two inputs of a ready line that are enforced in an order the first is drawn before the second,
-  -- or they are level: else they would be enforced the other way round too
+  -- of two inputs of a ready line that are enforced in an order the first is drawn before the
+  -- second, or they are level: else they would be enforced the other way round too
   inputs_nearly : (x y : ℕ) → is_input chart.events x ≡ true → is_input chart.events y ≡ true
       → line chart.events x ≡ line chart.events y → ready (line chart.events y) ≡ true → Enforced chart x y → Nearly x y
   inputs_nearly x y ix iy one set h =
@@ -129,23 +125,23 @@ module _ (chart : WiredChart) (is_wired : IsWired chart) (lines : HaveOneLine ch
       let y_queue : queue chart y ≡ queue chart t = rw (← q) (is_wired.one_queue t (output_below chart.events t ot)) in
       by_test (ready (line chart.events y))
       (λ set. inputs_nearly x y ix iy (lines x y ix iy (x_queue ∙ same ∙ sym y_queue)) set (e_queued os ot same h p q))
-      (λ loose. inl (queued os ot same outs p q loose))
+      (λ loose. inl (queued refl os ot same outs p q loose))
 
-  -- so no stick has its outputs free
-  pub pass_has_none : HasNoStick chart ready
-  pass_has_none e f stick =
-      let e_out = partner_of_input chart.events is_wired.matched e stick.inputs.0 in
-      let f_out = partner_of_input chart.events is_wired.matched f stick.inputs.1 in
-      let e_in : partner chart.events (partner chart.events e) ≡ e = is_wired.matched.to_and_fro e (input_below chart.events e stick.inputs.0) in
+  -- so no blocked pair has its outputs free
+  pub pass_has_none : HasNoBlockedPair chart ready
+  pass_has_none e f blocked_pair =
+      let e_out = partner_of_input chart.events is_wired.matched e blocked_pair.inputs.0 in
+      let f_out = partner_of_input chart.events is_wired.matched f blocked_pair.inputs.1 in
+      let e_in : partner chart.events (partner chart.events e) ≡ e = is_wired.matched.to_and_fro e (input_below chart.events e blocked_pair.inputs.0) in
       let outs : Enforced chart (partner chart.events e) (partner chart.events f) =
-      elim (into_input chart is_wired e f (drawn_enforced e f stick.drawn) stick.inputs.1) [
-        | inl same ↦ absurd (not_both chart.events e (subst (λ (z : ℕ). is_output chart.events z ≡ true) (sym same) f_out) stick.inputs.0)
+      elim (into_input chart is_wired e f (drawn_enforced e f blocked_pair.drawn) blocked_pair.inputs.1) [
+        | inl same ↦ absurd (not_both chart.events e (subst (λ (z : ℕ). is_output chart.events z ≡ true) (sym same) f_out) blocked_pair.inputs.0)
         | inr other ↦ elim other [
           | inl late ↦ e_joined (e_sent e_out e_in) late
           | inr mate ↦ mate.2
         ]
       ] in
       elim (nearly (partner chart.events e) (partner chart.events f) outs) [
-        | inl a ↦ stick.free a
+        | inl a ↦ blocked_pair.free a
         | inr a ↦ not_both chart.events (partner chart.events f) f_out a.2.second
       ]

@@ -1,5 +1,5 @@
--- Where there is no stick, what does not stand after an event of a line that is not ready, some whole
--- ready run has without the event before it.
+-- Where there is no blocked pair, what does not stand after an event of a line that is not ready,
+-- some whole ready run has without the event before it.
 use Rattle.std.proofs.Common.{◌≡◌, ℕ, ◌<◌, Bool, true, false, ◌&&◌, ◌||◌, not, ◌⊎◌, inl, inr, List, [], ◌++◌, length, eqb, refl, sym, ap, ◌∙◌, subst, arith}
 use Rattle.std.proofs.lemmas.Bool.{eqb-true, eq-eqb, cases_lt, and_parts, and_from, or_cases, or_left, or_right, not-true, not_from_false, false_from_ne_true}
 use Rattle.msc_chart.specs.Lists.{occurs, until, IsFirst, Steps}
@@ -7,40 +7,29 @@ use Rattle.msc_chart.specs.Charts.{IsAcyclic, line, segment, partner, is_output,
 use Rattle.msc_chart.specs.Orders.{WiredChart, IsWired, queue}
 use Rattle.msc_chart.specs.Runs.{is_waiting, state, IsWhole, Reverses}
 use Rattle.msc_ready.specs.Readiness.{MayComeReady, ReadyRun, ReadyOrder}
-use Rattle.msc_ready.specs.Readiness.ReadyOrder.{drawn, awaited, sent, joined, queued}
-use Rattle.msc_ready.specs.Sticks.{HasNoStick, IsRaceLeft}
+use Rattle.msc_chart.specs.Precedence.Precedes.{drawn, awaited, sent, joined, queued}
+use Rattle.msc_ready.specs.BlockedPairs.{HasNoBlockedPair, IsRaceLeft}
 use Rattle.msc_chart.proofs.Drawn.{before_from}
 use Rattle.msc_ready.proofs.Runs.Keeping.{HaveOneLine, kept}
 use Rattle.msc_ready.proofs.Runs.Progress.{CanCome, progress}
 use Rattle.msc_ready.proofs.Runs.Growing.{reach_all}
-use Rattle.msc_ready.proofs.Runs.Acyclic.{ready_acyclic, ready_below}
-use Rattle.msc_ready.proofs.Runs.Tables.{is_needed, needed_drawn, needed_awaited, needed_sent, needed_order, ready_order}
-use Rattle.msc_ready.proofs.Runs.Sticking.{stick_of, goes_on}
+use Rattle.msc_ready.proofs.Runs.Acyclic.{join_up, ready_acyclic, then_up, up_then}
+use Rattle.msc_race.proofs.Runs.EnforcedPairs.{precedes_below}
+use Rattle.msc_race.proofs.Runs.Needed.{is_needed, needed_drawn, needed_awaited, needed_sent}
+use Rattle.msc_race.proofs.Runs.Tables.{needed_order, precedes_order}
+use Rattle.msc_ready.proofs.Runs.Sticking.{blocked_pair_of, goes_on}
 use Rattle.msc_ready.proofs.Shared.{by_test, clash, step_at, Steps-map, until-within, until-append, occurs-left, before_differs, before_parts, before_first_fails, first_occurs, controlled_no_input, controlled_or_input, input_below, output_below, output_controlled, partner_of_input, partner_of_output, waiting_from}
 
 module _ (chart : WiredChart) (is_wired : IsWired chart) (lines : HaveOneLine chart) (acyclic : IsAcyclic chart.events)
-    (ready : ℕ → Bool) (none : HasNoStick chart ready) (e : ℕ) (e_below : e < length chart.events)
+    (ready : ℕ → Bool) (none : HasNoBlockedPair chart ready) (e : ℕ)
     (e_loose : ready (line chart.events e) ≡ false) where
   -- a is b, or stands before it
   abbrev UpTo : ℕ → ℕ → Type 0
   UpTo a b = (a ≡ b) ⊎ ReadyOrder chart ready a b
 
-  -- two steps, of which either may be none
-  up_then : {x y z : ℕ} → UpTo x y → ReadyOrder chart ready y z → ReadyOrder chart ready x z
-  up_then {x} {y} {z} up h =
-      elim up [ inl same ↦ subst (λ (w : ℕ). ReadyOrder chart ready w z) (sym same) h | inr k ↦ joined k h ]
-
-  then_up : {x y z : ℕ} → ReadyOrder chart ready x y → UpTo y z → ReadyOrder chart ready x z
-  then_up {x} {y} {z} h up =
-      elim up [ inl same ↦ subst (λ (w : ℕ). ReadyOrder chart ready x w) same h | inr k ↦ joined h k ]
-
-  join_up : {x y z : ℕ} → UpTo x y → UpTo y z → UpTo x z
-  join_up {x} {y} {z} h k =
-      elim h [ inl same ↦ subst (λ (w : ℕ). UpTo w z) (sym same) k | inr p ↦ inr (then_up p k) ]
-
   -- by the table
   order : ℕ → ℕ → Bool
-  order = (ready_order chart is_wired ready).0
+  order = (precedes_order chart is_wired ready true).0
 
   -- another event than e, that does not stand after it
   free : ℕ → Bool
@@ -53,29 +42,28 @@ module _ (chart : WiredChart) (is_wired : IsWired chart) (lines : HaveOneLine ch
       let both = and_parts _ _ h in
       elim up [
         | inl same ↦ clash (eq-eqb e x same) (not-true _ both.0)
-        | inr k ↦ clash ((ready_order chart is_wired ready).1.complete e x k) (not-true _ both.1)
+        | inr k ↦ clash ((precedes_order chart is_wired ready true).1.complete e x k) (not-true _ both.1)
       ]
 
   -- and of any other event
-  not_free : (x : ℕ) → x < length chart.events → free x ≡ false → UpTo e x
+  not_free : (x : ℕ) → free x ≡ false → UpTo e x
   unfolding free order
-  not_free x below h =
+  not_free x h =
       by_test (eqb e x) (λ same. inl (eqb-true e x same))
       (λ other. by_test (order e x)
-      (λ k. inr ((ready_order chart is_wired ready).1.holds e x e_below below k))
+      (λ k. inr ((precedes_order chart is_wired ready true).1.holds e x k))
       (λ out. clash (and_from _ _ (not_from_false _ other) (not_from_false _ out)) h))
 
   -- what is neither e nor after it is free
-  free_from : (x : ℕ) → x < length chart.events → (UpTo e x → ⊥) → free x ≡ true
-  free_from x below never = by_test (free x) (λ h. h) (λ out. absurd (never (not_free x below out)))
+  free_from : (x : ℕ) → (UpTo e x → ⊥) → free x ≡ true
+  free_from x never = by_test (free x) (λ h. h) (λ out. absurd (never (not_free x out)))
 
   -- what stands before a free event is free
   free_down : (x y : ℕ) → ReadyOrder chart ready x y → free y ≡ true → free x ≡ true
-  free_down x y h member =
-      free_from x (ready_below chart is_wired ready x y h).0 (λ up. free_parts y member (inr (up_then up h)))
+  free_down x y h member = free_from x (λ up. free_parts y member (inr (up_then up h)))
 
-  -- what stands before an input of a ready line is its output, or before that, or is drawn before the
-  -- input, or before such an event
+  -- what stands before an input of a ready line is its output, or before that, or is drawn before
+  -- the input, or before such an event
   into_ready : (x r : ℕ) → ReadyOrder chart ready x r → is_input chart.events r ≡ true → ready (line chart.events r) ≡ true
       → UpTo x (partner chart.events r) ⊎ ((y : ℕ) × UpTo x y × (before chart.events y r ≡ true))
   into_ready x r (drawn h o) i set = absurd (controlled_no_input chart.events r o i)
@@ -87,7 +75,7 @@ module _ (chart : WiredChart) (is_wired : IsWired chart) (lines : HaveOneLine ch
         | inl up ↦ inl (inr (then_up h up))
         | inr found ↦ inr (found.0, inr (then_up h found.1), found.2)
       ]
-  into_ready x r (queued os ot same h p q l) i set = clash set l
+  into_ready x r (queued rule os ot same h p q l) i set = clash set l
 
   -- What stands before an input of a line that is not ready, and is neither its output nor before
   -- that, is an input of its queue whose output stands before that one.
@@ -104,7 +92,7 @@ module _ (chart : WiredChart) (is_wired : IsWired chart) (lines : HaveOneLine ch
       let same : line chart.events r ≡ line chart.events m = lines r m i late.0 (sym late.1) in
       let first = into_loose x m h late.0 (subst (λ (z : ℕ). ready z ≡ false) same loose) (λ up. never (join_up up (inr late.2))) in
       (first.0, first.1 ∙ late.1, joined first.2 late.2)
-  into_loose x r (queued {s = s} {t = t} os ot same h p q l) i loose never =
+  into_loose x r (queued {s = s} {t = t} rule os ot same h p q l) i loose never =
       let s_below = output_below chart.events s os in
       let t_below = output_below chart.events t ot in
       let x_back : partner chart.events x ≡ s = rw (← p) (is_wired.matched.to_and_fro s s_below) in
@@ -128,20 +116,18 @@ module _ (chart : WiredChart) (is_wired : IsWired chart) (lines : HaveOneLine ch
     pub queues : queue chart r ≡ queue chart u
     pub free : free u ≡ true
 
-  -- the table says so of outputs
-  ordered : (s t : ℕ) → is_output chart.events s ≡ true → is_output chart.events t ≡ true → order s t ≡ true
-      → ReadyOrder chart ready s t
+  -- what the table has stands in the order
+  ordered : (s t : ℕ) → order s t ≡ true → ReadyOrder chart ready s t
   unfolding order
-  ordered s t os ot h =
-      (ready_order chart is_wired ready).1.holds s t (output_below chart.events s os) (output_below chart.events t ot) h
+  ordered s t h = (precedes_order chart is_wired ready true).1.holds s t h
 
   -- and of all that stands in the order
   in_table : (s t : ℕ) → ReadyOrder chart ready s t → order s t ≡ true
   unfolding order
-  in_table s t h = (ready_order chart is_wired ready).1.complete s t h
+  in_table s t h = (precedes_order chart is_wired ready true).1.complete s t h
 
-  -- where the line of such an input is ready, the output of each free input of its queue stands before
-  -- its own
+  -- where the line of such an input is ready, the output of each free input of its queue stands
+  -- before its own
   held_ready : (r u : ℕ) → IsHeld r → IsFreeMate r u → ready (line chart.events r) ≡ true
       → ReadyOrder chart ready (partner chart.events u) (partner chart.events r)
   held_ready r u held mate set =
@@ -165,7 +151,7 @@ module _ (chart : WiredChart) (is_wired : IsWired chart) (lines : HaveOneLine ch
               | inr more ↦ before_from chart.events u r u_below above.1 (sym one) (omega arith)
             ] in
             by_test (order (partner chart.events u) (partner chart.events r))
-            (λ h. ordered _ _ (partner_of_input chart.events is_wired.matched u mate.input) (partner_of_input chart.events is_wired.matched r held.input) h)
+            (λ h. ordered _ _ h)
             (λ out. absurd (none u r (record {
               drawn = drawn_so;
               inputs = (mate.input, held.input);
@@ -200,12 +186,12 @@ module _ (chart : WiredChart) (is_wired : IsWired chart) (lines : HaveOneLine ch
         | inr h ↦
             let outs : queue chart (partner chart.events r) ≡ queue chart (partner chart.events u) =
             is_wired.one_queue r r_below ∙ mate.queues ∙ sym (is_wired.one_queue u u_below) in
-            inr (up_then held.out (queued (partner_of_input chart.events is_wired.matched r held.input) (partner_of_input chart.events is_wired.matched u mate.input)
+            inr (up_then held.out (queued refl (partner_of_input chart.events is_wired.matched r held.input) (partner_of_input chart.events is_wired.matched u mate.input)
             outs h r_back u_back (subst (λ (z : ℕ). ready z ≡ false) one loose)))
       ])
 
-  -- x is an output whose input is free, of the queue of y, a free output whose input is not free and
-  -- of a line that is not ready
+  -- x is an output whose input is free, of the queue of y, a free output whose input is not free
+  -- and of a line that is not ready
   waits : ℕ → ℕ → Bool
   waits x y =
       (is_output chart.events x && is_output chart.events y)
@@ -238,7 +224,7 @@ module _ (chart : WiredChart) (is_wired : IsWired chart) (lines : HaveOneLine ch
         second = outs.1;
         held = record {
           input = partner_of_output chart.events is_wired.matched t outs.1;
-          out = not_free (partner chart.events t) (is_wired.matched.in_range t t_below) (not-true _ last.1);
+          out = not_free (partner chart.events t) (not-true _ last.1);
           free = rw (is_wired.matched.to_and_fro t t_below) last.0;
         };
         mate = record {
@@ -306,7 +292,7 @@ module _ (chart : WiredChart) (is_wired : IsWired chart) (lines : HaveOneLine ch
   unfolding needs Before
   can_come_free = record {
     base = λ x y h. elim (or_cases _ _ h) [
-      | inl one ↦ inl (needed_order chart ready x y one)
+      | inl one ↦ inl (needed_order chart ready true x y one)
       | inr two ↦ inr (record { s = x; t = y; goes = first_of_waits x y two; to = inl refl; from = inl refl })
     ];
     trans = before_trans;
@@ -315,11 +301,11 @@ module _ (chart : WiredChart) (is_wired : IsWired chart) (lines : HaveOneLine ch
       | inr a ↦ apart a.s a.t a.s a.t a.goes a.goes (join_up a.from a.to)
     ];
     known = λ x y h. elim (or_cases _ _ h) [
-      | inl one ↦ (ready_below chart is_wired ready x y (needed_order chart ready x y one)).0
+      | inl one ↦ (precedes_below chart is_wired ready true x y (needed_order chart ready true x y one)).0
       | inr two ↦ output_below chart.events x (first_of_waits x y two).first
     ];
     closed = λ x y h member. elim (or_cases _ _ h) [
-      | inl one ↦ free_down x y (needed_order chart ready x y one) member
+      | inl one ↦ free_down x y (needed_order chart ready true x y one) member
       | inr two ↦ let goes = first_of_waits x y two in free_down x _ (sent goes.first refl) goes.mate.free
     ];
     drawn = λ x y b o. or_left _ _ (needed_drawn chart ready x y b o);
@@ -347,7 +333,7 @@ module _ (chart : WiredChart) (is_wired : IsWired chart) (lines : HaveOneLine ch
       let r_below = input_below chart.events r mate.input in
       let there = (first_occurs (is_waiting chart (queue chart r) past) past s first).0 in
       let at_s = step_at MayFree past s steps there in
-      let held : IsHeld x = record { input = ix; out = not_free x (input_below chart.events x ix) out; free = at_s.1.free } in
+      let held : IsHeld x = record { input = ix; out = not_free x out; free = at_s.1.free } in
       let early : occurs (until past s) (partner chart.events r) ≡ true =
       by_test (ready (line chart.events x))
       (λ set. kept chart is_wired ready past (free_run past steps) (partner chart.events r) s (held_ready x r held mate set) there)
@@ -364,7 +350,7 @@ module _ (chart : WiredChart) (is_wired : IsWired chart) (lines : HaveOneLine ch
   free_on past steps g below member new =
       let run = free_run past steps in
       let next = progress chart is_wired lines ready free needs Before can_come_free past
-      (λ x r ix ir same drawn_so set in_set early. none x r (stick_of chart is_wired lines acyclic ready past run x r ix ir same drawn_so set early))
+      (λ x r ix ir same drawn_so set in_set early. none x r (blocked_pair_of chart is_wired lines acyclic ready past run x r ix ir same drawn_so set early))
       g below member new in (
         next.0,
         record {
@@ -385,7 +371,7 @@ module _ (chart : WiredChart) (is_wired : IsWired chart) (lines : HaveOneLine ch
   reversed f below never =
       let all = reach_all MayFree (length chart.events) (λ past x h. (h.may.may.event, h.may.may.new)) free free_on [] tt in
       let run : List ℕ = all.0 in
-      let there = all.2 f below (free_from f below never) in
+      let there = all.2 f below (free_from f never) in
       let e_out : occurs run e ≡ false = false_from_ne_true _ (λ h. free_parts e (step_at MayFree run e all.1 h).1.free (inl refl)) in
       let late : occurs (until run f) e ≡ false = false_from_ne_true _ (λ early. clash (until-within run f e early) e_out) in
       let on = goes_on chart is_wired lines acyclic ready none run (free_run run all.1) in (
@@ -396,7 +382,7 @@ module _ (chart : WiredChart) (is_wired : IsWired chart) (lines : HaveOneLine ch
       )
 
 module _ (chart : WiredChart) (is_wired : IsWired chart) (lines : HaveOneLine chart) (acyclic : IsAcyclic chart.events)
-    (ready : ℕ → Bool) (none : HasNoStick chart ready) (e f : ℕ) where
+    (ready : ℕ → Bool) (none : HasNoBlockedPair chart ready) (e f : ℕ) where
   -- some whole ready run reverses the pair
   abbrev pub SomeReverses : Type 0
   SomeReverses = (events : List ℕ) × ReadyRun chart ready events × IsWhole chart events × Reverses events e f
@@ -405,7 +391,7 @@ module _ (chart : WiredChart) (is_wired : IsWired chart) (lines : HaveOneLine ch
   pub race_reversed : IsRaceLeft chart ready e f → SomeReverses
   race_reversed race =
       let p = before_parts chart.events e f race.0 in
-      reversed chart is_wired lines acyclic ready none e p.0 race.1 f p.1
+      reversed chart is_wired lines acyclic ready none e race.1 f p.1
       (λ up. elim up [ inl same ↦ before_differs chart.events e f race.0 same | inr h ↦ race.2 h ])
 
   -- and with no other drawn pair

@@ -1,14 +1,14 @@
 -- Sticks tell whether a system can stick.
-use Rattle.std.proofs.Common.{◌≡◌, ℕ, ◌<◌, Bool, true, false, ◌&&◌, not, ◌⊎◌, inl, inr, List, [], ◌∷◌, ◌++◌, length, eqb, ltb, refl, sym, ap, ◌∙◌, subst}
-use Rattle.std.proofs.lemmas.Bool.{eqb-true, eq-eqb, and_parts, and_from, ltb-true, lt-ltb, not-true, not_from_false, false_from_ne_true}
+use Rattle.std.proofs.Common.{◌≡◌, ℕ, ◌<◌, Bool, true, false, ◌&&◌, not, ◌⊎◌, inl, inr, List, [], ◌∷◌, ◌++◌, length, eqb, refl, sym, ap, ◌∙◌, subst}
+use Rattle.std.proofs.lemmas.Bool.{eqb-true, eq-eqb, and_parts, and_from, not-true, not_from_false, false_from_ne_true}
 use Rattle.std.proofs.Math.Nat.{le_refl}
 use Rattle.msc_chart.specs.Lists.{occurs, until, Steps}
 use Rattle.msc_chart.specs.Charts.{IsAcyclic, line, partner, is_output, is_input, before}
 use Rattle.msc_chart.specs.Orders.{WiredChart, IsWired, queue}
 use Rattle.msc_chart.specs.Runs.{Reverses}
-use Rattle.msc_ready.specs.Readiness.{MayComeReady, ReadyRun, ReadyOrder, IsReadyOrder, HasStuck}
-use Rattle.msc_ready.specs.Readiness.ReadyOrder.{drawn, joined}
-use Rattle.msc_ready.specs.Sticks.{IsStick, IsFirstStick, HasNoStick}
+use Rattle.msc_ready.specs.Readiness.{MayComeReady, ReadyRun, ReadyOrder, HasStuck}
+use Rattle.msc_chart.specs.Precedence.Precedes.{drawn, joined}
+use Rattle.msc_ready.specs.BlockedPairs.{IsBlockedPair, IsFirstBlockedPair, HasNoBlockedPair}
 use Rattle.msc_ready.specs.Laws.{GoesOnReady}
 use Rattle.msc_ready.proofs.Shared.{by_test, clash, count_below, find_below, descend, step_at, until-within, until-append, occurs-left, occurs-push, occurs_other, Steps-map, Steps-push, before_parts, input_below, output_below, not_both, partner_of_input, any_below, some_of_any, any_from, is_left, left_from, left_parts}
 use Rattle.msc_race.proofs.Runs.Deciding.{may_decided}
@@ -16,8 +16,10 @@ use Rattle.msc_ready.proofs.Runs.Keeping.{HaveOneLine, not_behind}
 use Rattle.msc_ready.proofs.Runs.Final.{lined_of, outputs_differ, final}
 use Rattle.msc_ready.proofs.Runs.Progress.{CanCome, progress}
 use Rattle.msc_ready.proofs.Runs.Growing.{everything, AreNew, IsDecided, reach_all, reach_end}
-use Rattle.msc_ready.proofs.Runs.Acyclic.{ready_acyclic, ready_below}
-use Rattle.msc_ready.proofs.Runs.Tables.{is_needed, needed_drawn, needed_awaited, needed_sent, needed_order, ready_order}
+use Rattle.msc_ready.proofs.Runs.Acyclic.{ready_acyclic}
+use Rattle.msc_race.proofs.Runs.EnforcedPairs.{precedes_below}
+use Rattle.msc_race.proofs.Runs.Needed.{is_needed, needed_drawn, needed_awaited, needed_sent}
+use Rattle.msc_race.proofs.Runs.Tables.{IsOrderTest, needed_order, precedes_order}
 
 module _ (chart : WiredChart) (is_wired : IsWired chart) (lines : HaveOneLine chart) (acyclic : IsAcyclic chart.events)
     (ready : ℕ → Bool) where
@@ -26,24 +28,24 @@ module _ (chart : WiredChart) (is_wired : IsWired chart) (lines : HaveOneLine ch
       → ((x y : ℕ) → ReadyOrder chart ready x y → inside y ≡ true → inside x ≡ true)
       → CanCome chart ready inside (is_needed chart ready) (ReadyOrder chart ready)
   can_come inside closed = record {
-    base = λ x y h. needed_order chart ready x y h;
+    base = λ x y h. needed_order chart ready true x y h;
     trans = λ x y z h k. joined h k;
     irreflexive = λ x below h. ready_acyclic chart is_wired ready lines acyclic x h;
-    known = λ x y h. (ready_below chart is_wired ready x y (needed_order chart ready x y h)).0;
-    closed = λ x y h. closed x y (needed_order chart ready x y h);
+    known = λ x y h. (precedes_below chart is_wired ready true x y (needed_order chart ready true x y h)).0;
+    closed = λ x y h. closed x y (needed_order chart ready true x y h);
     drawn = needed_drawn chart ready;
     awaited = needed_awaited chart ready;
     sent = λ x i. needed_sent chart ready (partner chart.events x) x (partner_of_input chart.events is_wired.matched x i)
         (is_wired.matched.to_and_fro x (input_below chart.events x i));
   }
 
-  -- an input whose output stands behind that of one of its queue that is drawn below makes a stick
-  -- with that
-  pub stick_of : (past : List ℕ) → ReadyRun chart ready past → (x r : ℕ) → is_input chart.events x ≡ true
+  -- an input whose output stands behind that of one of its queue that is drawn below makes a
+  -- blocked pair with that
+  pub blocked_pair_of : (past : List ℕ) → ReadyRun chart ready past → (x r : ℕ) → is_input chart.events x ≡ true
       → is_input chart.events r ≡ true → queue chart x ≡ queue chart r → before chart.events x r ≡ true
       → ready (line chart.events r) ≡ true
-      → occurs (until past (partner chart.events x)) (partner chart.events r) ≡ true → IsStick chart ready x r
-  stick_of past run x r ix ir same drawn_so set early = record {
+      → occurs (until past (partner chart.events x)) (partner chart.events r) ≡ true → IsBlockedPair chart ready x r
+  blocked_pair_of past run x r ix ir same drawn_so set early = record {
     drawn = drawn_so;
     inputs = (ix, ir);
     one_queue = same;
@@ -55,8 +57,8 @@ module _ (chart : WiredChart) (is_wired : IsWired chart) (lines : HaveOneLine ch
   pub ready_new : AreNew (MayComeReady chart ready) (length chart.events)
   ready_new past x may = (may.may.event, may.may.new)
 
-  -- where there is no stick, every ready run goes on to a whole one
-  pub goes_on : HasNoStick chart ready → (events : List ℕ) → ReadyRun chart ready events
+  -- where there is no blocked pair, every ready run goes on to a whole one
+  pub goes_on : HasNoBlockedPair chart ready → (events : List ℕ) → ReadyRun chart ready events
       → GoesOnReady chart ready events
   goes_on none events run =
       let on : (past : List ℕ) → ReadyRun chart ready past → (g : ℕ) → g < length chart.events
@@ -64,7 +66,7 @@ module _ (chart : WiredChart) (is_wired : IsWired chart) (lines : HaveOneLine ch
       λ past steps g below member new.
       let next = progress chart is_wired lines ready everything (is_needed chart ready) (ReadyOrder chart ready)
       (can_come everything (λ x y h k. refl)) past
-      (λ x r ix ir same drawn_so set in_all early. none x r (stick_of past steps x r ix ir same drawn_so set early))
+      (λ x r ix ir same drawn_so set in_all early. none x r (blocked_pair_of past steps x r ix ir same drawn_so set early))
       g below member new in
       (next.0, next.1.may) in
       let all = reach_all (MayComeReady chart ready) (length chart.events) ready_new everything on events run in
@@ -97,23 +99,22 @@ module _ (chart : WiredChart) (is_wired : IsWired chart) (lines : HaveOneLine ch
             (λ neither. inl (record { may = may; awaited = λ i l. clash (and_from _ _ i l) neither }))
       ]
 
-  module _ (e f : ℕ) (first : IsFirstStick chart ready e f) where
+  module _ (e f : ℕ) (first : IsFirstBlockedPair chart ready e f) where
     -- the second output
     abbrev second : ℕ
     second = partner chart.events f
 
     -- the second output is an output of the chart
     second_out : is_output chart.events second ≡ true
-    second_out = partner_of_input chart.events is_wired.matched f first.stick.inputs.1
+    second_out = partner_of_input chart.events is_wired.matched f first.blocked_pair.inputs.1
 
     -- an event that stands before the second output, by the table
     abbrev ahead : ℕ → Bool
-    ahead x = (ready_order chart is_wired ready).0 x second
+    ahead x = (precedes_order chart is_wired ready true).0 x second
 
     -- an event that is ahead stands before the second output
-    ahead_order : (x : ℕ) → x < length chart.events → ahead x ≡ true → ReadyOrder chart ready x second
-    ahead_order x below h =
-        (ready_order chart is_wired ready).1.holds x second below (output_below chart.events second second_out) h
+    ahead_order : (x : ℕ) → ahead x ≡ true → ReadyOrder chart ready x second
+    ahead_order x h = (precedes_order chart is_wired ready true).1.holds x second h
 
     -- x may come next, and is ahead or an input
     abbrev MayToward : List ℕ → ℕ → Type 0
@@ -128,7 +129,7 @@ module _ (chart : WiredChart) (is_wired : IsWired chart) (lines : HaveOneLine ch
         → occurs past s ≡ true → ReadyOrder chart ready s second
     toward_outputs past steps s o there =
         elim (step_at MayToward past s steps there).1.1 [
-          | inl h ↦ ahead_order s (output_below chart.events s o) h
+          | inl h ↦ ahead_order s h
           | inr i ↦ absurd (not_both chart.events s o i)
         ]
 
@@ -137,18 +138,18 @@ module _ (chart : WiredChart) (is_wired : IsWired chart) (lines : HaveOneLine ch
     HasOutputsAhead past =
         (s : ℕ) → is_output chart.events s ≡ true → occurs past s ≡ true → ReadyOrder chart ready s second
 
-    -- while something ahead is left, there is such a step: what would stand in the way is a stick, and
-    -- its second output is ahead
+    -- while something ahead is left, there is such a step: what would stand in the way is a blocked
+    -- pair, and its second output is ahead
     ahead_on : (past : List ℕ) → ReadyRun chart ready past → HasOutputsAhead past → (g : ℕ) → g < length chart.events
         → ahead g ≡ true → occurs past g ≡ false → (x : ℕ) × MayToward past x
     ahead_on past run outs g below member new =
-        let table = (ready_order chart is_wired ready).1 in
-        let can = can_come ahead (λ x y h k. table.complete x second (joined h (ahead_order y (ready_below chart is_wired ready x y h).1 k))) in
+        let table = (precedes_order chart is_wired ready true).1 in
+        let can = can_come ahead (λ x y h k. table.complete x second (joined h (ahead_order y k))) in
         let next = progress chart is_wired lines ready ahead (is_needed chart ready) (ReadyOrder chart ready) can past
         (λ x r ix ir same drawn_so set in_ahead early.
         let r_out = partner_of_input chart.events is_wired.matched r ir in
         let r_sent = until-within past (partner chart.events x) (partner chart.events r) early in
-        first.none_ahead (x, r) (stick_of past run x r ix ir same drawn_so set early, outs _ r_out r_sent))
+        first.none_ahead (x, r) (blocked_pair_of past run x r ix ir same drawn_so set early, outs _ r_out r_sent))
         g below member new in
         (next.0, (next.1.may, elim next.1.member [ inl member ↦ inl member | inr other ↦ inr other.1.input ]))
 
@@ -165,7 +166,7 @@ module _ (chart : WiredChart) (is_wired : IsWired chart) (lines : HaveOneLine ch
         event = output_below chart.events second second_out;
         new = new;
         controlled = λ c y drawn_so. all y (before_parts chart.events y second drawn_so).0
-            ((ready_order chart is_wired ready).1.complete y second (drawn drawn_so c));
+            ((precedes_order chart is_wired ready true).1.complete y second (drawn drawn_so c));
         input = λ i. absurd (not_both chart.events second second_out i);
       };
       awaited = λ i. absurd (not_both chart.events second second_out i);
@@ -180,15 +181,15 @@ module _ (chart : WiredChart) (is_wired : IsWired chart) (lines : HaveOneLine ch
           | inl found ↦
               let parts = left_parts ahead past found.0 found.2 in
               let next = ahead_on past run outs found.0 found.1 parts.0 parts.1 in
-              (next.0, next.1.0, elim next.1.1 [ inl h ↦ inl (inr (ahead_order next.0 next.1.0.may.event h)) | inr i ↦ inr i ])
+              (next.0, next.1.0, elim next.1.1 [ inl h ↦ inl (inr (ahead_order next.0 h)) | inr i ↦ inr i ])
           | inr none ↦
               let may = second_may past new (λ x below member. by_test (occurs past x) (λ there. there)
               (λ out. clash (left_from ahead past x member out) (none x below))) in
               (second, may, inl (inl refl))
         ]
 
-    -- So some ready run has the second output and not, before it, the first; it goes on to one after
-    -- which the system has stuck.
+    -- So some ready run has the second output and not, before it, the first; it goes on to one
+    -- after which the system has stuck.
     pub met : (events : List ℕ) × HasStuck chart ready events × Reverses events (partner chart.events e) second
     met =
         let all = reach_all MayToward (length chart.events) (λ past x h. ready_new past x h.0) ahead toward_on [] tt in
@@ -202,7 +203,7 @@ module _ (chart : WiredChart) (is_wired : IsWired chart) (lines : HaveOneLine ch
         let sent_list : List ℕ = front ++ second ∷ [] in
         let more = reach_end (MayComeReady chart ready) (length chart.events) ready_new ready_decided sent_list sent_run in
         let there : occurs sent_list second ≡ true = occurs-push front second in
-        let e_out = partner_of_input chart.events is_wired.matched e first.stick.inputs.0 in
+        let e_out = partner_of_input chart.events is_wired.matched e first.blocked_pair.inputs.0 in
         let not_there : occurs (until sent_list second) (partner chart.events e) ≡ false = false_from_ne_true _
         (λ early. absent front steps run e_out (until-within sent_list second (partner chart.events e) early)) in
         let reverses : Reverses sent_list (partner chart.events e) second = (there, not_there) in
@@ -210,7 +211,7 @@ module _ (chart : WiredChart) (is_wired : IsWired chart) (lines : HaveOneLine ch
           whole,
           record {
             run = more.1;
-            unfinished = final chart is_wired ready e f (lined_of chart ready e f first.stick) sent_list more.0 more.1 reverses;
+            unfinished = final chart is_wired ready e f (lined_of chart ready e f first.blocked_pair) sent_list more.0 more.1 reverses;
             none = more.2;
           },
           (
@@ -225,21 +226,21 @@ module _ (chart : WiredChart) (is_wired : IsWired chart) (lines : HaveOneLine ch
             → occurs (front ++ second ∷ []) (partner chart.events e) ≡ true → ⊥
         absent front steps run e_out there =
             by_test (occurs front (partner chart.events e))
-            (λ early. first.stick.free (toward_outputs front steps _ e_out early))
-            (λ out. clash there (occurs_other front second (partner chart.events e) (λ same. outputs_differ chart is_wired ready e f (lined_of chart ready e f first.stick) (sym same)) ∙ out))
+            (λ early. first.blocked_pair.free (toward_outputs front steps _ e_out early))
+            (λ out. clash there (occurs_other front second (partner chart.events e) (λ same. outputs_differ chart is_wired ready e f (lined_of chart ready e f first.blocked_pair) (sym same)) ∙ out))
 
-  -- a stick by a table of the ready order
-  abbrev stick_test : (ℕ → ℕ → Bool) → ℕ → ℕ → Bool
-  stick_test order e f =
+  -- a blocked pair by a table of the ready order
+  abbrev blocked_pair_test : (ℕ → ℕ → Bool) → ℕ → ℕ → Bool
+  blocked_pair_test order e f =
       ((before chart.events e f && ready (line chart.events f))
       && (is_input chart.events e && is_input chart.events f))
       && (eqb (queue chart e) (queue chart f)
       && not (order (partner chart.events e) (partner chart.events f)))
 
-  module _ (order : ℕ → ℕ → Bool) (told : IsReadyOrder chart ready order) where
-    -- what passes is a stick
-    pub stick_of_test : (e f : ℕ) → stick_test order e f ≡ true → IsStick chart ready e f
-    stick_of_test e f h =
+  module _ (order : ℕ → ℕ → Bool) (told : IsOrderTest chart ready true order) where
+    -- what passes is a blocked pair
+    pub blocked_pair_of_test : (e f : ℕ) → blocked_pair_test order e f ≡ true → IsBlockedPair chart ready e f
+    blocked_pair_of_test e f h =
         let both = and_parts _ _ h in
         let a = and_parts _ _ both.0 in
         let b = and_parts _ _ a.0 in
@@ -253,89 +254,68 @@ module _ (chart : WiredChart) (is_wired : IsWired chart) (lines : HaveOneLine ch
           free = λ k. clash (told.complete _ _ k) (not-true _ d.1);
         }
 
-    -- and a stick passes
-    pub test_of_stick : (e f : ℕ) → IsStick chart ready e f → stick_test order e f ≡ true
-    test_of_stick e f h =
-        let e_out = output_below chart.events _ (partner_of_input chart.events is_wired.matched e h.inputs.0) in
-        let f_out = output_below chart.events _ (partner_of_input chart.events is_wired.matched f h.inputs.1) in
-        let apart = false_from_ne_true _ (λ k. h.free (told.holds _ _ e_out f_out k)) in
+    -- and a blocked pair passes
+    pub test_of_blocked_pair : (e f : ℕ) → IsBlockedPair chart ready e f → blocked_pair_test order e f ≡ true
+    test_of_blocked_pair e f h =
+        let apart = false_from_ne_true _ (λ k. h.free (told.holds _ _ k)) in
         and_from _ _ (and_from _ _ (and_from _ _ h.drawn h.line) (and_from _ _ h.inputs.0 h.inputs.1))
         (and_from _ _ (eq-eqb _ _ h.one_queue) (not_from_false _ apart))
 
-    -- t is the second output of a stick
+    -- t is the second output of a blocked pair
     is_second : ℕ → Bool
-    is_second t = is_output chart.events t && any_below (λ e. stick_test order e (partner chart.events t)) (length chart.events)
+    is_second t = is_output chart.events t && any_below (λ e. blocked_pair_test order e (partner chart.events t)) (length chart.events)
 
-    -- x stands before y, and both are events
-    stands : ℕ → ℕ → Bool
-    stands x y = (ltb x (length chart.events) && ltb y (length chart.events)) && order x y
-
-    -- what stands so is in the ready order
-    stands_order : (x y : ℕ) → stands x y ≡ true → ReadyOrder chart ready x y
-    unfolding stands
-    stands_order x y h =
-        let both = and_parts _ _ h in
-        let known = and_parts _ _ both.0 in
-        told.holds x y (ltb-true _ _ known.0) (ltb-true _ _ known.1) both.1
-
-    -- and what is in the ready order stands so
-    order_stands : (x y : ℕ) → ReadyOrder chart ready x y → stands x y ≡ true
-    unfolding stands
-    order_stands x y h =
-        let below = ready_below chart is_wired ready x y h in
-        and_from _ _ (and_from _ _ (lt-ltb _ _ below.0) (lt-ltb _ _ below.1)) (told.complete x y h)
-
-    -- the second output of a stick is one
-    second_of : (e f : ℕ) → IsStick chart ready e f → is_second (partner chart.events f) ≡ true
+    -- the second output of a blocked pair is one
+    second_of : (e f : ℕ) → IsBlockedPair chart ready e f → is_second (partner chart.events f) ≡ true
     unfolding is_second
     second_of e f h =
         let below = before_parts chart.events e f h.drawn in
-        let passes : stick_test order e (partner chart.events (partner chart.events f)) ≡ true =
-        rw (is_wired.matched.to_and_fro f below.1) (test_of_stick e f h) in
+        let passes : blocked_pair_test order e (partner chart.events (partner chart.events f)) ≡ true =
+        rw (is_wired.matched.to_and_fro f below.1) (test_of_blocked_pair e f h) in
         and_from _ _ (partner_of_input chart.events is_wired.matched f h.inputs.1)
-        (any_from (λ d. stick_test order d (partner chart.events (partner chart.events f))) (length chart.events) e below.0 passes)
+        (any_from (λ d. blocked_pair_test order d (partner chart.events (partner chart.events f))) (length chart.events) e below.0 passes)
 
-    -- such an output that stands behind no other is that of a first stick
+    -- such an output that stands behind no other is that of a first blocked pair
     first_with : (t : ℕ) → is_second t ≡ true
-        → ((y : ℕ) → y < length chart.events → is_second y ≡ true → stands y t ≡ false)
-        → (e : ℕ) × (f : ℕ) × IsFirstStick chart ready e f
+        → ((y : ℕ) → y < length chart.events → is_second y ≡ true → order y t ≡ false)
+        → (e : ℕ) × (f : ℕ) × IsFirstBlockedPair chart ready e f
     unfolding is_second
     first_with t h least =
         let both = and_parts _ _ h in
         let f : ℕ = partner chart.events t in
         let t_below = output_below chart.events t both.0 in
         let back : partner chart.events f ≡ t = is_wired.matched.to_and_fro t t_below in
-        let some = some_of_any (λ e. stick_test order e f) (length chart.events) both.1 in (
+        let some = some_of_any (λ e. blocked_pair_test order e f) (length chart.events) both.1 in (
           some.0,
           f,
           record {
-            stick = stick_of_test some.0 f some.2;
+            blocked_pair = blocked_pair_of_test some.0 f some.2;
             none_ahead = λ p k.
                 let before_t : ReadyOrder chart ready (partner chart.events p.1) t = subst (λ (z : ℕ). ReadyOrder chart ready (partner chart.events p.1) z) back k.1 in
-                clash (order_stands _ t before_t)
-                (least _ (ready_below chart is_wired ready _ t before_t).0 (second_of p.0 p.1 k.0));
+                clash (told.complete _ t before_t)
+                (least _ (precedes_below chart is_wired ready true _ t before_t).0 (second_of p.0 p.1 k.0));
           },
         )
 
-  -- where there is a stick, some stick is first
-  pub some_first : (e f : ℕ) → IsStick chart ready e f → (g : ℕ) × (h : ℕ) × IsFirstStick chart ready g h
-  some_first e f stick =
-      let table = ready_order chart is_wired ready in
+  -- where there is a blocked pair, some blocked pair is first
+  pub some_first : (e f : ℕ) → IsBlockedPair chart ready e f → (g : ℕ) × (h : ℕ) × IsFirstBlockedPair chart ready g h
+  some_first e f blocked_pair =
+      let table = precedes_order chart is_wired ready true in
       let second_test : ℕ → Bool = is_second table.0 table.1 in
       let fuel : ℕ = count_below second_test (length chart.events) in
-      let t_out = partner_of_input chart.events is_wired.matched f stick.inputs.1 in
-      let d = descend (length chart.events) (stands table.0 table.1) (ReadyOrder chart ready)
-      (stands_order table.0 table.1) (λ x y z h k. joined h k)
+      let t_out = partner_of_input chart.events is_wired.matched f blocked_pair.inputs.1 in
+      let d = descend (length chart.events) table.0 (ReadyOrder chart ready)
+      table.1.holds (λ x y z h k. joined h k)
       (λ x below h. ready_acyclic chart is_wired ready lines acyclic x h)
       fuel second_test (le_refl fuel) (partner chart.events f) (output_below chart.events _ t_out)
-      (second_of table.0 table.1 e f stick) in
+      (second_of table.0 table.1 e f blocked_pair) in
       first_with table.0 table.1 d.0 d.2 d.4
 
-  -- where every ready run goes on to a whole one, there is no stick
+  -- where every ready run goes on to a whole one, there is no blocked pair
   pub none_where_all_go_on : ((events : List ℕ) → ReadyRun chart ready events → GoesOnReady chart ready events)
-      → HasNoStick chart ready
-  none_where_all_go_on on e f stick =
-      let first = some_first e f stick in
+      → HasNoBlockedPair chart ready
+  none_where_all_go_on on e f blocked_pair =
+      let first = some_first e f blocked_pair in
       let shown = met first.0 first.1 first.2 in
       let more = on shown.0 shown.1.run in
-      final chart is_wired ready first.0 first.1 (lined_of chart ready first.0 first.1 first.2.stick) shown.0 more.0 more.1 shown.2 more.2
+      final chart is_wired ready first.0 first.1 (lined_of chart ready first.0 first.1 first.2.blocked_pair) shown.0 more.0 more.1 shown.2 more.2

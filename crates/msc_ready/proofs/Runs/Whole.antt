@@ -7,14 +7,16 @@ use Rattle.msc_chart.specs.Orders.{WiredChart, IsWired, queue}
 use Rattle.msc_chart.specs.Runs.{IsWhole}
 use Rattle.msc_ready.specs.Readiness.{MayComeReady, ReadyRun}
 use Rattle.msc_ready.specs.Finishing.{MayComeInTurn, WholeOrder, HasNoWholeRing, MayFinish}
-use Rattle.msc_ready.specs.Finishing.WholeOrder.{drawn, awaited, sent, in_turn, joined}
-use Rattle.msc_ready.proofs.Shared.{by_test, clash, step_at, until-within, until-other, until-self, Steps-map, before_parts, input_below, output_below, output_controlled, partner_of_input, partner_of_output, first_occurs}
+use Rattle.msc_ready.specs.Finishing.WholeOrder.{needed, in_turn, joined}
+use Rattle.msc_ready.proofs.Shared.{by_test, clash, step_at, until-within, until-other, until-self, Steps-map, input_below, output_below, output_controlled, partner_of_input, partner_of_output}
 use Rattle.msc_race.proofs.Runs.Standing.{stands_trans}
 use Rattle.msc_ready.proofs.Runs.Final.{IsLined, no_whole_run}
-use Rattle.msc_ready.proofs.Runs.Keeping.{HaveOneLine}
+use Rattle.msc_ready.proofs.Runs.Keeping.{HaveOneLine, kept}
 use Rattle.msc_ready.proofs.Runs.Progress.{CanCome, progress}
 use Rattle.msc_ready.proofs.Runs.Growing.{everything, reach_all}
-use Rattle.msc_ready.proofs.Runs.Tables.{is_needed, needed_cases, needed_drawn, needed_awaited, needed_sent}
+use Rattle.msc_race.proofs.Runs.EnforcedPairs.{precedes_below}
+use Rattle.msc_race.proofs.Runs.Needed.{is_needed, needed_drawn, needed_awaited, needed_sent}
+use Rattle.msc_race.proofs.Runs.Tables.{needed_order}
 
 module _ (chart : WiredChart) (is_wired : IsWired chart) (lines : HaveOneLine chart) (ready : ℕ → Bool) where
   -- x and y are outputs whose inputs, of one queue, are drawn in this order on a ready line
@@ -33,7 +35,7 @@ module _ (chart : WiredChart) (is_wired : IsWired chart) (lines : HaveOneLine ch
   unfolding needs in_turn_test
   needs_whole x y h =
       elim (or_cases _ _ h) [
-        | inl one ↦ needed_cases chart ready x y one (λ b o. drawn b o) (λ b i l. awaited b i l) (λ o p. sent o p)
+        | inl one ↦ needed (needed_order chart ready false x y one)
         | inr two ↦
             let both = and_parts _ _ two in
             let outs = and_parts _ _ both.0 in
@@ -59,25 +61,12 @@ module _ (chart : WiredChart) (is_wired : IsWired chart) (lines : HaveOneLine ch
 
   -- the whole order relates events of the chart
   whole_below : (x y : ℕ) → WholeOrder chart ready x y → (x < length chart.events) × (y < length chart.events)
-  whole_below x y (drawn b o) = let p = before_parts chart.events x y b in (p.0, p.1)
-  whole_below x y (awaited b i l) = let p = before_parts chart.events x y b in (p.0, p.1)
-  whole_below x y (sent o p) =
-      let below = output_below chart.events x o in
-      (below, subst (λ (z : ℕ). z < length chart.events) p (is_wired.matched.in_range x below))
+  whole_below x y (needed h) = precedes_below chart is_wired ready false x y h
   whole_below x y (in_turn r u ir iu same b set p q) = (
     subst (λ (z : ℕ). z < length chart.events) p (is_wired.matched.in_range r (input_below chart.events r ir)),
     subst (λ (z : ℕ). z < length chart.events) q (is_wired.matched.in_range u (input_below chart.events u iu)),
   )
   whole_below x y (joined {y = m} h k) = ((whole_below x m h).0, (whole_below m y k).1)
-
-  -- an event of a ready run has what the plain rules put before it earlier
-  sent_earlier : (past : List ℕ) → ReadyRun chart ready past → (x y : ℕ) → is_output chart.events x ≡ true
-      → partner chart.events x ≡ y → occurs past y ≡ true → occurs (until past y) x ≡ true
-  sent_earlier past run x y o p there =
-      let at_y = step_at (MayComeReady chart ready) past y run there in
-      let input : is_input chart.events y ≡ true = rw (← p) (partner_of_output chart.events is_wired.matched x o) in
-      let back : partner chart.events y ≡ x = rw (← p) (is_wired.matched.to_and_fro x (output_below chart.events x o)) in
-      rw (← back) (first_occurs _ _ _ (at_y.1.may.input input)).0
 
   -- what has to come before an event in turn stands before it
   KeepsTurns : List ℕ → Type 0
@@ -90,9 +79,7 @@ module _ (chart : WiredChart) (is_wired : IsWired chart) (lines : HaveOneLine ch
   kept_whole : (past : List ℕ) → ReadyRun chart ready past → KeepsTurns past → (x y : ℕ) → WholeOrder chart ready x y
       → occurs past y ≡ true → occurs (until past y) x ≡ true
   unfolding KeepsTurns
-  kept_whole past run turns x y (drawn b o) there = (step_at (MayComeReady chart ready) past y run there).1.may.controlled o x b
-  kept_whole past run turns x y (awaited b i l) there = (step_at (MayComeReady chart ready) past y run there).1.awaited i l x b
-  kept_whole past run turns x y (sent o p) there = sent_earlier past run x y o p there
+  kept_whole past run turns x y (needed h) there = kept chart is_wired ready past run x y h there
   kept_whole past run turns x y (in_turn r u ir iu same b set p q) there =
       let sent_u : occurs past (partner chart.events u) ≡ true = subst (λ (z : ℕ). occurs past z ≡ true) (sym q) there in
       let found = turns r u ir iu same b set sent_u in

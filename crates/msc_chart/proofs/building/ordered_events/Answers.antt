@@ -6,7 +6,7 @@ use Rattle.msc_chart.specs.Drawings.{chart_events}
 use Rattle.msc_chart.specs.Sortings.{IsCycleOrMemory}
 use Rattle.msc_chart.specs.Views.{event_view, mark_view}
 use Rattle.msc_chart.proofs.Stages.{marks_count}
-use Rattle.msc_chart.proofs.Matched.{chart_ready, none-twice}
+use Rattle.msc_chart.proofs.Matched.{chart_ready, none-two_rounds}
 use Rattle.msc_chart.proofs.Lawful.{made, cyclic_first, passed_on, linear_faultless}
 use Rattle.msc_chart.proofs.building.ordered_events.Goals as goal
 
@@ -17,7 +17,7 @@ chart_events-requires-clause-acts c = c.requires.acts ∙ sym (ap (map (λ x. x.
 pub chart_events-requires-clause-once : goal.chart_events-requires-clause-once
 chart_events-requires-clause-once c =
     subst (λ acts. (k : ℕ) → IsTwice acts k → ⊥) (sym c.requires.acts)
-    (none-twice c.args.draft.now c.in_ok-partners.ensures.clear)
+    (none-two_rounds c.args.draft.now c.in_ok-partners.ensures.clear)
 
 pub linear_order-requires : goal.linear_order-requires
 linear_order-requires c =

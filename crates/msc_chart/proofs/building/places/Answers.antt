@@ -4,7 +4,7 @@ use Rattle.msc_chart.specs.Views.{mark_view, marks_from}
 use Rattle.msc_chart.specs.Numbering.{AreNumbered}
 use Rattle.msc_chart.proofs.Places.{repeat_at, numbered_at}
 use Rattle.msc_chart.proofs.MatchingLemmas.{mark_same}
-use Rattle.msc_chart.proofs.TwiceLemmas.{marks_own}
+use Rattle.msc_chart.proofs.UnrollingLemmas.{marks_own}
 use Rattle.msc_chart.proofs.Stages.{distinct_ends_clear, marks_seen, repeated_end_first}
 use Rattle.msc_chart.proofs.building.places.Goals as goal
 

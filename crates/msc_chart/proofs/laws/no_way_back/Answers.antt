@@ -1,5 +1,4 @@
-use Rattle.msc_chart.proofs.RoundLawProofs.{no_way_back}
-use Rattle.msc_chart.proofs.VisualRounds.{no_visual_way_back}
+use Rattle.msc_chart.proofs.RoundLawProofs.{no_way_back, no_visual_way_back}
 use Rattle.msc_chart.proofs.laws.no_way_back.Goals as goal
 
 pub returns : goal.returns

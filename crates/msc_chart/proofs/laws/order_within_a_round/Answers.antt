@@ -1,5 +1,4 @@
-use Rattle.msc_chart.proofs.RoundLawProofs.{order_within_a_round, order_of_some_rounds}
-use Rattle.msc_chart.proofs.VisualRounds.{visual_order_within_a_round, visual_order_of_some_rounds}
+use Rattle.msc_chart.proofs.RoundLawProofs.{order_within_a_round, order_of_some_rounds, visual_order_within_a_round, visual_order_of_some_rounds}
 use Rattle.msc_chart.proofs.laws.order_within_a_round.Goals as goal
 
 pub returns : goal.returns

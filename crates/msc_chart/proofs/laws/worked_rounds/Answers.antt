@@ -1,5 +1,5 @@
-use Rattle.msc_chart.proofs.RoundRows.{actions_twice, texts_twice, coregion_twice}
+use Rattle.msc_chart.proofs.RoundRows.{actions_unrolled, texts_unrolled, coregion_unrolled}
 use Rattle.msc_chart.proofs.laws.worked_rounds.Goals as goal
 
 pub returns : goal.returns
-returns c = record { events = actions_twice; texts = texts_twice; drawn = coregion_twice }
+returns c = record { events = actions_unrolled; texts = texts_unrolled; drawn = coregion_unrolled }

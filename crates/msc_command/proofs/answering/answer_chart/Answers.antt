@@ -1,6 +1,6 @@
-use Rattle.msc_command.proofs.Answered.{put_so, told_quietly}
+use Rattle.msc_command.proofs.Answered.{print_so, told_quietly}
 use Rattle.msc_command.specs.Answering.{PrintsOf, RefusesOf}
-use Rattle.msc_command.specs.declared.tasks.Ask.TheVariants as asks
+use Rattle.msc_command.specs.declared.tasks.ChartCommand.TheVariants as chart_commands
 use Rattle.msc_command.proofs.answering.answer_chart.Goals as goal
 
 pub returns-in-Quiet : goal.returns-in-Quiet
@@ -10,7 +10,7 @@ returns-in-Quiet g c =
 
 pub returns-in_ok-page-in-Run : goal.returns-in_ok-page-in-Run
 returns-in_ok-page-in-Run g c =
-    let asked = asks.Run c.in-Run.queues c.in-Run.patience in
+    let asked = chart_commands.Run c.in-Run.queues c.in-Run.patience in
     let printed = rw c.chart-chart.ensures at c.in_ok-page-in-Run.ensures.printed in
-    rw c.in-Run.is (put_so g.O.Write.contents (PrintsOf asked c.args.file.now c.args.source.now) (RefusesOf asked c.args.source.now) _ c.finished_by.result
+    rw c.in-Run.is (print_so g.O.Write.contents (PrintsOf asked c.args.file.now c.args.source.now) (RefusesOf asked c.args.source.now) _ c.finished_by.result
     (c.in_ok-page-in-Run.finished, c.finished_by.ensures, printed) c.put.result _ _ c.put.ensures)

@@ -1,5 +1,5 @@
 use Rattle.std.proofs.Common.{ℕ, List, Some, None, sym, subst, ◌∙◌}
-use Rattle.msc_command.proofs.Chosen.{diagrams_so, many_known, many_text}
+use Rattle.msc_command.proofs.Witness.{diagrams_so, many_known, many_text}
 use Rattle.msc_command.specs.Answering.{AnswersWith}
 use Rattle.msc_command.specs.Surveys.{BeginsSurvey, Surveys}
 use Rattle.msc_command.specs.declared.ending.Status.TheVariants.{Done}

@@ -1,6 +1,6 @@
 use Rattle.std.proofs.Common.{refl}
 use Rattle.std.proofs.lemmas.Result.{err_from_is_err_and}
-use Rattle.msc_command.proofs.Answered.{put_so}
+use Rattle.msc_command.proofs.Answered.{print_so}
 use Rattle.msc_command.proofs.Drawn.{undrawn}
 use Rattle.msc_command.specs.Drawing.{PrintsPage, RefusesDrawn}
 use Rattle.msc_command.proofs.answering.draw.Goals as goal
@@ -12,5 +12,5 @@ returns-in_err-page g c =
 
 pub returns : goal.returns
 returns g c =
-    put_so g.O.Write.contents (PrintsPage c.args.drawn c.args.draft.now c.args.source.now) (RefusesDrawn c.args.drawn c.args.source.now)
+    print_so g.O.Write.contents (PrintsPage c.args.drawn c.args.draft.now c.args.source.now) (RefusesDrawn c.args.drawn c.args.source.now)
     _ _ (refl, c.in_ok-page.ensures) c.put.result _ _ c.put.ensures

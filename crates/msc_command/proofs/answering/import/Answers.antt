@@ -1,6 +1,6 @@
 use Rattle.std.proofs.Common.{refl}
 use Rattle.std.proofs.lemmas.Result.{err_from_is_err_and}
-use Rattle.msc_command.proofs.Answered.{put_so}
+use Rattle.msc_command.proofs.Answered.{print_so}
 use Rattle.msc_command.proofs.ImportPages.{unprinted}
 use Rattle.msc_command.specs.Importing.{PrintsImportPage, RefusesImport}
 use Rattle.msc_command.proofs.answering.import.Goals as goal
@@ -12,5 +12,5 @@ returns-in_err-page g c =
 
 pub returns : goal.returns
 returns g c =
-    put_so g.O.Write.contents (PrintsImportPage c.args.words c.args.file.now c.args.text.now) (RefusesImport c.args.words c.args.text.now)
+    print_so g.O.Write.contents (PrintsImportPage c.args.words c.args.file.now c.args.text.now) (RefusesImport c.args.words c.args.text.now)
     _ _ (refl, c.in_ok-page.ensures) c.put.result _ _ c.put.ensures

@@ -1,5 +1,5 @@
 use Rattle.std.specs.Prelude.{◌≡◌, map, take}
-use Rattle.msc_reason.specs.Lacks.{kind_word}
+use Rattle.msc_reason.specs.Causes.{kind_word}
 use Rattle.msc_command.proofs.grammar.kind_words.Given as goal
 
 abbrev pub invariant-loop-kind : goal.invariant-loop-kind

@@ -9,4 +9,4 @@ returns-in_err-imported c =
 
 pub returns : goal.returns
 returns c =
-    on_page c.args.words c.args.text.now c.args.file.now c.imports_are_charts.ensures.one c.imports_are_charts.ensures.first c.in_ok-imported.imported c.page_of.result c.in_ok-imported.ensures c.page_of.ensures
+    on_page c.args.words c.args.text.now c.args.file.now c.imports_are_charts.ensures.one c.in_ok-imported.imported c.page_of.result c.in_ok-imported.ensures c.page_of.ensures

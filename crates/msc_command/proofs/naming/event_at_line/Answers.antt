@@ -7,7 +7,7 @@ pub overflow_cast-result : goal.overflow_cast-result
 overflow_cast-result c =
     let first = first_here c.args.source.now _ c.args.line c.in-Some.e (c.in_ok-places.ensures ∙ c.text.ensures) c.in-Some.ensures in
     let known = known_event c.args.source.now c.source.ensures c.args.line c.in-Some.e first in
-    let few : length c.args.source.now.chart.events ≤ EVENT_LIMIT = rw c.chart.ensures at c.accepted.ensures.few_events in
+    let few : length c.args.source.now.chart.events ≤ EVENT_LIMIT = rw c.chart.ensures at c.facts.ensures.few_events in
     omega (arith, known, few)
 
 pub returns-in-Some : goal.returns-in-Some

@@ -1,5 +1,5 @@
 use Rattle.std.proofs.Common.{sym, ◌∙◌}
-use Rattle.msc_command.proofs.Told.{told_races, told_refused, told_unfinished}
+use Rattle.msc_command.proofs.FaultNotes.{told_races, told_refused, told_unfinished}
 use Rattle.msc_command.proofs.program.command.Goals as goal
 
 pub returns-in-Ok-clause-races : goal.returns-in-Ok-clause-races

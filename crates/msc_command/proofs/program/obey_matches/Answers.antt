@@ -1,7 +1,7 @@
 use Rattle.std.proofs.Common.{refl}
 use Rattle.clap.specs.Words.{found_of}
 use Rattle.msc_command.proofs.Taken.{named_by}
-use Rattle.msc_command.proofs.Told.{obeyed}
+use Rattle.msc_command.proofs.FaultNotes.{obeyed}
 use Rattle.msc_command.proofs.program.obey_matches.Goals as goal
 
 pub returns-in-Some-clause-told : goal.returns-in-Some-clause-told

@@ -15,5 +15,5 @@ returns c =
     let drafted = rw c.in_ok-places.ensures at c.in_ok-told.ensures.place in
     let its : IsPlaceOf text refusal place =
     λ t has. subst (λ (u : Tree). IsChartPlace text u c.args.fault place) (c.one_parsing.ensures.draft text c.args.draft.now t c.requires has) (drafted c.requires) in
-    let put = rw (c.in_ok-lines.ensures, c.new-page.ensures) at c.in_ok-put_told.ensures in
-    told_more c.args.file.now text refusal place (λ p stands. (place, its, stands)) _ _ put c.in_ok-put_further.ensures
+    let put = rw (c.in_ok-lines.ensures, c.new-page.ensures) at c.in_ok-print_told.ensures in
+    told_more c.args.file.now text refusal place (λ p stands. (place, its, stands)) _ _ put c.in_ok-print_further.ensures

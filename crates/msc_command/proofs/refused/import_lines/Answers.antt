@@ -4,5 +4,5 @@ use Rattle.msc_command.proofs.refused.import_lines.Goals as goal
 
 pub returns : goal.returns
 returns c =
-    let mid = rw c.new-page.ensures at c.in_ok-put_import.ensures in
-    import_told c.args.file.now c.args.text.now (refusals.Import c.args.refused) _ c.import_position-position.ensures _ _ mid c.in_ok-put_notes.ensures
+    let mid = rw c.new-page.ensures at c.in_ok-print_import.ensures in
+    import_told c.args.file.now c.args.text.now (refusals.Import c.args.refused) _ c.import_position-position.ensures _ _ mid c.in_ok-print_notes.ensures

@@ -1,6 +1,9 @@
+use Rattle.std.proofs.Common.{map, rules}
 use Rattle.std.proofs.lemmas.Result.{err_from_is_err_and}
-use Rattle.msc_command.proofs.Surveyed.{none_drawn, not_charted}
-use Rattle.msc_command.specs.Scenarios.{BeginsScenarios, PrintsScenarios}
+use Rattle.msc_command.proofs.Surveyed.{all_charts, none_drawn, told_of_text}
+use Rattle.msc_command.specs.Answering.{AnswersWith}
+use Rattle.msc_command.specs.Charting.{with_chart}
+use Rattle.msc_command.specs.Scenarios.{BeginsAll, BeginsScenarios, PrintsAll, PrintsScenarios}
 use Rattle.msc_command.proofs.scenarios.check_scenarios.Goals as goal
 
 pub returns-in_err-all : goal.returns-in_err-all
@@ -9,10 +12,13 @@ returns-in_err-all g c =
     rw (p.1, p.2) (none_drawn g.O.Write.contents (PrintsScenarios c.args.words c.args.file.now c.args.text.now) (BeginsScenarios c.args.words c.args.file.now c.args.text.now)
     c.args.words c.args.text.now c.args.output.now _ c.in_err-all.ensures)
 
-pub returns-in_err-charts : goal.returns-in_err-charts
-returns-in_err-charts g c =
-    let p = err_from_is_err_and c.from_residual-in_err-charts.result c.from_residual-in_err-charts.ensures.1 in
-    let law = c.imports_are_charts.ensures in
-    rw (p.1, p.2) (not_charted g.O.Write.contents (PrintsScenarios c.args.words c.args.file.now c.args.text.now) (BeginsScenarios c.args.words c.args.file.now c.args.text.now)
-    c.args.words c.args.text.now c.args.output.now
-    law.all law.first c.in_ok-all.all c.in_ok-all.ensures _ (rw c.into_vec.ensures at c.in_err-charts.ensures.none))
+pub of-requires : goal.of-requires
+of-requires g c = all_charts c.imports_are_charts.ensures.all c.args.words c.args.text.now c.in_ok-all.all c.in_ok-all.ensures
+
+pub returns : goal.returns
+returns g c =
+    let x = c.args.words in let file = c.args.file.now in let all = c.in_ok-all.all in
+    let told : AnswersWith g.O.Write.contents (PrintsAll x.quiet x.check_args file all.name all.drawn (map (with_chart file) all.list))
+    (BeginsAll x.quiet x.check_args file all.name all.drawn (map (with_chart file) all.list)) (λ refusal. ⊥) c.tell_all.result c.args.output.now c.tell_all.new.output = search rules in
+    told_of_text g.O.Write.contents (PrintsAll x.quiet x.check_args file) (BeginsAll x.quiet x.check_args file)
+    c.imports_are_charts.ensures.all x file c.args.text.now all c.in_ok-all.ensures _ _ _ told

@@ -1,7 +1,7 @@
 use Rattle.std.proofs.Common.{rules}
 use Rattle.std.specs.Str.{bytes_eq}
 use Rattle.clap.proofs.WalkLemmas.{list_any-map}
-use Rattle.msc_reason.specs.Lacks.{kind_word}
+use Rattle.msc_reason.specs.Causes.{kind_word}
 use Rattle.msc_command.proofs.tasks.is_allowed.Goals as goal
 
 pub returns : goal.returns

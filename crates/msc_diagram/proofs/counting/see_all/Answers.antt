@@ -10,7 +10,7 @@ use Rattle.msc_diagram.proofs.counting.see_all.Goals as goal
 pub loop-e-init : goal.loop-e-init
 loop-e-init c = record {
   reached = c.new-walk.ensures c.args.enforced.now.chart.events;
-  seen = λ s are. sym (ap (above_with s c.args.seen.now) (no_races_below c.args.enforced.now) ∙ append-nil c.args.seen.now);
+  reported = λ s are. sym (ap (above_with s c.args.reported.now) (no_races_below c.args.enforced.now) ∙ append-nil c.args.reported.now);
 }
 
 pub see-requires : goal.see-requires
@@ -26,12 +26,12 @@ loop-e-preserved c =
     let list = c.as_slice.ensures.value ∙ c.in_ok-next_races.ensures.list in
     record {
       reached = c.in_ok-next_races.ensures.reached;
-      seen = λ s are. c.in_ok-see.ensures.seen s are ∙ ap₂ (above_with s) (c.loop-e.invariant.seen s are) list
-          ∙ sym (above_behind s c.args.seen.now (races_below e k) (races_from e k)) ∙ ap (above_with s c.args.seen.now) (sym (races_below_more e k));
+      reported = λ s are. c.in_ok-see.ensures.reported s are ∙ ap₂ (above_with s) (c.loop-e.invariant.reported s are) list
+          ∙ sym (above_behind s c.args.reported.now (races_below e k) (races_from e k)) ∙ ap (above_with s c.args.reported.now) (sym (races_below_more e k));
     }
 
 pub returns : goal.returns
 returns c s are =
     let end = c.loop-e.auto.e-end in
     let past = c.loop-e-test.false in
-    c.loop-e.invariant.seen s are ∙ ap (above_with s c.args.seen.now) (races_below_all c.args.enforced.now c.loop-e.e (omega (arith, end, past, c.events-e-end.ensures)))
+    c.loop-e.invariant.reported s are ∙ ap (above_with s c.args.reported.now) (races_below_all c.args.enforced.now c.loop-e.e (omega (arith, end, past, c.events-e-end.ensures)))

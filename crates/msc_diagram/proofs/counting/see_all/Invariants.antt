@@ -9,5 +9,5 @@ use Rattle.msc_diagram.proofs.counting.see_all.Given as goal
 abbrev pub invariant-loop-e : goal.invariant-loop-e
 invariant-loop-e l = record {
   reached : HasReached l.enforced.chart.events l.e l.walk;
-  seen : (s : Scenario) → AreAllPlaces s l.places → l.seen ≡ above_with s l.fn.seen (races_below l.enforced l.e);
+  reported : (s : Scenario) → AreAllPlaces s l.places → l.reported ≡ above_with s l.fn.reported (races_below l.enforced l.e);
 }

@@ -1,6 +1,6 @@
 use Rattle.std.proofs.Common.{◌≡◌, sym, ap, ◌∙◌, subst}
 use Rattle.msc_reason.specs.Counting.{counting, listed}
-use Rattle.msc_reason.specs.Marked.{lack_in}
+use Rattle.msc_reason.specs.Marked.{cause_in}
 use Rattle.msc_reason.specs.Selected.{selected, Selected}
 use Rattle.msc_reason.specs.declared.left_out.LeftOut.{LeftOut}
 use Rattle.msc_diagram.proofs.Clearing.{case_seen, success_holds}
@@ -14,10 +14,10 @@ returns c =
     let old = c.args.answer.now in
     let all = c.in_ok-see_all.ensures s (subst (AreAllPlaces s) (sym c.as_slice.ensures.value) c.in_ok-places.ensures) in
     let some = c.in_ok-see_counting.ensures s (subst (AreAllPlaces s) (sym c.as_slice-2.ensures.value) c.in_ok-places.ensures)
-    ∙ ap (λ (l : LeftOut). above_with s old.counting (counting e l (lack_in e))) c.of_kinds-left.ensures in
-    let asks = c.in_ok-listing.ensures ∙ ap (λ (l : LeftOut). selected e l c.args.question.closest) c.of_kinds-left.ensures in
+    ∙ ap (λ (l : LeftOut). above_with s old.counting (counting e l (cause_in e))) c.of_kinds-left.ensures in
+    let asks = c.in_ok-listing.ensures ∙ ap (λ (l : LeftOut). selected e l c.args.options.closest) c.of_kinds-left.ensures in
     success_holds c.see_listed.result
-    (λ few. case_seen c.args.queues c.args.question s e old _ c.in_ok-enforced.ensures.chart c.in_ok-enforced.ensures.queues
-    c.enforced-2.ensures.order c.enforced-2.ensures.chart c.the_chosen_run_reverses.ensures.exists c.short_runs_show.ensures.exists all some
-    (subst (λ (x : Selected). c.see_listed.new.seen ≡ above_with s old.listed (listed x.judged x.allowed x.closest (lack_in x.judged))) asks few))
+    (λ few. case_seen c.args.queues c.args.options s e old _ c.in_ok-enforced.ensures.chart c.in_ok-enforced.ensures.queues
+    c.facts.ensures.order c.facts.ensures.chart c.the_witness_reverses.ensures.exists c.short_witnesses_show.ensures.exists all some
+    (subst (λ (x : Selected). c.see_listed.new.reported ≡ above_with s old.listed (listed x.judged x.allowed x.closest (cause_in x.judged))) asks few))
     (c.see_listed.ensures s (subst (AreAllPlaces s) (sym c.as_slice-3.ensures.value) c.in_ok-places.ensures))

@@ -1,25 +1,29 @@
-use Rattle.std.proofs.Common.{◌<◌, ℕ, List, [], ◌∷◌, ◌++◌, length, sym, ap₂, ◌∙◌, arith}
+use Rattle.std.proofs.Common.{◌≡◌, ◌<◌, ℕ, List, [], ◌∷◌, ◌++◌, get_or, length, Some, sym, ap, ap₂, subst, ◌∙◌}
+use Rattle.std.proofs.lemmas.Option.{get_or_from_slice_get}
 use Rattle.msc_diagram.proofs.Growing.{known_more, places_more}
 use Rattle.msc_diagram.specs.Places.{above_with}
 use Rattle.msc_diagram.specs.Scenarios.{all_of, asked_of, counting_of, Case}
-use Rattle.msc_diagram.specs.declared.place.Place.{Place}
+use Rattle.msc_diagram.specs.declared.place.EventPlace.{EventPlace}
 use Rattle.msc_diagram.specs.declared.scenario.Scenario.{Scenario}
 use Rattle.msc_diagram.proofs.counting.see_cases.Goals as goal
 
-pub loop-scenario-preserved : goal.loop-scenario-preserved
-loop-scenario-preserved c =
+pub loop-i-preserved : goal.loop-i-preserved
+loop-i-preserved g c =
     let queues = c.args.queues in
-    let q = c.args.question in
+    let q = c.args.options in
     let old = c.args.answer.now in
-    let i = c.loop-scenario.scenario-index in
-    let so_far = c.loop-scenario.invariant in
+    let i = c.loop-i.i in
+    let so_far = c.loop-i.invariant in
+    let scenarios = g.S.Source.scenarios c.args.scenarios.now in
+    let scenario = c.get.result.now in
     let one = c.in_ok-see_case.ensures in
     let k = one.known in
-    let within : i < length c.args.scenarios.now = omega arith in
-    let joins : (Case → List (ℕ × ℕ)) → List (Place × Place) → Scenario → List (Place × Place) = λ pairs l x. above_with x l (pairs k) in
+    let within : i < length scenarios = subst (λ n. i < n) c.len-i-end.ensures c.loop-i-test.true in
+    let its : scenario ≡ get_or scenarios i scenario = sym (get_or_from_slice_get scenarios i scenario scenario (c.in_ok-scenario.ensures ∙ ap Some (sym c.get.ensures))) in
+    let joins : (Case → List (ℕ × ℕ)) → List (EventPlace × EventPlace) → Scenario → List (EventPlace × EventPlace) = λ pairs l x. above_with x l (pairs k) in
     record {
       cases = so_far.cases ++ k ∷ [];
-      are = known_more queues q.short c.args.scenarios.now i so_far.cases k c.scenario-item.result so_far.are one.is within (one.scenario ∙ c.scenario-item.is);
+      are = known_more queues q.short scenarios i so_far.cases k scenario so_far.are one.is within (one.scenario ∙ its);
       all = one.all ∙ ap₂ (joins (all_of queues)) so_far.all (sym one.scenario) ∙ sym (places_more (all_of queues) old.all so_far.cases k);
       counting = one.counting ∙ ap₂ (joins (counting_of queues q.allowed)) so_far.counting (sym one.scenario)
           ∙ sym (places_more (counting_of queues q.allowed) old.counting so_far.cases k);

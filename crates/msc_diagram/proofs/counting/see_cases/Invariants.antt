@@ -3,5 +3,5 @@ use Rattle.msc_diagram.specs.Telling.{SeesCases}
 use Rattle.msc_diagram.proofs.counting.see_cases.Given as goal
 
 -- the races of the scenarios so far were seen
-abbrev pub invariant-loop-scenario : goal.invariant-loop-scenario
-invariant-loop-scenario l = SeesCases (take l.scenario-index l.scenarios) l.queues l.question l.fn.answer l.answer
+abbrev pub invariant-loop-i : goal.invariant-loop-i
+invariant-loop-i g l = SeesCases (take l.i (g.S.Source.scenarios l.scenarios)) l.queues l.options l.fn.answer l.answer

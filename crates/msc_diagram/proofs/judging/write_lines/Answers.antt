@@ -8,10 +8,10 @@ use Rattle.msc_diagram.specs.Judging.{lines_in}
 use Rattle.msc_diagram.specs.Scenarios.{cases_text, diagram_head}
 use Rattle.msc_diagram.specs.Telling.{above_text, PutsCases, TellsCases}
 use Rattle.msc_diagram.specs.declared.cases.Asked.{Asked}
-use Rattle.msc_diagram.specs.declared.cases.Shape.TheVariants as shapes
-use Rattle.msc_diagram.specs.declared.judging.Form.TheVariants as forms
+use Rattle.msc_diagram.specs.declared.cases.RaceFormat.TheVariants as shapes
+use Rattle.msc_diagram.specs.declared.judging.DiagramFormat.TheVariants as formats
 use Rattle.msc_diagram.specs.declared.numbers.PlaceCounts.{PlaceCounts}
-use Rattle.msc_diagram.specs.declared.place.Place.{Place}
+use Rattle.msc_diagram.specs.declared.place.EventPlace.{EventPlace}
 use Rattle.msc_diagram.proofs.judging.write_lines.Goals as goal
 
 -- what stands above the scenarios is on the page
@@ -22,58 +22,58 @@ headed page top head above counts put is same text =
 pub returns-in_err-passed : goal.returns-in_err-passed
 returns-in_err-passed g c =
     let exit = err_from_is_err_and c.from_residual-in_err-passed.result c.from_residual-in_err-passed.ensures.1 in
-    let q = c.args.question in let look = c.args.look in let queues = c.args.queues in let scenarios = c.args.scenarios.now in
-    let a : Asked = record { queues = queues; question = q; shape = shapes.Lines look.words } in
-    let page : List ℕ = c.put_counts.new.page.bytes.items in
-    let last : List ℕ = c.put_cases.new.page.bytes.items in
+    let q = c.args.options in let diagram_style = c.args.diagram_style in let queues = c.args.queues in let scenarios = (g.S.Source.scenarios c.args.scenarios.now) in
+    let a : Asked = record { queues = queues; options = q; format = shapes.Lines diagram_style.words } in
+    let page : List ℕ = c.print_counts.new.page.bytes.items in
+    let last : List ℕ = c.print_cases.new.page.bytes.items in
     let f = c.in_err-passed.field-0.0 in
     let head : List ℕ = diagram_head c.args.name.now queues (length scenarios) in
-    let top = c.in_ok-put_top.ensures ∙ ap (λ (t : List ℕ). t ++ head) c.new-page.ensures in
-    let begins = above_begins scenarios queues q look c.in_ok-above.above c.in_ok-above.ensures in
-    rw (exit.1, exit.2) (all_stop g.W.Write.contents c.args.name.now scenarios queues q (forms.Lines look) a page (λ l cases are. are) begins.0 begins.1
-    (λ cases. headed page c.put_top.new.page.bytes.items head (above_text q c.in_ok-above.above) (counts_text q begins.0) c.in_ok-put_counts.ensures top begins.2
-    (cases_text (lines_in look.words) queues q 1 [] cases))
-    f c.args.writer.now c.put_cases.new.writer c.put_cases.new.seen last
-    (subst (λ (above : List (Place × Place)). TellsCases a scenarios above c.put_cases.new.seen (g.W.Write.contents c.args.writer.now) (g.W.Write.contents c.put_cases.new.writer) page last (Err f))
-    c.new-seen.ensures c.in_err-passed.ensures))
+    let top = c.in_ok-print_top.ensures ∙ ap (λ (t : List ℕ). t ++ diagram_head c.args.name.now queues c.len-count.result) c.new-page.ensures ∙ ap (λ (n : ℕ). diagram_head c.args.name.now queues n) c.len-count.ensures in
+    let begins = above_begins scenarios queues q diagram_style c.in_ok-above.above c.in_ok-above.ensures in
+    rw (exit.1, exit.2) (all_stop g.W.Write.contents c.args.name.now scenarios queues q (formats.Lines diagram_style) a page (λ l cases are. are) begins.0 begins.1
+    (λ cases. headed page c.print_top.new.page.bytes.items head (above_text q c.in_ok-above.above) (counts_text q begins.0) c.in_ok-print_counts.ensures top begins.2
+    (cases_text (lines_in diagram_style.words) queues q 1 [] cases))
+    f c.args.writer.now c.print_cases.new.writer c.print_cases.new.reported last
+    (subst (λ (above : List (EventPlace × EventPlace)). TellsCases a scenarios above c.print_cases.new.reported (g.W.Write.contents c.args.writer.now) (g.W.Write.contents c.print_cases.new.writer) page last (Err f))
+    c.new-reported.ensures c.in_err-passed.ensures))
 
-pub returns-in_err-put_bottom : goal.returns-in_err-put_bottom
-returns-in_err-put_bottom g c =
-    let exit = err_from_is_err_and c.from_residual-in_err-put_bottom.result c.from_residual-in_err-put_bottom.ensures.1 in
-    let q = c.args.question in let look = c.args.look in let queues = c.args.queues in let scenarios = c.args.scenarios.now in
-    let a : Asked = record { queues = queues; question = q; shape = shapes.Lines look.words } in
-    let page : List ℕ = c.put_counts.new.page.bytes.items in
-    let last : List ℕ = c.put_cases.new.page.bytes.items in
+pub returns-in_err-print_bottom : goal.returns-in_err-print_bottom
+returns-in_err-print_bottom g c =
+    let exit = err_from_is_err_and c.from_residual-in_err-print_bottom.result c.from_residual-in_err-print_bottom.ensures.1 in
+    let q = c.args.options in let diagram_style = c.args.diagram_style in let queues = c.args.queues in let scenarios = (g.S.Source.scenarios c.args.scenarios.now) in
+    let a : Asked = record { queues = queues; options = q; format = shapes.Lines diagram_style.words } in
+    let page : List ℕ = c.print_counts.new.page.bytes.items in
+    let last : List ℕ = c.print_cases.new.page.bytes.items in
     let head : List ℕ = diagram_head c.args.name.now queues (length scenarios) in
-    let top = c.in_ok-put_top.ensures ∙ ap (λ (t : List ℕ). t ++ head) c.new-page.ensures in
-    let begins = above_begins scenarios queues q look c.in_ok-above.above c.in_ok-above.ensures in
-    rw (exit.1, exit.2) (all_stop_below g.W.Write.contents c.args.name.now scenarios queues q (forms.Lines look) a page (λ l cases are. are) begins.0 begins.1
-    (λ cases. headed page c.put_top.new.page.bytes.items head (above_text q c.in_ok-above.above) (counts_text q begins.0) c.in_ok-put_counts.ensures top begins.2
-    (cases_text (lines_in look.words) queues q 1 [] cases))
-    c.args.writer.now c.put_cases.new.writer c.put_cases.new.seen last c.in_ok-passed.passed
-    (subst (λ (above : List (Place × Place)). PutsCases a scenarios above c.put_cases.new.seen (g.W.Write.contents c.args.writer.now) (g.W.Write.contents c.put_cases.new.writer) page last c.in_ok-passed.passed)
-    c.new-seen.ensures c.in_ok-passed.ensures))
+    let top = c.in_ok-print_top.ensures ∙ ap (λ (t : List ℕ). t ++ diagram_head c.args.name.now queues c.len-count.result) c.new-page.ensures ∙ ap (λ (n : ℕ). diagram_head c.args.name.now queues n) c.len-count.ensures in
+    let begins = above_begins scenarios queues q diagram_style c.in_ok-above.above c.in_ok-above.ensures in
+    rw (exit.1, exit.2) (all_stop_below g.W.Write.contents c.args.name.now scenarios queues q (formats.Lines diagram_style) a page (λ l cases are. are) begins.0 begins.1
+    (λ cases. headed page c.print_top.new.page.bytes.items head (above_text q c.in_ok-above.above) (counts_text q begins.0) c.in_ok-print_counts.ensures top begins.2
+    (cases_text (lines_in diagram_style.words) queues q 1 [] cases))
+    c.args.writer.now c.print_cases.new.writer c.print_cases.new.reported last c.in_ok-passed.passed
+    (subst (λ (above : List (EventPlace × EventPlace)). PutsCases a scenarios above c.print_cases.new.reported (g.W.Write.contents c.args.writer.now) (g.W.Write.contents c.print_cases.new.writer) page last c.in_ok-passed.passed)
+    c.new-reported.ensures c.in_ok-passed.ensures))
 
 pub returns : goal.returns
 returns g c =
-    let q = c.args.question in let look = c.args.look in let queues = c.args.queues in let scenarios = c.args.scenarios.now in
-    let a : Asked = record { queues = queues; question = q; shape = shapes.Lines look.words } in
-    let page : List ℕ = c.put_counts.new.page.bytes.items in
-    let last : List ℕ = c.put_cases.new.page.bytes.items in
-    let final : List ℕ = c.put_bottom.new.page.bytes.items in
+    let q = c.args.options in let diagram_style = c.args.diagram_style in let queues = c.args.queues in let scenarios = (g.S.Source.scenarios c.args.scenarios.now) in
+    let a : Asked = record { queues = queues; options = q; format = shapes.Lines diagram_style.words } in
+    let page : List ℕ = c.print_counts.new.page.bytes.items in
+    let last : List ℕ = c.print_cases.new.page.bytes.items in
+    let final : List ℕ = c.print_bottom.new.page.bytes.items in
     let passed = c.in_ok-passed.passed in
     let above = c.in_ok-above.above in
     let counts = c.counts_from-counts.result in
     let head : List ℕ = diagram_head c.args.name.now queues (length scenarios) in
-    let top = c.in_ok-put_top.ensures ∙ ap (λ (t : List ℕ). t ++ head) c.new-page.ensures in
-    let p = subst (λ (above : List (Place × Place)). PutsCases a scenarios above c.put_cases.new.seen (g.W.Write.contents c.args.writer.now) (g.W.Write.contents c.put_cases.new.writer) page last passed)
-    c.new-seen.ensures c.in_ok-passed.ensures in
-    let same = c.counts_from-counts.ensures ∙ counts_agree scenarios queues q above p.cases c.len.result c.in_ok-above.ensures p.are (c.len.ensures.value ∙ ap length p.seen) in
-    all_end g.W.Write.contents c.args.name.now scenarios queues q (forms.Lines look) a page (λ l cases are. are)
-    c.args.writer.now c.put_cases.new.writer c.write_all.new.self c.put_cases.new.seen last final (diagram_end look.drawn counts passed) passed _
-    p (headed page c.put_top.new.page.bytes.items head (above_text q above) (counts_text q (place_counts queues q p.cases)) c.in_ok-put_counts.ensures top
-    (above_agrees scenarios queues q above p.cases c.in_ok-above.ensures p.are) (cases_text (lines_in look.words) queues q 1 [] p.cases))
-    c.in_ok-put_bottom.ensures
-    (ap₂ (λ (k : PlaceCounts) (m : ℕ). diagram_end look.drawn k m) same p.counted)
+    let top = c.in_ok-print_top.ensures ∙ ap (λ (t : List ℕ). t ++ diagram_head c.args.name.now queues c.len-count.result) c.new-page.ensures ∙ ap (λ (n : ℕ). diagram_head c.args.name.now queues n) c.len-count.ensures in
+    let p = subst (λ (above : List (EventPlace × EventPlace)). PutsCases a scenarios above c.print_cases.new.reported (g.W.Write.contents c.args.writer.now) (g.W.Write.contents c.print_cases.new.writer) page last passed)
+    c.new-reported.ensures c.in_ok-passed.ensures in
+    let same = c.counts_from-counts.ensures ∙ counts_agree scenarios queues q above p.cases c.len.result c.in_ok-above.ensures p.are (c.len.ensures.value ∙ ap length p.reported) in
+    all_end g.W.Write.contents c.args.name.now scenarios queues q (formats.Lines diagram_style) a page (λ l cases are. are)
+    c.args.writer.now c.print_cases.new.writer c.write_all.new.self c.print_cases.new.reported last final (diagram_end diagram_style.drawn counts passed) passed _
+    p (headed page c.print_top.new.page.bytes.items head (above_text q above) (counts_text q (place_counts queues q p.cases)) c.in_ok-print_counts.ensures top
+    (above_agrees scenarios queues q above p.cases c.in_ok-above.ensures p.are) (cases_text (lines_in diagram_style.words) queues q 1 [] p.cases))
+    c.in_ok-print_bottom.ensures
+    (ap₂ (λ (k : PlaceCounts) (m : ℕ). diagram_end diagram_style.drawn k m) same p.counted)
     (ap (λ (k : PlaceCounts). k.listed) same)
-    (subst (Appends (g.W.Write.contents c.put_cases.new.writer) (g.W.Write.contents c.write_all.new.self)) c.as_slice.ensures.value c.in_ok-write_all.ensures.bytes)
+    (subst (Appends (g.W.Write.contents c.print_cases.new.writer) (g.W.Write.contents c.write_all.new.self)) c.as_slice.ensures.value c.in_ok-write_all.ensures.bytes)

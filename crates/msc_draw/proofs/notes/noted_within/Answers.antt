@@ -10,7 +10,7 @@ loop-x-init c =
 pub loop-x-preserved : goal.loop-x-preserved
 loop-x-preserved c =
     let x = c.loop-x.x in
-    filter_next (λ y. get_or c.args.table.now y false) x _ _ c.loop-x.invariant c.in_ok-put_if.ensures
+    filter_next (λ y. get_or c.args.table.now y false) x _ _ c.loop-x.invariant c.in_ok-print_if.ensures
 
 pub returns : goal.returns
 returns c =

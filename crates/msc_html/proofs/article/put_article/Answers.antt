@@ -1,10 +1,10 @@
 use Rattle.std.proofs.Common.{[], ◌∷◌, codes}
 use Rattle.std.specs.Prelude.{option_map}
 use Rattle.msc_html.proofs.Blocks.{put_block}
-use Rattle.msc_html.specs.declared.part.Look.TheVariants.{Plain}
+use Rattle.msc_html.specs.declared.part.SentenceStyle.TheVariants.{Plain}
 use Rattle.msc_html.specs.Articles.{place_text, run_node, told_nodes}
 use Rattle.msc_html.specs.Parts.{sentence}
-use Rattle.msc_html.specs.Telling.{drawn_parts, lacks_parts, reason_parts, title_parts}
+use Rattle.msc_html.specs.Telling.{drawn_parts, causes_parts, reason_parts, title_parts}
 use Rattle.msc_svg.proofs.Chains.{then_line}
 use Rattle.msc_tree.specs.Shapes.{valued}
 use Rattle.msc_html.proofs.article.put_article.Goals as goal
@@ -19,10 +19,10 @@ returns c =
     let run = run_node c.args.queues t (option_map (λ s. s.now) c.args.run) in
     put_block c.args.page.now.items p q c.extend_from_slice.new.self.items (codes "article")
     (valued (codes "id") (place_text t.number) ∷ [])
-    (sentence (codes "h3") Plain (title_parts s t.number t.first t.lack))
+    (sentence (codes "h3") Plain (title_parts s t.number t.first t.cause))
     (sentence (codes "p") Plain (drawn_parts s t.first t.second)
-    ∷ sentence (codes "p") Plain (reason_parts s t.first t.second t.lack)
-    ∷ sentence (codes "p") Plain (lacks_parts s t.lack) ∷ run ∷ [])
+    ∷ sentence (codes "p") Plain (reason_parts s t.first t.second t.cause)
+    ∷ sentence (codes "p") Plain (causes_parts s t.cause) ∷ run ∷ [])
     c.in_ok-put_article_begin.ensures
     (then_line p r q (told_nodes s t) run c.in_ok-put_told.ensures c.in_ok-put_run.ensures)
     c.in_ok-extend_from_slice.ensures.items

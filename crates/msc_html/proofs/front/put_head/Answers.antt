@@ -18,12 +18,12 @@ returns c =
     let metas : List Node = named_meta (codes "viewport") (codes "width=device-width,initial-scale=1")
     ∷ named_meta (codes "color-scheme") (codes "light dark") ∷ [] in
     let title : Node = plain (codes "title") c.args.title.now in
-    let looks : Node = plain (codes "style") sheet in
+    let styles : Node = plain (codes "style") sheet in
     put_block c.args.page.now.items p q c.extend_from_slice-3.new.self.items (codes "head") [] charset
     (named_meta (codes "viewport") (codes "width=device-width,initial-scale=1")
-    ∷ named_meta (codes "color-scheme") (codes "light dark") ∷ title ∷ looks ∷ [])
+    ∷ named_meta (codes "color-scheme") (codes "light dark") ∷ title ∷ styles ∷ [])
     c.in_ok-extend_from_slice.ensures.items
-    (lines_behind p r q (charset ∷ metas) (title ∷ looks ∷ []) c.in_ok-extend_from_slice-2.ensures.items
-    (line_then r t q title (looks ∷ []) c.in_ok-put_plain.ensures
-    (as_lines t q looks c.in_ok-put_sheet.ensures)))
+    (lines_behind p r q (charset ∷ metas) (title ∷ styles ∷ []) c.in_ok-extend_from_slice-2.ensures.items
+    (line_then r t q title (styles ∷ []) c.in_ok-put_plain.ensures
+    (as_lines t q styles c.in_ok-put_sheet.ensures)))
     c.in_ok-extend_from_slice-3.ensures.items

@@ -1,5 +1,5 @@
 use Rattle.std.proofs.Common.{[], ◌∷◌, codes}
-use Rattle.msc_html.specs.declared.part.Look.TheVariants.{Soft}
+use Rattle.msc_html.specs.declared.part.SentenceStyle.TheVariants.{Soft}
 use Rattle.msc_html.specs.Parts.{sentence, words}
 use Rattle.msc_html.specs.Reports.{checked_text}
 use Rattle.msc_svg.proofs.Chains.{as_lines, line_then}

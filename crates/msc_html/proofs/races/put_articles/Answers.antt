@@ -1,6 +1,7 @@
 use Rattle.std.proofs.Common.{◌≡◌, ◌+◌, ◌++◌, ℕ, List, length, arith, refl, sym, ap, subst, ◌∙◌}
 use Rattle.std.specs.List.{flat_map, range_with_len}
-use Rattle.msc_draw.proofs.Listings.{flat_next, listed_whole}
+use Rattle.msc_draw.proofs.Listings.{listed_whole}
+use Rattle.msc_picture.proofs.Ranges.{flat_next}
 use Rattle.msc_draw.specs.Listed.{listed_at}
 use Rattle.msc_judge.proofs.Asked.{are_races}
 use Rattle.msc_race.specs.Views.{AreRacesOf}
@@ -18,7 +19,7 @@ loop-e-init c = record {
 pub put_races-requires-clause-races : goal.put_races-requires-clause-races
 put_races-requires-clause-races c =
     let s = c.args.source.now.listing.now in
-    let is = subst (λ (e : EnforcedChart). IsEnforced e) c.enforced.ensures c.enforced-2.ensures.order in
+    let is = subst (λ (e : EnforcedChart). IsEnforced e) c.enforced.ensures c.facts.ensures.order in
     let list = c.as_slice.ensures.value ∙ c.in_ok-next.ensures.list in
     subst (AreRacesOf s.judged) (sym list) (are_races s.judged is s.allowed s.closest c.loop-e.e)
 

@@ -2,7 +2,7 @@ use Rattle.std.proofs.Common.{◌<◌, ◌≤◌, ◌++◌, None, Some, length, 
 use Rattle.msc_chart.specs.declared.queue.Queues.{Queues}
 use Rattle.msc_race.specs.Wired.{EnforcedChart}
 use Rattle.msc_html.specs.Articles.{article, article_node}
-use Rattle.msc_html.specs.Progress.GoesOn.{draws, lacks, left}
+use Rattle.msc_html.specs.Progress.GoesOn.{draws, causes, left}
 use Rattle.msc_tree.specs.Trees.{line_text}
 use Rattle.msc_html.proofs.races.put_run_article.Goals as goal
 
@@ -20,7 +20,7 @@ returns-then-rows-progress-clause-article c =
     let same = c.queues-queues.ensures ∙ ap (λ (x : EnforcedChart). x.queues) c.enforced.ensures in
     let wide : c.args.progress.now.room < length c.in_ok-run.run'.rows = omega (arith, c.if-rows-progress.true, ap length c.as_slice-rows.ensures) in (
       None,
-      lacks c.in_ok-run.run' c.if-progress.false c.in_ok-run.ensures wide refl refl,
+      causes c.in_ok-run.run' c.if-progress.false c.in_ok-run.ensures wide refl refl,
       c.in_ok-put_article-2.ensures
           ∙ ap (λ (q : Queues). c.args.page.now.items ++ line_text (article_node c.args.source.now.scene.now q (article c.args.told None))) same,
     )

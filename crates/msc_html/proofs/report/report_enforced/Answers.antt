@@ -8,7 +8,7 @@ use Rattle.msc_race.specs.Views.{wiring_of}
 use Rattle.msc_race.specs.Wired.{EnforcedChart}
 use Rattle.msc_reason.specs.Closest.{IsClosestList}
 use Rattle.msc_reason.specs.LeftOut.{leaves_none}
-use Rattle.msc_reason.specs.Marked.{lack_in}
+use Rattle.msc_reason.specs.Marked.{cause_in}
 use Rattle.msc_reason.specs.Selected.{Selected}
 use Rattle.msc_html.proofs.report.report_enforced.Goals as goal
 
@@ -17,16 +17,16 @@ returns c =
     let e = c.args.enforced in
     let draft = c.args.draft.now in
     let version = c.args.version.now in
-    let lacks = c.what_counts_is_listed.ensures.lacks e c.enforced.ensures.order c.enforced.ensures.chart in
-    let all = c.every_race_that_counts_spans_a_closest_one.ensures.list e c.enforced.ensures.order
-    c.enforced.ensures.chart _ (lack_in e) lacks (ap leaves_none c.of_kinds.ensures) in
+    let causes = c.what_counts_is_listed.ensures.causes e c.facts.ensures.order c.facts.ensures.chart in
+    let all = c.every_race_that_counts_spans_a_closest_one.ensures.list e c.facts.ensures.order
+    c.facts.ensures.chart _ (cause_in e) causes (ap leaves_none c.of_kinds.ensures) in
     let s = c.in_ok-listing.listing in
     let judged = ap (λ (x : Selected). x.judged) c.in_ok-listing.ensures in
     let told = c.in_ok-page.ensures in
     let closest = listed_of s in
     record {
       order = e.order;
-      by_order = c.enforced.ensures.order;
+      by_order = c.facts.ensures.order;
       closest = closest;
       are = subst (λ (x : Selected). IsClosestList (wiring_of e) (listed_of x))
           (sym c.in_ok-listing.ensures) all;

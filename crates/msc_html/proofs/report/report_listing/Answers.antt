@@ -2,8 +2,9 @@ use Rattle.std.proofs.Common.{◌≡◌, ℕ, List, length, ap, sym, subst, ◌+
 use Rattle.msc_chart.specs.Drawings.{Drawing}
 use Rattle.msc_draw.specs.Listed.{listed_of}
 use Rattle.msc_html.specs.Reports.{report, report_text}
-use Rattle.msc_picture.specs.Marks.{marks_of}
-use Rattle.msc_picture.specs.Scenes.{IsSceneOf}
+use Rattle.msc_picture.specs.Bars.{bars_of}
+use Rattle.msc_picture.specs.declared.scene.RaceBar.{RaceBar}
+use Rattle.msc_picture.specs.Scenes.{IsMarkedSceneOf, IsSceneOf}
 use Rattle.msc_race.specs.Wired.{EnforcedChart}
 use Rattle.msc_html.proofs.report.report_listing.Goals as goal
 
@@ -14,18 +15,18 @@ returns c =
     let scene = c.in_ok-scene.scene in
     let chart : c.chart-chart.result.now ≡ s.judged.chart =
     c.chart-chart.ensures ∙ ap (λ (x : EnforcedChart). x.chart) c.enforced.ensures in
-    let marks = c.in_ok-marks.ensures.marks
-    ∙ ap (λ (d : Drawing). marks_of d.events (listed_of s)) (sym chart) in
+    let bars = c.in_ok-bars.ensures.bars
+    ∙ ap (λ (d : Drawing). bars_of d.events (listed_of s)) (sym chart) in
     let text = c.deref.ensures.value ∙ c.in_ok-text.ensures.text in
     record {
       scene = scene;
       right = subst (λ (d : Drawing). IsSceneOf c.args.draft.now d (listed_of s) scene) chart
-          (c.in_ok-scene.ensures (listed_of s) marks);
+          (subst (λ (m : List RaceBar). IsMarkedSceneOf c.args.draft.now c.chart-chart.result.now m scene) bars c.in_ok-scene.ensures);
       articles = told.articles;
       many = told.many;
       are = told.are;
       text = told.page_is
-          ∙ ap (λ (l : List ℕ). l ++ report_text (report s.judged.queues c.args.races c.in_ok-marks.closest scene told.articles c.deref.result.now c.args.version.now)) c.new-bytes.ensures.items
-          ∙ ap (λ (n : ℕ). report_text (report s.judged.queues c.args.races n scene told.articles c.deref.result.now c.args.version.now)) c.in_ok-marks.ensures.told
+          ∙ ap (λ (l : List ℕ). l ++ report_text (report s.judged.queues c.args.races c.in_ok-bars.closest scene told.articles c.deref.result.now c.args.version.now)) c.new-bytes.ensures.items
+          ∙ ap (λ (n : ℕ). report_text (report s.judged.queues c.args.races n scene told.articles c.deref.result.now c.args.version.now)) c.in_ok-bars.ensures.told
           ∙ ap (λ (t : List ℕ). report_text (report s.judged.queues c.args.races (length (listed_of s)) scene told.articles t c.args.version.now)) text;
     }

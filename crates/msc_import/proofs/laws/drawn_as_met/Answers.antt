@@ -1,4 +1,4 @@
-use Rattle.msc_import.proofs.CourseSegments.{history_segments}
+use Rattle.msc_import.proofs.PathSegments.{history_segments}
 use Rattle.msc_import.proofs.SegmentLemmas.{line_segments}
 use Rattle.msc_import.proofs.TogetherLemmas.{line_planned}
 use Rattle.msc_import.proofs.laws.drawn_as_met.Goals as goal

@@ -10,5 +10,4 @@ returns c = record {
   all = λ x text all s e o.
       let r = all_scenario x text all s e o in
       (scenario_drawn (all_read_as x) x.manner text r.0 s.choices s.draft r.1).faultless;
-  first = λ draft f none is. none f is.stands;
 }

@@ -4,7 +4,7 @@ use Rattle.msc_instance.proofs.counting.count.Goals as goal
 
 pub bounds-counts-q : goal.bounds-counts-q
 bounds-counts-q c =
-    place_in c.args.queues c.args.chart.now c.accepted.ensures c.loop-m.m (omega arith)
+    place_in c.args.queues c.args.chart.now c.facts.ensures c.loop-m.m (omega arith)
     c.events_have_queues.ensures c.queue_numbers_are_bounded.ensures.numbers
     c.instances-instances.result c.queue-q.result c.sender.result c.loop-m.counts
     c.instances-instances.ensures.number c.queue-q.ensures c.sender.ensures.known
@@ -12,7 +12,7 @@ bounds-counts-q c =
 
 pub bounds-counts-q-in-loop-m : goal.bounds-counts-q-in-loop-m
 bounds-counts-q-in-loop-m c =
-    place_in c.args.queues c.args.chart.now c.accepted.ensures c.loop-m.m (omega arith)
+    place_in c.args.queues c.args.chart.now c.facts.ensures c.loop-m.m (omega arith)
     c.events_have_queues.ensures c.queue_numbers_are_bounded.ensures.numbers
     c.instances-instances.result c.queue-q.result c.sender.result c.loop-m.counts
     c.instances-instances.ensures.number c.queue-q.ensures c.sender.ensures.known
@@ -27,7 +27,7 @@ overflow_add-counts-in-loop-m c =
 
 pub bounds-receivers-q : goal.bounds-receivers-q
 bounds-receivers-q c =
-    let q = queue_small c.args.queues c.args.chart.now c.accepted.ensures c.loop-m.m (omega arith)
+    let q = queue_small c.args.queues c.args.chart.now c.facts.ensures c.loop-m.m (omega arith)
     c.events_have_queues.ensures c.queue_numbers_are_bounded.ensures.numbers in
     omega (arith, q)
 
@@ -38,7 +38,7 @@ loop-m-preserved c =
     let place_is' = place_is c.args.queues d c.loop-m.m c.instances-instances.result
     c.queue-q.result c.sender.result c.instances-instances.ensures.number c.queue-q.ensures
     c.sender.ensures.value in
-    let bounded = c.queues_are_bounded.ensures c.args.queues d c.loop-m.m c.accepted.ensures
+    let bounded = c.queues_are_bounded.ensures c.args.queues d c.loop-m.m c.facts.ensures
     (omega arith) in
     record {
       counts = counted_more c.args.queues d c.loop-m.m c.loop-m.counts place place_is'

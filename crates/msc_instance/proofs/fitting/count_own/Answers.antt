@@ -9,13 +9,13 @@ use Rattle.msc_instance.proofs.fitting.count_own.Goals as goal
 
 pub bounds-sent-q : goal.bounds-sent-q
 bounds-sent-q c =
-    let q = queue_small c.args.queues c.args.chart.now c.accepted.ensures c.loop-m.m (omega arith)
+    let q = queue_small c.args.queues c.args.chart.now c.facts.ensures c.loop-m.m (omega arith)
     c.events_have_queues.ensures c.queue_numbers_are_bounded.ensures.numbers in
     omega (arith, q)
 
 pub bounds-sent-q-in-loop-m : goal.bounds-sent-q-in-loop-m
 bounds-sent-q-in-loop-m c =
-    let q = queue_small c.args.queues c.args.chart.now c.accepted.ensures c.loop-m.m (omega arith)
+    let q = queue_small c.args.queues c.args.chart.now c.facts.ensures c.loop-m.m (omega arith)
     c.events_have_queues.ensures c.queue_numbers_are_bounded.ensures.numbers in
     omega (arith, q)
 
@@ -29,13 +29,13 @@ overflow_add-sent c =
 
 pub bounds-taken-q : goal.bounds-taken-q
 bounds-taken-q c =
-    let q = queue_small c.args.queues c.args.chart.now c.accepted.ensures c.loop-m.m (omega arith)
+    let q = queue_small c.args.queues c.args.chart.now c.facts.ensures c.loop-m.m (omega arith)
     c.events_have_queues.ensures c.queue_numbers_are_bounded.ensures.numbers in
     omega (arith, q)
 
 pub bounds-taken-q-in-loop-m : goal.bounds-taken-q-in-loop-m
 bounds-taken-q-in-loop-m c =
-    let q = queue_small c.args.queues c.args.chart.now c.accepted.ensures c.loop-m.m (omega arith)
+    let q = queue_small c.args.queues c.args.chart.now c.facts.ensures c.loop-m.m (omega arith)
     c.events_have_queues.ensures c.queue_numbers_are_bounded.ensures.numbers in
     omega (arith, q)
 
@@ -79,7 +79,7 @@ pub returns-clause-quotas : goal.returns-clause-quotas
 returns-clause-quotas c =
     let done : c.loop-m.m ≡ length c.args.chart.now.messages = omega arith in
     counts_all c.args.queues c.args.chart.now c.args.i c.loop-m.sent (omega arith)
-    c.accepted.ensures
+    c.facts.ensures
     c.events_have_queues.ensures c.queue_numbers_are_bounded.ensures.numbers
     (subst (λ n. AreCountsOf (sender_of c.args.chart.now) c.args.queues c.args.chart.now c.args.i n
     c.loop-m.sent)

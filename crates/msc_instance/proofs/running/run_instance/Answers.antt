@@ -30,7 +30,7 @@ run-last-requires g c =
         quotas = c.logs_keep_quotas.ensures;
         own = c.inlets_bring_own.ensures;
       };
-      accepted = c.accepted.ensures;
+      accepted = c.facts.ensures;
       line = c.line-start.ensures.range;
       ordered = omega (arith, within.0, first, past);
       within = omega (arith, within.1, past);

@@ -40,7 +40,7 @@ overflow_add-number c =
     let i = c.loop-ends.invariant in
     let is = next_is _ _ _ _ _ _ c.into_iter-ends-iterator.ensures.into_iter_gives.0 i.whole c.in-Some.ensures.steps.0 in
     let known = next_known c.args.queues c.args.chart.now c.in_ok-all.all.items c.loop-ends.yielded _ c.in-Some.ends is c.in_ok-all.ensures.wiring.many in
-    omega (arith, known, i.number, c.accepted.ensures.few_instances)
+    omega (arith, known, i.number, c.facts.ensures.few_instances)
 
 pub loop-ends-preserved : goal.loop-ends-preserved
 loop-ends-preserved c =

@@ -1,19 +1,35 @@
-use Rattle.std.proofs.Common.{subst}
+use Rattle.std.proofs.Common.{◌≡◌, ℕ, List, Err, ap, ◌∙◌, subst}
+use Rattle.std.specs.Result.{IfOk}
 use Rattle.std.proofs.lemmas.Result.{err_from_is_err_and}
+use Rattle.msc_print.specs.Pages.{Writes}
+use Rattle.msc_race.specs.Views.{wiring_of}
+use Rattle.msc_reason.specs.Marked.{cause_in}
 use Rattle.msc_reason.specs.Selected.{Selected}
-use Rattle.msc_judge.proofs.Asked.{all_tables, tables_of}
-use Rattle.msc_judge.proofs.Putting.{begins_none}
-use Rattle.msc_judge.specs.Findings.{texts, Answers}
+use Rattle.msc_judge.specs.Findings.{passes, texts, AreShown}
+use Rattle.msc_judge.specs.Telling.{listed_text}
+use Rattle.msc_judge.proofs.Answered.{answers_list, answers_nothing}
 use Rattle.msc_judge.proofs.judging.judge.Goals as goal
 
 pub returns-in_err-listing : goal.returns-in_err-listing
 returns-in_err-listing g c =
     let exit = err_from_is_err_and c.from_residual.result c.from_residual.ensures.1 in
-    let tables = all_tables c.args.enforced c.enforced.ensures.order c.enforced.ensures.chart c.the_chosen_run_reverses.ensures.exists c.short_runs_show.ensures.exists in
-    rw (exit.1, exit.2) (record { tables = tables_of c.args.enforced tables.0 tables.1; are = tables.2; written = begins_none _ _; passed = tt })
+    answers_nothing c.the_witness_reverses.ensures.exists c.short_witnesses_show.ensures.exists _ _ _ c.facts.ensures.order c.facts.ensures.chart _ _ _ (exit.1 ∙ ap Err exit.2)
+
+pub returns-in_err-heading_of : goal.returns-in_err-heading_of
+returns-in_err-heading_of g c =
+    let exit = err_from_is_err_and c.from_residual-in_err-heading_of.result c.from_residual-in_err-heading_of.ensures.1 in
+    answers_nothing c.the_witness_reverses.ensures.exists c.short_witnesses_show.ensures.exists _ _ _ c.facts.ensures.order c.facts.ensures.chart _ _ _ (exit.1 ∙ ap Err exit.2)
 
 pub returns : goal.returns
 returns g c =
     let r = g.R.Renderer in
-    subst (λ (s : Selected). Answers s.judged c.args.question c.args.marking (texts r.heading_text r.run_text r.finding_text r.end_text c.args.renderer.now s.judged.chart)
-    c.write_listed.result (g.W.Write.contents c.args.writer.now) (g.W.Write.contents c.write_listed.new.writer)) c.in_ok-listing.ensures c.write_listed.ensures
+    let q = c.args.check.options in
+    let m = c.args.check.marking in
+    let s = c.args.check.renderer.now in
+    let before = g.W.Write.contents c.args.writer.now in
+    let after = g.W.Write.contents c.write_by.new.writer in
+    answers_list c.the_witness_reverses.ensures.exists c.short_witnesses_show.ensures.exists q m c.args.check.enforced c.facts.ensures.order c.facts.ensures.chart
+    (texts r.heading_text r.run_text r.finding_text r.end_text s c.args.check.enforced.chart) c.write_by.result before after
+    (subst (λ (x : Selected). (text : List ℕ) → (runs : ℕ × ℕ → List ℕ) × AreShown q.short (wiring_of x.judged) runs
+    × (text ≡ listed_text (texts r.heading_text r.run_text r.finding_text r.end_text s x.judged.chart) x.judged q m runs) → Writes c.write_by.result before after text) c.in_ok-listing.ensures c.write_by.ensures.written)
+    (subst (λ (x : Selected). IfOk c.write_by.result (λ passed. passed ≡ passes x.judged q m (cause_in x.judged))) c.in_ok-listing.ensures c.write_by.ensures.answer)

@@ -2,7 +2,9 @@ use Rattle.std.proofs.Common.{drop, sym, ap, ◌∙◌, ◌+◌}
 use Rattle.std.proofs.lemmas.List.{take_rest}
 use Rattle.msc_lexer.specs.Lexemes.{lexemes}
 use Rattle.msc_mark.specs.Comments.{comment_in, first_text}
-use Rattle.msc_mark.proofs.Steps.{seen_at, seen_more, seen_all, comment_none, comment_here, comment_later, comment_nowhere}
+use Rattle.msc_mark.proofs.Steps.{seen_at, comment_none, comment_here, comment_later, comment_nowhere}
+use Rattle.msc_place.proofs.Collected.{seen_all}
+use Rattle.msc_place.proofs.Collected.{seen_more}
 use Rattle.msc_mark.proofs.comment.comment_in.Goals as goal
 
 pub returns-then-is_semicolon-clause-value : goal.returns-then-is_semicolon-clause-value

@@ -2,7 +2,7 @@ use Rattle.std.proofs.Common.{◌≡◌, Some, slice_get, sym, ap, subst, ◌∙
 use Rattle.std.proofs.lemmas.Result.{IfOk-weaker}
 use Rattle.msc_parser.specs.declared.tree.Signal.{Signal}
 use Rattle.msc_parser.specs.declared.tree.Statement.TheVariants.{Message}
-use Rattle.msc_notes.specs.Told.{BeginWith, name_note}
+use Rattle.msc_notes.specs.FaultNotes.{BeginWith, name_note}
 use Rattle.msc_notes.proofs.ChartPlaces.{statements_same}
 use Rattle.msc_notes.proofs.chart.address_notes.Goals as goal
 

@@ -1,5 +1,5 @@
 use Rattle.std.proofs.Common.{subst}
-use Rattle.msc_notes.specs.Told.{HasNoMessageAt, IsFirstLike}
+use Rattle.msc_notes.specs.FaultNotes.{HasNoMessageAt, IsFirstLike}
 use Rattle.msc_notes.proofs.Acts.{acts_same, like_begins}
 use Rattle.msc_notes.proofs.chart.first_like.Goals as goal
 

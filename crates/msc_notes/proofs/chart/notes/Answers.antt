@@ -1,6 +1,6 @@
 use Rattle.std.proofs.Common.{subst, sym}
 use Rattle.std.proofs.lemmas.Result.{IfOk-weaker}
-use Rattle.msc_notes.specs.Told.{AreChartNotes}
+use Rattle.msc_notes.specs.FaultNotes.{AreChartNotes}
 use Rattle.msc_notes.proofs.chart.notes.Goals as goal
 
 pub returns-in-TwiceInstance : goal.returns-in-TwiceInstance

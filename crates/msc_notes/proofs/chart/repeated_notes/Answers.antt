@@ -1,7 +1,7 @@
 use Rattle.std.proofs.Common.{◌<◌, length, subst, arith}
 use Rattle.std.proofs.lemmas.Option.{slice_get_within}
 use Rattle.std.proofs.lemmas.Result.{IfOk-weaker}
-use Rattle.msc_notes.specs.Told.{AreOfName}
+use Rattle.msc_notes.specs.FaultNotes.{AreOfName}
 use Rattle.msc_notes.proofs.Named.{repeated}
 use Rattle.msc_notes.proofs.chart.repeated_notes.Goals as goal
 

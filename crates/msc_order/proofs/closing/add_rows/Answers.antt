@@ -25,7 +25,7 @@ add_row-requires-clause-later c f v =
     let i : ℕ = length order - 1 - c.loop-done.done in
     let same : i + 1 ≡ length order - c.loop-done.done = omega arith in
     let after = behind events order c.linear_order-order.ensures i (omega arith) f v in
-    c.loop-done.invariant.rows f (visual_below events c.accepted.ensures.matched _ f v).1 (subst (λ (k : ℕ). IsBehind order k f) same after)
+    c.loop-done.invariant.rows f (visual_below events c.facts.ensures.matched _ f v).1 (subst (λ (k : ℕ). IsBehind order k f) same after)
 
 pub loop-done-preserved : goal.loop-done-preserved
 loop-done-preserved c =
@@ -52,6 +52,6 @@ returns c =
     record {
       sound = c.loop-done.invariant.begun.sound;
       complete = λ x y h.
-          c.loop-done.invariant.rows x (led_below events c.args.inputs c.accepted.ensures.matched x y h).0
+          c.loop-done.invariant.rows x (led_below events c.args.inputs c.facts.ensures.matched x y h).0
           (subst (λ (k : ℕ). IsBehind order k x) (sym none) (nothing_behind order x)) y h;
     }

@@ -40,7 +40,7 @@ put-requires-clause-column c = rw c.events-events.ensures.number (output_parts c
 pub returns-clause-between : goal.returns-clause-between
 returns-clause-between c =
     let w = c.args.wiring.now in
-    let wires = c.ends_share_queues.ensures w.queues w.chart.now c.accepted.ensures in
+    let wires = c.ends_share_queues.ensures w.queues w.chart.now c.facts.ensures in
     (queue_added (wired_by w) wires (cell (size w) c.args.words.now) (cell (size w) c.args.masks.now) (cell (size w) c.take_row.new.words) c.args.s
     (has c.common.new.left) (has c.renew.new.taken) c.requires.output c.requires.between c.requires.seen c.requires.later
     (rw (c.events-events.ensures.number, c.queue-q.ensures) at c.common.ensures) c.renew.ensures.taken
@@ -49,7 +49,7 @@ returns-clause-between c =
 pub returns-clause-seen : goal.returns-clause-seen
 returns-clause-seen c =
     let w = c.args.wiring.now in
-    let wires = c.ends_share_queues.ensures w.queues w.chart.now c.accepted.ensures in
+    let wires = c.ends_share_queues.ensures w.queues w.chart.now c.facts.ensures in
     let added = queue_added (wired_by w) wires (cell (size w) c.args.words.now) (cell (size w) c.args.masks.now) (cell (size w) c.take_row.new.words) c.args.s
     (has c.common.new.left) (has c.renew.new.taken) c.requires.output c.requires.between c.requires.seen c.requires.later
     (rw (c.events-events.ensures.number, c.queue-q.ensures) at c.common.ensures) c.renew.ensures.taken

@@ -87,9 +87,9 @@ returns-clause-enforced c =
     let w = c.args.wiring.now in
     let order = c.linear_order-order.result.now in
     let none : length order - c.loop-done.done ≡ 0 = omega arith in
-    enforced_all (wired_by w) (c.ends_share_queues.ensures w.queues w.chart.now c.accepted.ensures) (cell (size w) c.loop-done.words) c.loop-done.invariant.between
+    enforced_all (wired_by w) (c.ends_share_queues.ensures w.queues w.chart.now c.facts.ensures) (cell (size w) c.loop-done.words) c.loop-done.invariant.between
     (λ s o. (c.loop-done.invariant.shown (queue (wired_by w) s) s (c.loop-done.invariant.behind s o (subst (λ (k : ℕ). IsBehind order k s) (sym none) (nothing_behind order s)))).1)
 
 pub returns-clause-tight : goal.returns-clause-tight
 returns-clause-tight c x y h =
-    (enforced_below (wired_by c.args.wiring.now) c.accepted.ensures.matched x y (c.loop-done.invariant.between.enforced x y h)).1
+    (enforced_below (wired_by c.args.wiring.now) c.facts.ensures.matched x y (c.loop-done.invariant.between.enforced x y h)).1

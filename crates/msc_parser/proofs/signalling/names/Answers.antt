@@ -1,6 +1,6 @@
 use Rattle.std.proofs.Common.{refl}
 use Rattle.msc_parser.specs.Forms.{IsNamed}
-use Rattle.msc_parser.specs.declared.tree.Way.TheVariants.{Output}
+use Rattle.msc_parser.specs.declared.tree.Direction.TheVariants.{Output}
 use Rattle.msc_parser.specs.Places.{Start, Parameters, Parameter, AfterParameter}
 use Rattle.msc_parser.proofs.Steps.{exits}
 use Rattle.msc_parser.proofs.Endings.{within_others}

@@ -1,5 +1,5 @@
 use Rattle.std.proofs.Common.{◌∙◌}
-use Rattle.msc_parser.specs.declared.tree.Way.TheVariants.{Output}
+use Rattle.msc_parser.specs.declared.tree.Direction.TheVariants.{Output}
 use Rattle.msc_parser.specs.Places.{Start, AfterNumber, AfterParameters}
 use Rattle.msc_parser.proofs.Steps.{not_both, exits}
 use Rattle.msc_parser.proofs.Endings.{within_others}

@@ -34,7 +34,7 @@ loop-k-preserved c =
       long = c.widen_to.ensures.long ∙ inv.long;
       each = λ e known own.
           reach_step events c.as_slice.result.now c.args.rows.now c.loop-k.k _ e
-          (get_or c.loop-k.reaches.items e None) _ _ c.accepted.ensures.in_text_order
+          (get_or c.loop-k.reaches.items e None) _ _ c.facts.ensures.in_text_order
           (subst (AreBegins events) (sym c.as_slice.ensures.value) c.in_ok-begins.ensures)
           c.requires (omega (arith, c.loop-k-test.true)) known own
           (c.widen_to.ensures.each e (omega (arith, known, inv.long))) (inv.each e known own);

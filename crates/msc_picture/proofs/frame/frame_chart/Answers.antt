@@ -17,5 +17,5 @@ returns-clause-laid c =
           c.new.ensures.items
           (c.in_ok-numbers_to.ensures
           ∙ ap (λ (k : ℕ). range_with_len 0 k) c.events-many.ensures.number)
-          (chart_course events c.accepted.ensures.in_text_order);
+          (chart_course events c.facts.ensures.in_text_order);
     }

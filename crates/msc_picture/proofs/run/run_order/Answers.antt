@@ -6,21 +6,21 @@ use Rattle.msc_picture.proofs.run.run_order.Goals as goal
 pub returns-clause-rules : goal.returns-clause-rules
 returns-clause-rules c =
     run_drawn (wired_by c.args.w.now) (frame_of c.in_ok-f.f) c.args.run.now _
-    c.accepted.ensures.matched c.in_ok-f.ensures.frame c.requires.run c.requires.whole
+    c.facts.ensures.matched c.in_ok-f.ensures.frame c.requires.run c.requires.whole
     c.in_ok-drawn.ensures.held.steps c.in_ok-drawn.ensures.end
 
 pub returns-clause-run : goal.returns-clause-run
 returns-clause-run c =
     (c.drawn_runs_are_runs.ensures c.args.w.now.queues c.args.w.now.chart.now c.args.run.now _
-    c.accepted.ensures c.requires.run c.requires.whole
+    c.facts.ensures c.requires.run c.requires.whole
     (run_drawn (wired_by c.args.w.now) (frame_of c.in_ok-f.f) c.args.run.now _
-    c.accepted.ensures.matched c.in_ok-f.ensures.frame c.requires.run c.requires.whole
+    c.facts.ensures.matched c.in_ok-f.ensures.frame c.requires.run c.requires.whole
     c.in_ok-drawn.ensures.held.steps c.in_ok-drawn.ensures.end)).0
 
 pub returns-clause-lines : goal.returns-clause-lines
 returns-clause-lines c =
     (c.drawn_runs_are_runs.ensures c.args.w.now.queues c.args.w.now.chart.now c.args.run.now _
-    c.accepted.ensures c.requires.run c.requires.whole
+    c.facts.ensures c.requires.run c.requires.whole
     (run_drawn (wired_by c.args.w.now) (frame_of c.in_ok-f.f) c.args.run.now _
-    c.accepted.ensures.matched c.in_ok-f.ensures.frame c.requires.run c.requires.whole
+    c.facts.ensures.matched c.in_ok-f.ensures.frame c.requires.run c.requires.whole
     c.in_ok-drawn.ensures.held.steps c.in_ok-drawn.ensures.end)).1

@@ -9,7 +9,7 @@ returns-then-word-eq0-clause-none c =
 
 pub lowest_in-start-requires-clause-few : goal.lowest_in-start-requires-clause-few
 lowest_in-start-requires-clause-few c =
-    few_bits _ c.args.row.now c.args.k c.requires.row.bits c.accepted.ensures.few_events
+    few_bits _ c.args.row.now c.args.k c.requires.row.bits c.facts.ensures.few_events
     c.requires.known
 
 -- nothing fits below the lowest bit

@@ -1,5 +1,5 @@
 use Rattle.msc_chart.specs.Orders.{wired}
-use Rattle.msc_race.proofs.Pasts.ShortRuns.{all_needed}
+use Rattle.msc_race.proofs.Pasts.ShortWitnesses.{all_needed}
 use Rattle.msc_race.proofs.laws.what_is_enforced_is_needed.Goals as goal
 
 pub returns : goal.returns

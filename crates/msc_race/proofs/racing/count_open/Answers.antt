@@ -6,7 +6,7 @@ pub count_gaps-requires-clause-reach : goal.count_gaps-requires-clause-reach
 count_gaps-requires-clause-reach c = row_reaches c.requires.events c.row.ensures.words c.requires.within
 
 pub count_gaps-requires-clause-few : goal.count_gaps-requires-clause-few
-count_gaps-requires-clause-few c = row_is_few c.requires.events c.row.ensures.words c.accepted.ensures.few_events
+count_gaps-requires-clause-few c = row_is_few c.requires.events c.row.ensures.words c.facts.ensures.few_events
 
 pub returns : goal.returns
 returns c =

@@ -7,7 +7,7 @@ pub push_gaps-requires-clause-reach : goal.push_gaps-requires-clause-reach
 push_gaps-requires-clause-reach c = row_reaches c.requires.events c.row.ensures.words c.requires.within
 
 pub push_gaps-requires-clause-few : goal.push_gaps-requires-clause-few
-push_gaps-requires-clause-few c = row_is_few c.requires.events c.row.ensures.words c.accepted.ensures.few_events
+push_gaps-requires-clause-few c = row_is_few c.requires.events c.row.ensures.words c.facts.ensures.few_events
 
 pub returns : goal.returns
 returns c =

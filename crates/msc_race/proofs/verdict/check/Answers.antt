@@ -17,7 +17,7 @@ some_in pairs n empty size told is none = clash (told ∙ eq-eqb n 0 (size ∙ a
 pub returns-then-is_empty-clause-verdict : goal.returns-then-is_empty-clause-verdict
 returns-then-is_empty-clause-verdict c =
     let list = c.in_ok-list.list in
-    let kept = c.enforced-2.ensures in
+    let kept = c.facts.ensures in
     let exact = rw (c.in_ok-enforced.ensures.chart, c.in_ok-enforced.ensures.queues, ← c.order.ensures) at kept.order.enforced in
     let races = list_of_races (wired c.args.queues c.args.chart.now) _ exact list.items c.in_ok-list.ensures in
     no_races (wired c.args.queues c.args.chart.now) list.items races
@@ -26,7 +26,7 @@ returns-then-is_empty-clause-verdict c =
 pub returns-then-is_empty-clause-runs : goal.returns-then-is_empty-clause-runs
 returns-then-is_empty-clause-runs c =
     let list = c.in_ok-list.list in
-    let kept = c.enforced-2.ensures in
+    let kept = c.facts.ensures in
     let exact = rw (c.in_ok-enforced.ensures.chart, c.in_ok-enforced.ensures.queues, ← c.order.ensures) at kept.order.enforced in
     let races = list_of_races (wired c.args.queues c.args.chart.now) _ exact list.items c.in_ok-list.ensures in
     let accepted = rw c.in_ok-enforced.ensures.chart at kept.chart in
@@ -37,7 +37,7 @@ returns-then-is_empty-clause-runs c =
 pub returns-clause-verdict : goal.returns-clause-verdict
 returns-clause-verdict c =
     let list = c.in_ok-list.list in
-    let kept = c.enforced-2.ensures in
+    let kept = c.facts.ensures in
     let exact = rw (c.in_ok-enforced.ensures.chart, c.in_ok-enforced.ensures.queues, ← c.order.ensures) at kept.order.enforced in
     let races = list_of_races (wired c.args.queues c.args.chart.now) _ exact list.items c.in_ok-list.ensures in
     rw c.from_vec.ensures (races, some_in list.items (vec_len list) _ list.ok.0 c.is_empty.ensures c.if-is_empty.false)
@@ -45,7 +45,7 @@ returns-clause-verdict c =
 pub returns-clause-runs : goal.returns-clause-runs
 returns-clause-runs c =
     let list = c.in_ok-list.list in
-    let kept = c.enforced-2.ensures in
+    let kept = c.facts.ensures in
     let exact = rw (c.in_ok-enforced.ensures.chart, c.in_ok-enforced.ensures.queues, ← c.order.ensures) at kept.order.enforced in
     let races = list_of_races (wired c.args.queues c.args.chart.now) _ exact list.items c.in_ok-list.ensures in
     let accepted = rw c.in_ok-enforced.ensures.chart at kept.chart in

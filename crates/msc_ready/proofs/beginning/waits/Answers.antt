@@ -27,6 +27,6 @@ returns c = λ run marks.
     let at = rw (wiring.chart, wiring.queues) at c.queue.ensures in
     let o = rw c.chart-chart.ensures at (sym c.is_output.ensures ∙ c.if-not-is_output.false) in
     let other = rw c.chart-chart.ensures at c.other_end.ensures.value in
-    let within = c.kept.ensures.chart.matched.in_range c.args.x c.requires.known in
+    let within = c.facts.ensures.chart.matched.in_range c.args.x c.requires.known in
     waits_while chart c.args.q _ run c.args.done.now marks c.args.x (get_or c.args.done.now c.other_end.result false) o (sym at ∙ c.if-queue-q.false) within
     (ap (λ (k : ℕ). get_or c.args.done.now k false) other)

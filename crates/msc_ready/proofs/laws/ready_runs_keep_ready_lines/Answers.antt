@@ -1,6 +1,6 @@
 use Rattle.std.proofs.Common.{refl}
 use Rattle.msc_chart.specs.Orders.{wired}
-use Rattle.msc_ready.specs.Readiness.{all_ready}
+use Rattle.msc_chart.specs.Precedence.{all_ready}
 use Rattle.msc_ready.proofs.Runs.Lines.{lines_of_run, run_of_lines}
 use Rattle.msc_ready.proofs.laws.ready_runs_keep_ready_lines.Goals as goal
 

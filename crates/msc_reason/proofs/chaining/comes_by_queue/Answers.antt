@@ -42,7 +42,7 @@ pub returns : goal.returns
 returns c =
     let chart = wiring_of c.args.enforced.now in
     let events = c.args.enforced.now.chart.events in
-    let is_wired = c.ends_share_queues.ensures c.args.enforced.now.queues c.args.enforced.now.chart c.enforced.ensures.chart in
+    let is_wired = c.ends_share_queues.ensures c.args.enforced.now.queues c.args.enforced.now.chart c.facts.ensures.chart in
     let told = rw c.wiring-wiring.ensures.chart at c.is_controlled.ensures in
     let one = rw (c.wiring-wiring.ensures.chart, c.wiring-wiring.ensures.queues) at c.queue.ensures in
     let other = rw (c.wiring-wiring.ensures.chart, c.wiring-wiring.ensures.queues) at c.queue-2.ensures in

@@ -16,7 +16,7 @@ use Rattle.msc_reason.proofs.chaining.is_caused.Goals as goal
 pub returns-then-is_controlled : goal.returns-then-is_controlled
 returns-then-is_controlled c =
     let chart = wiring_of c.args.enforced.now in
-    let is_wired = c.ends_share_queues.ensures c.args.enforced.now.queues c.args.enforced.now.chart c.enforced.ensures.chart in
+    let is_wired = c.ends_share_queues.ensures c.args.enforced.now.queues c.args.enforced.now.chart c.facts.ensures.chart in
     let told = rw c.chart.ensures at c.is_controlled.ensures in (
       λ holds. controlled_caused chart is_wired c.args.x c.args.y (sym told ∙ c.if-is_controlled.true) (c.holds.ensures.exact.0 holds),
       λ caused. c.holds.ensures.exact.1 (caused_enforced chart c.args.x c.args.y caused),
@@ -34,7 +34,7 @@ told chart is_wired x y none (Some z) h = (λ yes. link_caused chart is_wired x 
 
 pub returns : goal.returns
 returns c =
-    let is_wired = c.ends_share_queues.ensures c.args.enforced.now.queues c.args.enforced.now.chart c.enforced.ensures.chart in
+    let is_wired = c.ends_share_queues.ensures c.args.enforced.now.queues c.args.enforced.now.chart c.facts.ensures.chart in
     let is = rw c.chart.ensures at c.is_controlled.ensures in
     rw c.is_some.ensures (told (wiring_of c.args.enforced.now) is_wired c.args.x c.args.y (sym is ∙ c.if-is_controlled.false)
     c.last_link.result c.last_link.ensures)

@@ -13,7 +13,7 @@ returns-then-reaches c =
         c.reaches.ensures.0 c.if-reaches.true,
       ),
       λ w later link.
-          let range = drawn_range c.args.enforced.now.chart.events c.enforced.ensures.chart.in_text_order c.args.x c.segment_end-start.result c.line_end-end.result w
+          let range = drawn_range c.args.enforced.now.chart.events c.facts.ensures.chart.in_text_order c.args.x c.segment_end-start.result c.line_end-end.result w
           segment line link.0 in
           c.loop-k.invariant w (omega (arith, range.1, later)) range.1 link.1,
     )
@@ -22,6 +22,6 @@ pub returns : goal.returns
 returns c = λ z link.
     let segment = rw c.chart-chart.ensures at c.segment_end-start.ensures in
     let line = rw c.chart-chart.ensures at c.line_end-end.ensures in
-    let range = drawn_range c.args.enforced.now.chart.events c.enforced.ensures.chart.in_text_order c.args.x c.segment_end-start.result c.line_end-end.result z
+    let range = drawn_range c.args.enforced.now.chart.events c.facts.ensures.chart.in_text_order c.args.x c.segment_end-start.result c.line_end-end.result z
     segment line link.0 in
     c.loop-k.invariant z (omega (arith, range.0, range.1, c.saturating_sub-k-end.ensures, c.loop-k-test.false)) range.1 link.1

@@ -10,25 +10,25 @@ use Rattle.msc_reason.proofs.chaining.next_step.Goals as goal
 pub last_link-requires-clause-x_known : goal.last_link-requires-clause-x_known
 last_link-requires-clause-x_known c =
     let chart = wiring_of c.args.enforced.now in
-    (enforced_below chart (c.ends_share_queues.ensures c.args.enforced.now.queues c.args.enforced.now.chart c.enforced.ensures.chart) c.args.x c.args.y (caused_enforced chart c.args.x c.args.y c.requires)).0
+    (enforced_below chart (c.ends_share_queues.ensures c.args.enforced.now.queues c.args.enforced.now.chart c.facts.ensures.chart) c.args.x c.args.y (caused_enforced chart c.args.x c.args.y c.requires)).0
 
 pub last_link-requires-clause-y_known : goal.last_link-requires-clause-y_known
 last_link-requires-clause-y_known c =
     let chart = wiring_of c.args.enforced.now in
-    (enforced_below chart (c.ends_share_queues.ensures c.args.enforced.now.queues c.args.enforced.now.chart c.enforced.ensures.chart) c.args.x c.args.y (caused_enforced chart c.args.x c.args.y c.requires)).1
+    (enforced_below chart (c.ends_share_queues.ensures c.args.enforced.now.queues c.args.enforced.now.chart c.facts.ensures.chart) c.args.x c.args.y (caused_enforced chart c.args.x c.args.y c.requires)).1
 
 pub other_end-requires : goal.other_end-requires
 other_end-requires c =
     let chart = wiring_of c.args.enforced.now in
-    rw c.chart.ensures (enforced_below chart (c.ends_share_queues.ensures c.args.enforced.now.queues c.args.enforced.now.chart c.enforced.ensures.chart) c.args.x c.args.y (caused_enforced chart c.args.x c.args.y c.requires)).0
+    rw c.chart.ensures (enforced_below chart (c.ends_share_queues.ensures c.args.enforced.now.queues c.args.enforced.now.chart c.facts.ensures.chart) c.args.x c.args.y (caused_enforced chart c.args.x c.args.y c.requires)).0
 
 pub returns-in-Some-clause-step : goal.returns-in-Some-clause-step
 returns-in-Some-clause-step c =
-    (link_step (wiring_of c.args.enforced.now) (c.ends_share_queues.ensures c.args.enforced.now.queues c.args.enforced.now.chart c.enforced.ensures.chart) c.args.x c.args.y c.in-Some.z c.in-Some.ensures.0).0
+    (link_step (wiring_of c.args.enforced.now) (c.ends_share_queues.ensures c.args.enforced.now.queues c.args.enforced.now.chart c.facts.ensures.chart) c.args.x c.args.y c.in-Some.z c.in-Some.ensures.0).0
 
 pub returns-in-Some-clause-onward : goal.returns-in-Some-clause-onward
 returns-in-Some-clause-onward c =
-    (link_step (wiring_of c.args.enforced.now) (c.ends_share_queues.ensures c.args.enforced.now.queues c.args.enforced.now.chart c.enforced.ensures.chart) c.args.x c.args.y c.in-Some.z c.in-Some.ensures.0).1
+    (link_step (wiring_of c.args.enforced.now) (c.ends_share_queues.ensures c.args.enforced.now.queues c.args.enforced.now.chart c.facts.ensures.chart) c.args.x c.args.y c.in-Some.z c.in-Some.ensures.0).1
 
 pub returns-in-None-clause-step : goal.returns-in-None-clause-step
 returns-in-None-clause-step c =

@@ -11,11 +11,11 @@ use Rattle.msc_reason.proofs.chaining.walk.Goals as goal
 pub loop-at-smaller : goal.loop-at-smaller
 loop-at-smaller c =
     let chart = wiring_of c.args.enforced.now in
-    let is_wired = c.ends_share_queues.ensures c.args.enforced.now.queues c.args.enforced.now.chart c.enforced.ensures.chart in
+    let is_wired = c.ends_share_queues.ensures c.args.enforced.now.queues c.args.enforced.now.chart c.facts.ensures.chart in
     let step = step_enforced chart c.loop-at.at c.next_step-at.result c.next_step-at.ensures.step in
     let known = enforced_below chart is_wired c.loop-at.at c.next_step-at.result step in
-    fewer_after chart (c.the_enforced_order_has_no_cycle.ensures c.args.enforced.now.queues c.args.enforced.now.chart c.enforced.ensures.chart)
-    (orders c.args.enforced.now.order) c.enforced.ensures.order.enforced c.loop-at.at c.next_step-at.result known.0 known.1 step
+    fewer_after chart (c.the_enforced_order_has_no_cycle.ensures c.args.enforced.now.queues c.args.enforced.now.chart c.facts.ensures.chart)
+    (orders c.args.enforced.now.order) c.facts.ensures.order.enforced c.loop-at.at c.next_step-at.result known.0 known.1 step
 
 pub loop-at-preserved : goal.loop-at-preserved
 loop-at-preserved c =

@@ -12,6 +12,6 @@ returns c =
     rw c.from_vec.ensures record {
       free = λ before. run.apart (inr before);
       shown = run;
-      race = c.lack_if_race-lack.ensures;
+      race = c.cause_if_race-cause.ensures;
       turned = c.in_ok-late.ensures;
     }

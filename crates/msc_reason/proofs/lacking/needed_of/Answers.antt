@@ -1,6 +1,6 @@
 use Rattle.std.proofs.Common.{ℕ, inl, inr, sym, ap, ◌∙◌}
 use Rattle.msc_reason.specs.Marked.{needed_in}
-use Rattle.msc_reason.specs.declared.lack.RaceKind.{RaceKind}
+use Rattle.msc_reason.specs.declared.cause.RaceKind.{RaceKind}
 use Rattle.msc_reason.proofs.lacking.needed_of.Goals as goal
 
 pub returns-in-Early-clause-value : goal.returns-in-Early-clause-value

@@ -8,7 +8,7 @@ use Rattle.msc_race.specs.Wired.{EnforcedChart}
 use Rattle.msc_reason.proofs.Counted.{counted_parts}
 use Rattle.msc_reason.proofs.Marking.{is_least_second}
 use Rattle.msc_reason.specs.Counting.{counting, is_alone}
-use Rattle.msc_reason.specs.Marked.{counted_from, is_counted, lack_in, AreOfOneEvent, IsMarked}
+use Rattle.msc_reason.specs.Marked.{counted_from, is_counted, cause_in, AreOfOneEvent, IsMarked}
 use Rattle.msc_reason.specs.declared.left_out.LeftOut.{LeftOut}
 use Rattle.msc_reason.proofs.selecting.push_alone.Goals as goal
 use Rattle.msc_reason.proofs.selecting.push_alone.Goals.{then-not-has_within+in_ok-push, else-not-has_within}
@@ -55,7 +55,7 @@ has_within-requires c =
 pub loop-race-preserved : goal.loop-race-preserved
 loop-race-preserved c allowed of =
     let e = c.args.enforced.now in
-    let test = is_alone e.chart.events (counting e allowed (lack_in e)) in
+    let test = is_alone e.chart.events (counting e allowed (cause_in e)) in
     let i = c.loop-race.race-index in
     let first = c.least_second-first.ensures in
     let itself = rw c.events.ensures at first.itself in
@@ -74,6 +74,6 @@ loop-race-preserved c allowed of =
 pub returns : goal.returns
 returns c allowed of =
     let e = c.args.enforced.now in
-    let test = is_alone e.chart.events (counting e allowed (lack_in e)) in
+    let test = is_alone e.chart.events (counting e allowed (cause_in e)) in
     c.loop-race.invariant allowed of ∙ ap (λ (l : List (ℕ × ℕ)). c.args.list.now.items ++ filter test l)
     (let end = c.loop-race.auto.race-index-end in let past = c.loop-race-test.false in take_all c.loop-race.race-index c.args.races.now (omega (arith, end, past)))

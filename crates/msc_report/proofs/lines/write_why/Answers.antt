@@ -1,5 +1,5 @@
 use Rattle.std.proofs.lemmas.Result.{IfOk-weaker}
-use Rattle.msc_judge.proofs.KnownBytes.{Appends-append}
+use Rattle.msc_print.proofs.KnownBytes.{Appends-append}
 use Rattle.msc_report.proofs.lines.write_why.Goals as goal
 
 pub returns : goal.returns

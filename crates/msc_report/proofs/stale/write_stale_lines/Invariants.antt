@@ -7,4 +7,4 @@ use Rattle.msc_report.proofs.stale.write_stale_lines.Given as goal
 abbrev pub invariant-loop-event : goal.invariant-loop-event
 invariant-loop-event g l =
     Appends (g.W.Write.contents l.fn.writer) (g.W.Write.contents l.writer)
-    (stale_lines (option_map (λ s. s.now) l.sites) l.chart (take l.event-index l.events))
+    (stale_lines (option_map (λ s. s.now) l.event_positions) l.chart (take l.event-index l.events))

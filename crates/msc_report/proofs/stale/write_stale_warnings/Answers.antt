@@ -2,7 +2,7 @@ use Rattle.std.proofs.Common.{◌<◌, ℕ, [], length, get_or, take, ap, sym, �
 use Rattle.std.specs.Io.KnownBytes.{Appends}
 use Rattle.std.specs.List.{flat_map}
 use Rattle.std.proofs.lemmas.List.{flat_map_more, take_more}
-use Rattle.msc_judge.proofs.KnownBytes.{Appends-append}
+use Rattle.msc_print.proofs.KnownBytes.{Appends-append}
 use Rattle.msc_report.specs.Stale.{stale_warning}
 use Rattle.msc_report.proofs.stale.write_stale_warnings.Goals as goal
 
@@ -10,7 +10,7 @@ pub loop-event-preserved : goal.loop-event-preserved
 loop-event-preserved g c =
     let events = c.args.events.now in
     let i : ℕ = c.loop-event.event-index in
-    let one = stale_warning c.args.sites.now c.args.chart.now in
+    let one = stale_warning c.args.event_positions.now c.args.chart.now in
     let within : i < length events = omega (arith, c.loop-event-test.true) in
     let more = flat_map_more one [] (take i events) (get_or events i 0)
     ∙ ap (flat_map one) (sym (take_more events i 0 within)) in

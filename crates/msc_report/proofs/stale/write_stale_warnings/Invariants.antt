@@ -7,4 +7,4 @@ use Rattle.msc_report.proofs.stale.write_stale_warnings.Given as goal
 abbrev pub invariant-loop-event : goal.invariant-loop-event
 invariant-loop-event g l =
     Appends (g.W.Write.contents l.fn.writer) (g.W.Write.contents l.writer)
-    (stale_warnings l.sites l.chart (take l.event-index l.events))
+    (stale_warnings l.event_positions l.chart (take l.event-index l.events))

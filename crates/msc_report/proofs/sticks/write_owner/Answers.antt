@@ -6,4 +6,4 @@ instance_of-requires g c = input_below c.args.chart.now.events c.args.e c.requir
 
 pub write_instance-requires : goal.write_instance-requires
 write_instance-requires g c =
-    rw c.instance_of.ensures (c.accepted.ensures.on_lines.on_line c.args.e (input_below c.args.chart.now.events c.args.e c.requires))
+    rw c.instance_of.ensures (c.facts.ensures.on_lines.on_line c.args.e (input_below c.args.chart.now.events c.args.e c.requires))

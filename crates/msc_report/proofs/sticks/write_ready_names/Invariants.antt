@@ -1,5 +1,5 @@
 use Rattle.std.specs.Io.KnownBytes.{Appends}
-use Rattle.msc_report.specs.Sticks.{ready_names}
+use Rattle.msc_report.specs.BlockedPairs.{ready_names}
 use Rattle.msc_report.proofs.sticks.write_ready_names.Given as goal
 
 abbrev pub invariant-loop-i : goal.invariant-loop-i

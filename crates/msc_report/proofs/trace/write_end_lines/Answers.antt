@@ -1,6 +1,6 @@
 use Rattle.std.proofs.Common.{◌<◌, length, arith}
 use Rattle.msc_ending.specs.declared.end.End.TheVariants.{Finished}
-use Rattle.msc_judge.proofs.KnownBytes.{Appends-append}
+use Rattle.msc_print.proofs.KnownBytes.{Appends-append}
 use Rattle.msc_report.proofs.EndLines.{next_line}
 use Rattle.msc_report.proofs.trace.write_end_lines.Goals as goal
 

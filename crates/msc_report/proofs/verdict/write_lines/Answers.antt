@@ -1,7 +1,7 @@
 use Rattle.std.proofs.Common.{rules}
 use Rattle.std.proofs.lemmas.Result.{on_ok_weaker}
 use Rattle.msc_report.specs.Verdicts.{name_line, queues_line}
-use Rattle.msc_judge.proofs.KnownBytes.{Appends-append}
+use Rattle.msc_print.proofs.KnownBytes.{Appends-append}
 use Rattle.msc_report.proofs.verdict.write_lines.Goals as goal
 
 pub returns : goal.returns

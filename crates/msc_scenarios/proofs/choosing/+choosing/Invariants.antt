@@ -31,12 +31,12 @@ decreases-one l = 6 * l.depth + 5
 
 abbrev pub invariant-put_branches-loop-i : goal.invariant-put_branches-loop-i
 invariant-put_branches-loop-i l =
-    l.ways.items ++ by_branches (choose l.depth l.rounds) l.first (l.start + l.i) (map (λ x. x.now) (drop l.i l.branches)) ≡ l.fn.ways.items ++ by_branches (choose l.depth l.rounds) l.first l.start (map (λ x. x.now) l.branches)
+    l.paths.items ++ by_branches (choose l.depth l.rounds) l.first (l.start + l.i) (map (λ x. x.now) (drop l.i l.branches)) ≡ l.fn.paths.items ++ by_branches (choose l.depth l.rounds) l.first l.start (map (λ x. x.now) l.branches)
 
 abbrev pub invariant-by_sides-loop-branch : goal.invariant-by_sides-loop-branch
 invariant-by_sides-loop-branch l =
-    by_sides (choose l.depth l.rounds) (map (λ x. x.now) (drop l.branch-index l.branches)) l.ways.items ≡ by_sides (choose l.depth l.rounds) (map (λ x. x.now) l.branches) straight
+    by_sides (choose l.depth l.rounds) (map (λ x. x.now) (drop l.branch-index l.branches)) l.paths.items ≡ by_sides (choose l.depth l.rounds) (map (λ x. x.now) l.branches) straight
 
 abbrev pub invariant-choose-loop-i : goal.invariant-choose-loop-i
 invariant-choose-loop-i l =
-    choose_on (choose (l.depth - 1) l.rounds) l.rounds l.owned (drop l.i l.statements) l.ways.items ≡ choose_on (choose (l.depth - 1) l.rounds) l.rounds 0 l.statements straight
+    choose_on (choose (l.depth - 1) l.rounds) l.rounds l.owned (drop l.i l.statements) l.paths.items ≡ choose_on (choose (l.depth - 1) l.rounds) l.rounds 0 l.statements straight

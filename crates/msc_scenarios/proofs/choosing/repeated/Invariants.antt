@@ -4,4 +4,4 @@ use Rattle.msc_scenarios.proofs.choosing.repeated.Given as goal
 
 abbrev pub invariant-loop : goal.invariant-loop
 invariant-loop l =
-    repeated l.body (l.count - l.counter) l.ways.items ≡ repeated l.body l.count straight
+    repeated l.body (l.count - l.counter) l.paths.items ≡ repeated l.body l.count straight

@@ -33,4 +33,4 @@ invariant-by_sides-loop-branch l =
 
 abbrev pub invariant-count-loop-i : goal.invariant-count-loop-i
 invariant-count-loop-i l =
-    count_on (count (l.depth - 1) l.rounds) l.rounds l.owned (drop l.i l.statements) l.ways ≡ count_on (count (l.depth - 1) l.rounds) l.rounds 0 l.statements (unbroken 1)
+    count_on (count (l.depth - 1) l.rounds) l.rounds l.owned (drop l.i l.statements) l.paths ≡ count_on (count (l.depth - 1) l.rounds) l.rounds 0 l.statements (unbroken 1)

@@ -1,4 +1,4 @@
-use Rattle.msc_svg.proofs.Ranges.{map_next}
+use Rattle.msc_picture.proofs.Ranges.{map_next}
 use Rattle.msc_svg.specs.Layouts.{gap}
 use Rattle.msc_svg.proofs.measure.gaps_of.Goals as goal
 

@@ -24,9 +24,9 @@ prints_reason queues d e f short style (reasons.Enforced why) printed accepted e
   answered = (λ yes. enough queues d accepted e f why right.0, λ enforced. refl);
   text = text;
 }
-prints_reason queues d e f short style (reasons.Free run lack late) printed accepted enough two right text = record {
+prints_reason queues d e f short style (reasons.Free run cause late) printed accepted enough two right text = record {
   two = two;
-  reason = reasons.Free run lack late;
+  reason = reasons.Free run cause late;
   right = right;
   answered = (λ yes. absurd cc, λ enforced. absurd (right.free enforced));
   text = text;
@@ -35,13 +35,13 @@ prints_reason queues d e f short style (reasons.Free run lack late) printed acce
 pub page_of-requires-clause-named : goal.page_of-requires-clause-named
 page_of-requires-clause-named c =
     let two = c.requires in
-    c.a_reason_names_events.ensures c.args.queues c.args.chart.now c.accepted.ensures c.args.e c.args.f two.first two.second
+    c.a_reason_names_events.ensures c.args.queues c.args.chart.now c.facts.ensures c.args.e c.args.f two.first two.second
     c.args.short c.in_ok-reason.reason c.in_ok-reason.ensures
 
 -- the run of a reason that is right has events of the chart alone
 names_run : (queues : Queues) (d : Drawing) (e f : ℕ) (short : Bool) (reason : Reason) → IsReason short (wired queues d) e f reason → NamesRun d reason
 names_run queues d e f short (reasons.Enforced why) right = tt
-names_run queues d e f short (reasons.Free run lack late) right = run_events (wired queues d) run right.shown.run
+names_run queues d e f short (reasons.Free run cause late) right = run_events (wired queues d) run right.shown.run
 
 pub page_of-requires-clause-run : goal.page_of-requires-clause-run
 page_of-requires-clause-run c =
@@ -49,5 +49,5 @@ page_of-requires-clause-run c =
 
 pub returns : goal.returns
 returns c =
-    rw c.is_enforced.ensures (prints_reason c.args.queues c.args.chart.now c.args.e c.args.f c.args.short c.args.style c.in_ok-reason.reason _ c.accepted.ensures c.a_why_is_enough.ensures.enough
+    rw c.is_enforced.ensures (prints_reason c.args.queues c.args.chart.now c.args.e c.args.f c.args.short c.args.style c.in_ok-reason.reason _ c.facts.ensures c.a_why_is_enough.ensures.enough
     c.requires c.in_ok-reason.ensures c.in_ok-page.ensures)

@@ -10,7 +10,7 @@ pub returns-in_default : goal.returns-in_default
 returns-in_default c =
     rw c.in_default.is (IfOk-weaker c.none_left.result _ _
     (λ none told. passes_by c.in_ok-enforced.enforced c.args.chart.now c.args.queues c.args.allowed None c.none.result none
-    c.in_ok-enforced.ensures.chart c.in_ok-enforced.ensures.queues c.enforced-2.ensures.chart c.enforced-2.ensures.order told (c.none.ensures.accepted, c.none.ensures.stale)) c.none_left.ensures)
+    c.in_ok-enforced.ensures.chart c.in_ok-enforced.ensures.queues c.facts-2.ensures.chart c.facts-2.ensures.order told (c.none.ensures.accepted, c.none.ensures.stale)) c.none_left.ensures)
 
 pub returns : goal.returns
 returns c =
@@ -20,6 +20,6 @@ returns c =
     let marking : Marking = record { accepted = Some pairs; stale = c.as_slice.result } in
     rw c.in-Some.is (IfOk-weaker c.none_left-2.result _ _
     (λ none told. passes_by e c.args.chart.now c.args.queues c.args.allowed (Some c.in-Some.marks.now) marking none
-    c.in_ok-enforced.ensures.chart c.in_ok-enforced.ensures.queues c.enforced-2.ensures.chart c.enforced-2.ensures.order told
+    c.in_ok-enforced.ensures.chart c.in_ok-enforced.ensures.queues c.facts-2.ensures.chart c.facts-2.ensures.order told
     (marking_of e c.in-Some.marks.now c.in_ok-accepted.accepted c.args.chart.now c.args.queues pairs marking its.marks its.chart its.queues c.in_ok-enforced.ensures.chart c.in_ok-enforced.ensures.queues
     refl c.in_ok-pairs.ensures (c.as_slice.ensures.value ∙ c.in_ok-stale.ensures))) c.none_left-2.ensures)

@@ -19,5 +19,5 @@ returns-clause-printed g c =
     (map (λ log. log.items) logs) c.in_ok-trace.trace.items) c.as_slice-logs.ensures.value c.in_ok-trace.ensures in
     subst (PrintsExecution d c.args.queues g.G.Gate.is_open c.args.patience c.are_finished.result) (sym c.in_ok-page.ensures)
     (prints_execution d c.args.queues g.G.Gate.is_open c.args.patience (outcome_of x.execution) c.as_slice-ends.result.now
-    c.in_ok-trace.trace.items c.as_slice.result.now c.are_finished.result c.accepted.ensures c.whole_logs_give_whole_traces.ensures
+    c.in_ok-trace.trace.items c.as_slice.result.now c.are_finished.result c.facts.ensures c.whole_logs_give_whole_traces.ensures
     x.ensures.execution x.ensures.finished gathered c.as_slice-ends.ensures.value c.as_slice.ensures.value c.are_finished.ensures)

@@ -7,7 +7,7 @@ use Rattle.msc_chart.proofs.rounds.Rounds.message.Goals as goal
 
 pub number-output-requires-clause-known : goal.number-output-requires-clause-known
 number-output-requires-clause-known c =
-    let known = output_in c.args.self.now.chart.now c.accepted.ensures c.args.m c.requires.known in
+    let known = output_in c.args.self.now.chart.now c.facts.ensures c.args.m c.requires.known in
     omega (arith, known, c.output_of.ensures)
 
 pub returns : goal.returns

@@ -15,12 +15,12 @@ returns-in-Mailbox-clause-value c = rw (c.in-Mailbox.is, c.instances-instances.e
 pub returns-in-Pair-clause-past : goal.returns-in-Pair-clause-past
 returns-in-Pair-clause-past c e below away =
     subst (λ (n : ℕ). queue (wired_by c.args.self.now) e < n) (sym (returns-in-Pair-clause-value c))
-    (number_bounded _ c.args.self.now.chart.now e c.accepted.ensures below away)
+    (number_bounded _ c.args.self.now.chart.now e c.facts.ensures below away)
 
 pub returns-in-Mailbox-clause-past : goal.returns-in-Mailbox-clause-past
 returns-in-Mailbox-clause-past c e below away =
     subst (λ (n : ℕ). queue (wired_by c.args.self.now) e < n) (sym (returns-in-Mailbox-clause-value c))
-    (number_bounded _ c.args.self.now.chart.now e c.accepted.ensures below away)
+    (number_bounded _ c.args.self.now.chart.now e c.facts.ensures below away)
 
 pub returns-in-Single-clause-value : goal.returns-in-Single-clause-value
 unfolding queue_bound
@@ -29,4 +29,4 @@ returns-in-Single-clause-value c = rw (c.in-Single.is, c.messages.ensures.number
 pub returns-in-Single-clause-past : goal.returns-in-Single-clause-past
 returns-in-Single-clause-past c e below away =
     subst (λ (n : ℕ). queue (wired_by c.args.self.now) e < n) (sym (returns-in-Single-clause-value c))
-    (number_bounded _ c.args.self.now.chart.now e c.accepted.ensures below away)
+    (number_bounded _ c.args.self.now.chart.now e c.facts.ensures below away)

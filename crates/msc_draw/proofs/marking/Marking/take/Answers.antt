@@ -37,17 +37,17 @@ loop-race-preserved c =
       upper = ap length is.upper ∙ length-set m.upper p.0 true ∙ c.loop-race.invariant.upper;
       lower = ap length is.lower ∙ length-set m.lower p.1 true ∙ c.loop-race.invariant.lower;
       held = λ told h.
-          let more = added events e p.1 (told ++ so_far) m.marks.items m.upper m.lower m.begun
-          m.reach m.told c.accepted.ensures.in_text_order c.requires.known own.1
+          let more = added events e p.1 (told ++ so_far) m.bars.items m.upper m.lower m.begun
+          m.reach m.told c.facts.ensures.in_text_order c.requires.known own.1
           (c.loop-race.invariant.held told h) in
           let list : (told ++ so_far) ++ (e, p.1) ∷ [] ≡ told ++ take (k + 1) races =
           append_assoc told so_far ((e, p.1) ∷ [])
           ∙ ap (λ (q : ℕ × ℕ). told ++ (so_far ++ q ∷ [])) pair
           ∙ ap (λ (l : List (ℕ × ℕ)). told ++ l) (sym (take_more races k (0, 0) below)) in
           subst (λ (l : List (ℕ × ℕ)). HoldsMarking events (e + 1) l next) list
-          (same_marking events (e + 1) ((told ++ so_far) ++ (e, p.1) ∷ []) m.marks.items
-          next.marks.items (slice_set m.upper e true) next.upper
+          (same_marking events (e + 1) ((told ++ so_far) ++ (e, p.1) ∷ []) m.bars.items
+          next.bars.items (slice_set m.upper e true) next.upper
           (slice_set m.lower p.1 true) next.lower m.begun next.begun
-          (Some (grown m.reach m.told)) next.reach (m.told + 1) next.told is.marks upper is.lower
+          (Some (grown m.reach m.told)) next.reach (m.told + 1) next.told is.bars upper is.lower
           is.begun is.reach is.told more);
     }

@@ -2,7 +2,7 @@ use Rattle.std.proofs.Common.{◌≡◌, ◌⊎◌, ◌+◌, ◌++◌, inl, inr,
 use Rattle.std.proofs.lemmas.List.{length-replicate}
 use Rattle.std.specs.Prelude.{replicate}
 use Rattle.msc_picture.specs.Rows.{begins_segment}
-use Rattle.msc_draw.specs.Marking.{mark_by}
+use Rattle.msc_draw.specs.Marking.{bar_by}
 use Rattle.msc_draw.proofs.MarkingLemmas.{same_marking, turned_new, turned_same}
 use Rattle.msc_draw.proofs.marking.Marking.turn.Goals as goal
 use Rattle.msc_draw.proofs.marking.Marking.turn.Goals.{else-e-gt0-via-then-e-gt0+else-begins_segment, else-e-gt0-via-else-e-gt0}
@@ -18,7 +18,7 @@ returns-else-e-gt0 c =
       | else-e-gt0-via-else-e-gt0 w ↦ inl (omega arith)
     ] in
     record {
-      told = λ told h. turned_same events e told m.marks.items m.upper m.lower m.begun m.reach
+      told = λ told h. turned_same events e told m.bars.items m.upper m.lower m.begun m.reach
           m.told h inner;
       tables = c.requires.tables;
     }
@@ -35,12 +35,12 @@ returns-in_ok-begin c =
     record {
       told = λ told h.
           same_marking events (e + 1) told
-          (m.marks.items ++ mark_by events m.upper m.lower m.begun m.reach)
-          next.marks.items (replicate n false) next.upper (replicate n false) next.lower e
-          next.begun None next.reach m.told next.told c.in_ok-begin.ensures.marks fresh.upper
+          (m.bars.items ++ bar_by events m.upper m.lower m.begun m.reach)
+          next.bars.items (replicate n false) next.upper (replicate n false) next.lower e
+          next.begun None next.reach m.told next.told c.in_ok-begin.ensures.bars fresh.upper
           fresh.lower fresh.begun fresh.reach c.in_ok-begin.ensures.told
-          (turned_new events e told m.marks.items m.upper m.lower m.begun m.reach m.told h
-          c.accepted.ensures.in_text_order c.if-e-gt0.true c.requires.known begins);
+          (turned_new events e told m.bars.items m.upper m.lower m.begun m.reach m.told h
+          c.facts.ensures.in_text_order c.if-e-gt0.true c.requires.known begins);
       tables = record {
         upper = ap length fresh.upper ∙ length-replicate n false;
         lower = ap length fresh.lower ∙ length-replicate n false;

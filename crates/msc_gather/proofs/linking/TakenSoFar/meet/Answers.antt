@@ -9,7 +9,7 @@ use Rattle.msc_gather.proofs.linking.TakenSoFar.meet.Goals as goal
 pub returns-then-is_controlled : goal.returns-then-is_controlled
 returns-then-is_controlled c = λ list new holds.
     let is_wired = c.ends_share_queues.ensures c.args.w.now.queues c.args.w.now.chart.now
-    c.accepted.ensures in
+    c.facts.ensures in
     taken_other (wired_by c.args.w.now) is_wired c.args.r
     (sym c.is_controlled.ensures ∙ c.if-is_controlled.true) holds
 
@@ -38,7 +38,7 @@ index_mut-requires-2 c =
 pub returns : goal.returns
 returns c = λ list new holds.
     let is_wired = c.ends_share_queues.ensures c.args.w.now.queues c.args.w.now.chart.now
-    c.accepted.ensures in
+    c.facts.ensures in
     let other = sym c.is_controlled.ensures ∙ c.if-is_controlled.false in
     let input = input_from_rest c.args.w.now.chart.now.events c.args.r c.requires.known other in
     let inside = c.requires.queues c.args.r c.requires.known

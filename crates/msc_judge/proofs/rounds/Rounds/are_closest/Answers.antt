@@ -7,5 +7,5 @@ use Rattle.msc_judge.proofs.rounds.Rounds.are_closest.Goals as goal
 pub returns : goal.returns
 returns c =
     let s = c.args.self.listing.now in
-    told_list c.args.self.numbers.now s.judged s.allowed (subst IsEnforced c.enforced.ensures c.enforced-2.ensures.order)
-    (ap (λ (l : LeftOut). l.accepted) c.requires.kinds)
+    told_list c.args.self.numbers.now s.judged s.allowed (subst IsEnforced c.enforced.ensures c.facts.ensures.order)
+    (ap (λ (l : LeftOut). l.accepted) c.requires)

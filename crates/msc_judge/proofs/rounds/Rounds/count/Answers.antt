@@ -12,9 +12,9 @@ loop-x-init c =
 pub overflow_cast-count : goal.overflow_cast-count
 overflow_cast-count c =
     let s = c.args.self.listing.now in
-    let accepted = subst (λ (e : EnforcedChart). IsAccepted e.chart) c.enforced.ensures c.enforced-2.ensures.chart in
+    let accepted = subst (λ (e : EnforcedChart). IsAccepted e.chart) c.enforced.ensures c.facts.ensures.chart in
     let few = accepted.few_events in
-    let more = told_more c.args.self.numbers.now s.judged s.allowed c.loop-x.x c.loop-x.count c.next.new.list.items c.loop-x.invariant c.in_ok-next.ensures in
+    let more = told_more c.args.self.numbers.now s.judged s.allowed c.loop-x.x c.loop-x.count c.next_pairs.new.list.items c.loop-x.invariant c.in_ok-next_pairs.ensures.list in
     let less = c.loop-x-test.true in
     let all = c.events-x-end.ensures in
     let most = told_few c.args.self.numbers.now s.judged s.allowed (c.loop-x.x + 1) few (omega (arith, less, all, few)) in
@@ -23,9 +23,9 @@ overflow_cast-count c =
 pub overflow_add-count : goal.overflow_add-count
 overflow_add-count c =
     let s = c.args.self.listing.now in
-    let accepted = subst (λ (e : EnforcedChart). IsAccepted e.chart) c.enforced.ensures c.enforced-2.ensures.chart in
+    let accepted = subst (λ (e : EnforcedChart). IsAccepted e.chart) c.enforced.ensures c.facts.ensures.chart in
     let few = accepted.few_events in
-    let more = told_more c.args.self.numbers.now s.judged s.allowed c.loop-x.x c.loop-x.count c.next.new.list.items c.loop-x.invariant c.in_ok-next.ensures in
+    let more = told_more c.args.self.numbers.now s.judged s.allowed c.loop-x.x c.loop-x.count c.next_pairs.new.list.items c.loop-x.invariant c.in_ok-next_pairs.ensures.list in
     let less = c.loop-x-test.true in
     let all = c.events-x-end.ensures in
     let most = told_few c.args.self.numbers.now s.judged s.allowed (c.loop-x.x + 1) few (omega (arith, less, all, few)) in
@@ -34,7 +34,7 @@ overflow_add-count c =
 pub loop-x-preserved : goal.loop-x-preserved
 loop-x-preserved c =
     let s = c.args.self.listing.now in
-    let more = told_more c.args.self.numbers.now s.judged s.allowed c.loop-x.x c.loop-x.count c.next.new.list.items c.loop-x.invariant c.in_ok-next.ensures in
+    let more = told_more c.args.self.numbers.now s.judged s.allowed c.loop-x.x c.loop-x.count c.next_pairs.new.list.items c.loop-x.invariant c.in_ok-next_pairs.ensures.list in
     omega (arith, more, c.len.ensures)
 
 pub returns : goal.returns

@@ -12,12 +12,12 @@ returns-then-not-is_empty c =
     let s = c.args.self.listing.now in
     let less = c.loop-x-test.true in
     let all = c.events-x-end.ensures in
-    some_told c.args.self.numbers.now s.judged s.allowed c.loop-x.x c.next.new.list.items c.is_empty.result (omega (arith, less, all)) c.in_ok-next.ensures (c.is_empty.ensures ∙ ap (λ (n : ℕ). nat_eq n 0) c.next.new.list.ok.0) c.if-not-is_empty.true
+    some_told c.args.self.numbers.now s.judged s.allowed c.loop-x.x c.next_pairs.new.list.items c.is_empty.result (omega (arith, less, all)) c.in_ok-next_pairs.ensures.list (c.is_empty.ensures ∙ ap (λ (n : ℕ). nat_eq n 0) c.next_pairs.new.list.ok.0) c.if-not-is_empty.true
 
 pub loop-x-preserved : goal.loop-x-preserved
 loop-x-preserved c =
     let s = c.args.self.listing.now in
-    still_none c.args.self.numbers.now s.judged s.allowed c.loop-x.x c.next.new.list.items c.is_empty.result c.loop-x.invariant c.in_ok-next.ensures (c.is_empty.ensures ∙ ap (λ (n : ℕ). nat_eq n 0) c.next.new.list.ok.0) c.if-not-is_empty.false
+    still_none c.args.self.numbers.now s.judged s.allowed c.loop-x.x c.next_pairs.new.list.items c.is_empty.result c.loop-x.invariant c.in_ok-next_pairs.ensures.list (c.is_empty.ensures ∙ ap (λ (n : ℕ). nat_eq n 0) c.next_pairs.new.list.ok.0) c.if-not-is_empty.false
 
 pub returns : goal.returns
 returns c =

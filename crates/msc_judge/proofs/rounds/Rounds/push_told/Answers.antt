@@ -14,7 +14,7 @@ use Rattle.msc_judge.proofs.rounds.Rounds.push_told.Goals.{then-tells+in_ok-push
 pub loop-y-init : goal.loop-y-init
 loop-y-init c =
     let s = c.args.self.listing.now in
-    let accepted = subst (λ (e : EnforcedChart). IsAccepted e.chart) c.enforced-enforced.ensures c.enforced.ensures.chart in
+    let accepted = subst (λ (e : EnforcedChart). IsAccepted e.chart) c.enforced-enforced.ensures c.facts.ensures.chart in
     let none = none_up_to c.args.self.numbers.now s.judged s.allowed accepted.in_text_order c.args.x c.args.start c.requires.start in
     record {
       low = omega arith;
@@ -24,7 +24,7 @@ loop-y-init c =
 pub tells-requires-clause-next : goal.tells-requires-clause-next
 tells-requires-clause-next c =
     let s = c.args.self.listing.now in
-    let accepted = subst (λ (e : EnforcedChart). IsAccepted e.chart) c.enforced-enforced.ensures c.enforced.ensures.chart in
+    let accepted = subst (λ (e : EnforcedChart). IsAccepted e.chart) c.enforced-enforced.ensures c.facts.ensures.chart in
     next_segment s.judged.chart.events accepted.in_text_order c.args.x c.args.start c.requires.start c.args.end c.requires.end c.loop-y.y c.loop-y.invariant.low
     (omega (arith, c.loop-y-test.true))
 
@@ -53,7 +53,7 @@ pub returns : goal.returns
 returns c =
     let s = c.args.self.listing.now in
     let test = is_told c.args.self.numbers.now s.judged s.allowed in
-    let accepted = subst (λ (e : EnforcedChart). IsAccepted e.chart) c.enforced-enforced.ensures c.enforced.ensures.chart in
+    let accepted = subst (λ (e : EnforcedChart). IsAccepted e.chart) c.enforced-enforced.ensures c.facts.ensures.chart in
     let past = none_below c.args.self.numbers.now s.judged s.allowed accepted.in_text_order c.args.x c.args.start c.requires.start c.args.end c.requires.end in
     let last = c.loop-y-test.false in
     let auto = c.loop-y.auto in

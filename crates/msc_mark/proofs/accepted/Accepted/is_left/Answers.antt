@@ -9,7 +9,7 @@ returns-then-i-as_slice c =
     let a = acceptance c.self.inside.marks.now c.self.inside.chart.now c.self.inside.queues in
     let i = c.index-i.result.now in let e = c.args.e in
     let noted = not (get_or c.args.fitting.now e false) in
-    let is = told_by a c.args.self.now c.self.inside.at.items e i c.self.view_is c.self.invariant c.requires.known c.index-i.ensures in
+    let is = told_by a c.args.self.now c.self.inside.at.items e i c.self.view_is c.self.invariant.numbers c.requires.known c.index-i.ensures in
     let past = subst (λ ms. length ms ≤ i) c.as_slice.ensures c.if-i-as_slice.true in
     subst (λ v. false ≡ (is_some (mark_for v.marks v.queues e) && noted)) c.self.view_is (sym (ap (λ b. b && noted) (has_none a e i is past)))
 
@@ -18,6 +18,6 @@ returns c =
     let a = acceptance c.self.inside.marks.now c.self.inside.chart.now c.self.inside.queues in
     let i = c.index-i.result.now in let e = c.args.e in
     let noted = not (get_or c.args.fitting.now e false) in
-    let is = told_by a c.args.self.now c.self.inside.at.items e i c.self.view_is c.self.invariant c.requires.known c.index-i.ensures in
+    let is = told_by a c.args.self.now c.self.inside.at.items e i c.self.view_is c.self.invariant.numbers c.requires.known c.index-i.ensures in
     let inside = subst (λ ms. i < length ms) c.as_slice.ensures c.if-i-as_slice.false in
     subst (λ v. noted ≡ (is_some (mark_for v.marks v.queues e) && noted)) c.self.view_is (sym (ap (λ b. b && noted) (has_mark a e i is inside)))

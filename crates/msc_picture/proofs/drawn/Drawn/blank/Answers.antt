@@ -12,6 +12,6 @@ returns-clause-drawn c =
 pub returns-clause-behind : goal.returns-clause-behind
 returns-clause-behind c =
     behind_begins (frame_of c.args.f.now) c.args.f.now.course.items _ _ _ _ _
-    c.instances.ensures.number c.accepted.ensures.on_lines.on_line
+    c.instances.ensures.number c.facts.ensures.on_lines.on_line
     (c.in_ok-vec-2.ensures.items_if_clones_equal (λ y e. e))
     (c.in_ok-vec-3.ensures.items_if_clones_equal (λ y e. e))

@@ -16,7 +16,7 @@ returns-then-is_sent_as c =
     let inside : c.index-first.result.now < length c.args.f.now.course.items =
     omega (arith, c.if-first-len.false, c.len.ensures) in
     second_other_read c.requires.laid.course c.requires.held.behind c.requires.held.reached c.args.e
-    c.instance_of-line.result c.requires.known c.instance_of-line.ensures c.accepted.ensures.matched
+    c.instance_of-line.result c.requires.known c.instance_of-line.ensures c.facts.ensures.matched
     _ _ c.index-first.ensures c.index-then-is_sent_as.ensures inside
     (subst (λ (w : ℕ). is_sent_as (frame_of c.args.f.now) w c.args.e ≡ true)
     (c.index.ensures ∙ get_or_default_zero c.args.f.now.course.items _ _ inside)

@@ -14,7 +14,7 @@ returns-then-is_done c =
     ∙ sym c.is_done.ensures ∙ c.if-is_done.true in (
       λ h. absurd (false≢true h),
       λ may. clash old
-          (taken_new (frame_of c.args.f.now) c.accepted.ensures.matched c.args.self.now.past.items
+          (taken_new (frame_of c.args.f.now) c.facts.ensures.matched c.args.self.now.past.items
           c.args.s may),
     )
 
@@ -25,5 +25,5 @@ returns c =
     ∙ sym c.is_done.ensures ∙ c.if-is_done.false in
     let tells = subst (λ (w : ℕ). IsTrue c.is_clear.result
     ↔ IsClear (frame_of c.args.f.now) c.args.self.now.past.items w) other c.is_clear.ensures in
-    taken_when (frame_of c.args.f.now) c.accepted.ensures.matched c.args.self.now.past.items c.args.s
+    taken_when (frame_of c.args.f.now) c.facts.ensures.matched c.args.self.now.past.items c.args.s
     c.is_clear.result c.requires.known c.requires.output new tells

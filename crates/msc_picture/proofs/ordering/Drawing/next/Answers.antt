@@ -14,7 +14,7 @@ pub least-requires-clause-row : goal.least-requires-clause-row
 least-requires-clause-row c =
     subst (λ (row : List ℕ). IsRowFor (frame_of c.args.f.now) c.args.self.now.drawn.past.items Rest row)
     (sym c.rests.ensures)
-    (rests_for c.accepted.ensures.matched c.requires.held.room c.requires.held.listed)
+    (rests_for c.facts.ensures.matched c.requires.held.room c.requires.held.listed)
 
 pub returns-in-Some-least-clause-some : goal.returns-in-Some-least-clause-some
 returns-in-Some-least-clause-some c = resting c.in_default.ensures.none c.in-Some-least.ensures.some
@@ -23,7 +23,7 @@ pub least-requires-2-clause-row : goal.least-requires-2-clause-row
 least-requires-2-clause-row c =
     subst (λ (row : List ℕ). IsRowFor (frame_of c.args.f.now) c.args.self.now.drawn.past.items Level row)
     (sym c.levels.ensures)
-    (levels_for c.accepted.ensures.matched c.requires.held.room c.requires.held.listed)
+    (levels_for c.facts.ensures.matched c.requires.held.room c.requires.held.listed)
 
 pub returns-in-Some-least-2-clause-some : goal.returns-in-Some-least-2-clause-some
 returns-in-Some-least-2-clause-some c =
@@ -34,7 +34,7 @@ pub least-requires-3-clause-row : goal.least-requires-3-clause-row
 least-requires-3-clause-row c =
     subst (λ (row : List ℕ). IsRowFor (frame_of c.args.f.now) c.args.self.now.drawn.past.items Send row)
     (sym c.sends.ensures)
-    (sends_for c.accepted.ensures.matched c.requires.held.room c.requires.held.listed)
+    (sends_for c.facts.ensures.matched c.requires.held.room c.requires.held.listed)
 
 pub returns-clause-some : goal.returns-clause-some
 returns-clause-some c =

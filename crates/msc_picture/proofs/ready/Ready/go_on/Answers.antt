@@ -19,7 +19,7 @@ returns-clause-listed c =
     ≡ get_or c.args.d.now.firsts.items (line c.args.f.now.chart.now.events c.args.e) 0 =
     c.first.ensures
     ∙ ap (λ (w : ℕ). get_or c.args.d.now.firsts.items w 0) c.instance_of.ensures in
-    all_listed c.accepted.ensures.matched c.requires.last.is c.requires.laid.course
+    all_listed c.facts.ensures.matched c.requires.last.is c.requires.laid.course
     (held.behind.behind _ on) (held.reached _ on) held.drawn.steps c.requires.last.listed
     (keeps_but c.take_out.ensures.kept
     (keeps_both c.list_other.ensures.kept c.list_from.ensures.kept))

@@ -2,7 +2,7 @@ use Rattle.std.proofs.Common.{◌≡◌, ◌≤◌, ◌+◌, ◌++◌, [], ◌�
 use Rattle.std.proofs.lemmas.List.{length-append}
 use Rattle.msc_place.specs.Positions.{IsPosition}
 use Rattle.msc_place.specs.Collecting.{no_place}
-use Rattle.msc_place.proofs.SiteLemmas.{AreOf, IsOf, sites_all, sites_more}
+use Rattle.msc_place.proofs.EventPositionLemmas.{AreOf, IsOf, event_positions_all, event_positions_more}
 use Rattle.msc_place.proofs.places.Places.positions.Goals as goal
 
 pub loop-event-preserved : goal.loop-event-preserved
@@ -19,7 +19,7 @@ loop-event-preserved c =
     let own : IsOf text events p (length ps) = subst (IsOf text events p) (sym c.loop-event.invariant.0) stands in
     let size : length (ps ++ p ∷ []) ≡ length ps + 1 = length-append ps (p ∷ []) in
     let all : AreOf text events (ps ++ p ∷ []) =
-    λ k lt. sites_more text events ps p c.loop-event.invariant.1 own k (omega (arith, lt, size)) in
+    λ k lt. event_positions_more text events ps p c.loop-event.invariant.1 own k (omega (arith, lt, size)) in
     rw c.in_ok-push.ensures.items ((omega (arith, size, c.loop-event.invariant.0)), all)
 
 pub returns : goal.returns
@@ -33,4 +33,4 @@ returns c = λ t d.
     let within : c.loop-event.event-index ≤ length events =
     subst (λ es. c.loop-event.event-index ≤ length es) listed c.loop-event.auto.event-index-end in
     let size : length ps ≡ length events = omega (arith, past, within, c.loop-event.invariant.0) in
-    sites_all c.args.self.now.text t c.args.self.now.stand (c.known.ensures.stand t d) ps size c.loop-event.invariant.1
+    event_positions_all c.args.self.now.text t c.args.self.now.stand (c.known.ensures.stand t d) ps size c.loop-event.invariant.1

@@ -1,5 +1,5 @@
 use Rattle.std.proofs.Common.{◌≡◌, length}
-use Rattle.msc_place.proofs.SiteLemmas.{AreOf}
+use Rattle.msc_place.proofs.EventPositionLemmas.{AreOf}
 use Rattle.msc_place.proofs.places.Places.positions.Given as goal
 
 abbrev pub invariant-loop-event : goal.invariant-loop-event

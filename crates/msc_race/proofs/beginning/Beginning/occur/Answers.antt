@@ -1,4 +1,4 @@
-use Rattle.msc_chart.specs.Chosen.{IsChosenNext}
+use Rattle.msc_chart.specs.Witness.{IsWitnessNext}
 use Rattle.msc_race.specs.Choices.{wired_chart}
 use Rattle.msc_race.specs.Beginnings.{run_of}
 use Rattle.msc_race.proofs.Shared.{Steps-push}
@@ -13,7 +13,7 @@ returns-clause-kept c =
     let past = run_of c.args.self.now in
     let same = c.seek.ensures.same in
     on_ok c.occur-2.result _ _ _ (λ queues run. record {
-      steps = rw run (Steps-push (IsChosenNext (wired_chart choice) choice.e) past c.args.x kept.steps c.requires.next);
+      steps = rw run (Steps-push (IsWitnessNext (wired_chart choice) choice.e) past c.args.x kept.steps c.requires.next);
       lines = c.occur.ensures.kept;
       queues = queues;
       rows = record { free = rw same.free kept.rows.free; unheld = rw same.unheld kept.rows.unheld; passed = rw same.passed kept.rows.passed };

@@ -4,7 +4,7 @@ use Rattle.msc_race.specs.Short.{MayComeFor}
 use Rattle.msc_race.specs.Shortenings.{events_of}
 use Rattle.msc_race.specs.Views.{wiring_of}
 use Rattle.msc_race.proofs.Shared.{by_test, clash}
-use Rattle.msc_race.proofs.Pasts.ShortRuns.{never_needed, short_steps}
+use Rattle.msc_race.proofs.Pasts.ShortWitnesses.{never_needed, short_steps}
 use Rattle.msc_race.proofs.Pasts.ShortSteps.{short_less}
 use Rattle.msc_race.proofs.enforced.Enforced.needed_run.Goals as goal
 
@@ -35,5 +35,5 @@ returns c =
     let events = events_of c.loop-x.shortening in
     let steps = rw (c.wiring.ensures.chart, c.wiring.ensures.queues) at c.loop-x.invariant.kept.steps in
     let there : occurs events c.args.f ≡ true = by_test (occurs events c.args.f) (λ h. h) (λ out. clash (c.lacks.ensures.1 out) c.if-lacks.false) in
-    let all = c.what_is_enforced_is_needed.ensures self.queues self.chart c.enforced.ensures.chart events (short_steps chart c.args.f events steps) c.args.f there in
+    let all = c.what_is_enforced_is_needed.ensures self.queues self.chart c.facts.ensures.chart events (short_steps chart c.args.f events steps) c.args.f there in
     rw c.into_run.ensures (steps, all)

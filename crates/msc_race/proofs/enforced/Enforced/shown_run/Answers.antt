@@ -6,8 +6,8 @@ use Rattle.msc_race.proofs.enforced.Enforced.shown_run.Goals as goal
 pub returns-then-short : goal.returns-then-short
 returns-then-short c =
     let chart = wiring_of c.args.self.now in
-    rw c.if-short.true (IfOk-weaker c.short_run.result _ _
-    (λ run answer. each_match _ _ _ (λ v its. shown_short chart c.args.e c.args.f v.items its) run answer) c.short_run.ensures)
+    rw c.if-short.true (IfOk-weaker c.short_witness.result _ _
+    (λ run answer. each_match _ _ _ (λ v its. shown_short chart c.args.e c.args.f v.items its) run answer) c.short_witness.ensures)
 
 pub returns : goal.returns
 returns c =

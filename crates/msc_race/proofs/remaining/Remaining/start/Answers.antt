@@ -1,6 +1,6 @@
 use Rattle.std.proofs.Common.{arith}
 use Rattle.msc_race.specs.Choices.{event_count, wired_chart}
-use Rattle.msc_chart.specs.Chosen.{IsFree, IsHeld}
+use Rattle.msc_chart.specs.Witness.{IsFree, IsHeld}
 use Rattle.msc_race.proofs.Making.RemainderLemmas.{below_all, others_all}
 use Rattle.msc_race.proofs.remaining.Remaining.start.Goals as goal
 

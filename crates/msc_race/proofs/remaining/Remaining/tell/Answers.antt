@@ -1,6 +1,6 @@
 use Rattle.std.proofs.Common.{true, sym, ◌∙◌, refl}
 use Rattle.std.proofs.lemmas.List.{with_items_is}
-use Rattle.msc_chart.specs.Chosen.{IsFree, IsHeld}
+use Rattle.msc_chart.specs.Witness.{IsFree, IsHeld}
 use Rattle.msc_order.specs.Tables.{orders}
 use Rattle.msc_race.specs.Choices.{wired_chart}
 use Rattle.msc_race.specs.Remainders.{IsPassedOnWith}

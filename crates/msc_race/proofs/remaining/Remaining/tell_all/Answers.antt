@@ -1,5 +1,5 @@
 use Rattle.std.proofs.Common.{sym, ◌∙◌}
-use Rattle.msc_chart.specs.Chosen.{IsFree, IsHeld}
+use Rattle.msc_chart.specs.Witness.{IsFree, IsHeld}
 use Rattle.msc_order.specs.Tables.{orders}
 use Rattle.msc_race.specs.Choices.{event_count, wired_chart}
 use Rattle.msc_race.specs.Remainders.{IsPassedOnWith}

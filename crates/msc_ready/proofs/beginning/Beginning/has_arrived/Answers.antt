@@ -20,7 +20,7 @@ pub index-head-requires : goal.index-head-requires
 index-head-requires c =
     let d = c.args.ready.now.chart in
     let at = rw (c.wiring-wiring.ensures.chart, c.wiring-wiring.ensures.queues) at c.queue.ensures in
-    let below = c.queue_numbers_are_bounded.ensures.numbers c.args.ready.now.queues d c.args.x c.kept.ensures.chart
+    let below = c.queue_numbers_are_bounded.ensures.numbers c.args.ready.now.queues d c.args.x c.facts.ensures.chart
     (input_below d.events c.args.x c.requires.input) (input_not_local d.events c.args.x c.requires.input) in
     let each = c.requires.heads.each in
     omega (arith, at, below, each)
@@ -36,7 +36,7 @@ returns c =
     let input = input_below d.events c.args.x c.requires.input in
     let at = rw (c.wiring-wiring.ensures.chart, c.wiring-wiring.ensures.queues) at c.queue.ensures in
     let q : ℕ = queue chart c.args.x in
-    let below = c.queue_numbers_are_bounded.ensures.numbers c.args.ready.now.queues d c.args.x c.kept.ensures.chart
+    let below = c.queue_numbers_are_bounded.ensures.numbers c.args.ready.now.queues d c.args.x c.facts.ensures.chart
     input (input_not_local d.events c.args.x c.requires.input) in
     let each = c.requires.heads.each in
     let read : c.index-head.result.now ≡ get_or heads q 0 =
@@ -44,7 +44,7 @@ returns c =
     let head : IsHead (length d.events) (state chart q c.args.self.now.run.items) c.index-head.result.now =
     subst (λ (h : ℕ). IsHead (length d.events) (state chart q c.args.self.now.run.items) h) (sym read) (c.requires.heads.head q below) in
     let other = rw c.chart-chart.ensures at c.other_end.ensures.value in
-    let within = c.kept.ensures.chart.matched.in_range c.args.x input in
+    let within = c.facts.ensures.chart.matched.in_range c.args.x input in
     let differs : partner d.events c.args.x ≢ length d.events = λ same. omega (arith, same, within) in
     let told = head_first (length d.events) _ c.index-head.result.now (partner d.events c.args.x) head differs in
     (λ h. told.0 (eqb-true _ _ h ∙ other), λ first. eq-eqb _ _ (told.1 first ∙ sym other))

@@ -3,7 +3,7 @@ use Rattle.msc_chart.specs.Charts.{partner}
 use Rattle.msc_chart.specs.Lists.{occurs}
 use Rattle.msc_ready.specs.Beginnings.{HasMarks}
 use Rattle.msc_ready.specs.Held.{ReadyChart, wiring_of, ready_in}
-use Rattle.msc_ready.specs.Sticks.{is_lined}
+use Rattle.msc_ready.specs.BlockedPairs.{is_lined}
 use Rattle.msc_order.proofs.Drawing.{before_later}
 use Rattle.msc_ready.proofs.Shared.{before_parts, clash, input_below}
 use Rattle.msc_ready.proofs.Holding.{awaited_parts, lined_from, lined_parts}
@@ -28,7 +28,7 @@ returns-then-not-index c =
     let lined = lined_parts (wiring_of r) (ready_in r) c.loop-r.r c.other_end-u.result (sym c.is_lined.ensures ∙ c.if-is_lined.true) in
     let drawn = awaited_parts (wiring_of r) (ready_in r) c.loop-r.r c.other_end-u.result lined.0 in
     let u = rw c.chart-chart.ensures at c.other_end-u.ensures.value in
-    let back = ap (λ (z : ℕ). partner d.events z) u ∙ c.kept.ensures.chart.matched.to_and_fro c.args.x c.requires.known in
+    let back = ap (λ (z : ℕ). partner d.events z) u ∙ c.facts.ensures.chart.matched.to_and_fro c.args.x c.requires.known in
     (λ h. clash h refl, λ turn. clash (turn c.loop-r.r c.other_end-u.result lined.1 lined.2 lined.3 drawn.0 drawn.1 back) (sym there ∙ c.if-not-index.true))
 
 pub loop-r-init : goal.loop-r-init
@@ -60,9 +60,9 @@ returns c =
     let r = c.args.ready.now in
     let d = r.chart in
     let u = rw c.chart-chart.ensures at c.other_end-u.ensures.value in
-    let text = c.kept.ensures.chart.in_text_order in (
+    let text = c.facts.ensures.chart.in_text_order in (
       λ h y v iy iv same b set is.
-          let v_is : v ≡ c.other_end-u.result = sym (c.kept.ensures.chart.matched.to_and_fro v (input_below d.events v iv)) ∙ ap (λ (z : ℕ). partner d.events z) is ∙ sym u in
+          let v_is : v ≡ c.other_end-u.result = sym (c.facts.ensures.chart.matched.to_and_fro v (input_below d.events v iv)) ∙ ap (λ (z : ℕ). partner d.events z) is ∙ sym u in
           let lined : is_lined (wiring_of r) (ready_in r) y c.other_end-u.result ≡ true =
           subst (λ (z : ℕ). is_lined (wiring_of r) (ready_in r) y z ≡ true) v_is (lined_from (wiring_of r) (ready_in r) y v b set iy iv same) in
           let above : y < v = before_later d.events text y v b in

@@ -2,7 +2,7 @@ use Rattle.std.proofs.Common.{◌≡◌, ℕ, ◌<◌, true}
 use Rattle.msc_chart.specs.Charts.{partner}
 use Rattle.msc_chart.specs.Lists.{occurs}
 use Rattle.msc_ready.specs.Held.{wiring_of, ready_in}
-use Rattle.msc_ready.specs.Sticks.{is_lined}
+use Rattle.msc_ready.specs.BlockedPairs.{is_lined}
 use Rattle.msc_ready.proofs.beginning.Beginning.is_in_turn.Given as goal
 
 abbrev pub invariant-loop-r : goal.invariant-loop-r

@@ -22,11 +22,11 @@ returns-then-front-events c =
     let run = c.args.self.now.run.items in
     let x : ℕ = c.args.x in
     let i = rw c.chart-chart.ensures at c.instance_of.ensures in
-    let on = c.kept.ensures.chart.on_lines.on_line x c.requires.known in
+    let on = c.facts.ensures.chart.on_lines.on_line x c.requires.known in
     let number = rw c.chart-chart.ensures at c.events.ensures.number in
     let front = front_read d run c.args.self.now.fronts.items c.instance_of.result (line d.events x) c.index-front.result.now c.requires.fronts on i c.index-front.ensures in
     let past = c.if-front-events.true in (
-      λ h. settled_by d.events c.kept.ensures.chart.in_text_order run x c.index-front.result.now front (λ less b. omega (arith, less, past, number)),
+      λ h. settled_by d.events c.facts.ensures.chart.in_text_order run x c.index-front.result.now front (λ less b. omega (arith, less, past, number)),
       λ all. refl,
     )
 
@@ -36,9 +36,9 @@ returns c =
     let run = c.args.self.now.run.items in
     let x : ℕ = c.args.x in
     let i = rw c.chart-chart.ensures at c.instance_of.ensures in
-    let on = c.kept.ensures.chart.on_lines.on_line x c.requires.known in
+    let on = c.facts.ensures.chart.on_lines.on_line x c.requires.known in
     let front = front_read d run c.args.self.now.fronts.items c.instance_of.result (line d.events x) c.index-front.result.now c.requires.fronts on i c.index-front.ensures in
     let told = rw c.chart-chart.ensures at c.before-2.ensures in (
-      λ h. settled_by d.events c.kept.ensures.chart.in_text_order run x c.index-front.result.now front (λ less b. clash (told.1 b) (not-true _ h)),
-      λ all. not_from_false _ (false_from_ne_true _ (λ b. front_not_before d.events c.kept.ensures.chart.in_text_order run x c.index-front.result.now front all (told.0 b))),
+      λ h. settled_by d.events c.facts.ensures.chart.in_text_order run x c.index-front.result.now front (λ less b. clash (told.1 b) (not-true _ h)),
+      λ all. not_from_false _ (false_from_ne_true _ (λ b. front_not_before d.events c.facts.ensures.chart.in_text_order run x c.index-front.result.now front all (told.0 b))),
     )

@@ -12,7 +12,7 @@ returns-in-Some c =
     record {
       itself = least.itself.1;
       none_below = λ y less comes.
-          let low : line d.events y ≤ line d.events x = c.kept.ensures.chart.in_text_order.lines y x (omega (arith, less)) least.itself.1.1.may.event in
+          let low : line d.events y ≤ line d.events x = c.facts.ensures.chart.in_text_order.lines y x (omega (arith, less)) least.itself.1.1.may.event in
           elim (cases_lt (line d.events y) c.loop-i.i) [
             | inl before ↦ c.loop-i.invariant y before comes
             | inr past ↦ least.none_below y less (omega (arith, past, low, on), comes)
@@ -27,7 +27,7 @@ loop-i-preserved c = λ y below comes. elim (cases_lt (line c.args.ready.now.cha
 
 pub returns : goal.returns
 returns c = λ x comes.
-    let on = c.kept.ensures.chart.on_lines.on_line x comes.1.may.event in
+    let on = c.facts.ensures.chart.on_lines.on_line x comes.1.may.event in
     let last = c.loop-i-test.false in
     let all = rw c.chart.ensures at c.instances-i-end.ensures.number in
     c.loop-i.invariant x (omega (arith, on, last, all)) comes

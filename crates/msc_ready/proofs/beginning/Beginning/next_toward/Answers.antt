@@ -16,7 +16,7 @@ pub returns-in-None-clause-none : goal.returns-in-None-clause-none
 returns-in-None-clause-none c = λ e f first is outs.
     let r = c.args.ready.now in
     let self = c.args.self.now in
-    let accepted = c.kept.ensures.chart in
+    let accepted = c.facts.ensures.chart in
     let is_wired = c.ends_share_queues.ensures r.queues r.chart accepted in
     let lines : HaveOneLine (wiring_of r) = λ x y ix iy. c.inputs_share_lines.ensures r.queues r.chart x y accepted ix iy in
     let there = mark_read (length r.chart.events) self.run.items self.done.items c.args.t c.index.result.now c.requires.held.marks c.requires.known c.index.ensures in

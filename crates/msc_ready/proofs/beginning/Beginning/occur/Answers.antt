@@ -53,14 +53,14 @@ returns-then-not-is_local-clause-held c =
     let next = rw c.deref.ensures.value at c.next_front-front.ensures in
     let away = rw c.chart-chart.ensures at (sym c.is_local.ensures ∙ c.if-not-is_local.true) in
     let at = rw (c.wiring.ensures.chart, c.wiring.ensures.queues) at c.queue-q.ensures in
-    let is_wired = c.ends_share_queues.ensures r.queues d c.kept.ensures.chart in
-    let inside = c.queue_numbers_are_bounded.ensures.numbers r.queues d x c.kept.ensures.chart below away in
+    let is_wired = c.ends_share_queues.ensures r.queues d c.facts.ensures.chart in
+    let inside = c.queue_numbers_are_bounded.ensures.numbers r.queues d x c.facts.ensures.chart below away in
     let is_run = run_of_ready chart (ready_in r) [] self.run.items held.is_run in
     let head = rw (c.deref-then-not-is_local.ensures.value, c.in_ok-push.ensures.items) at c.first_waiting-head.ensures in
     rw c.in_ok-push.ensures.items (record {
       is_run = Steps-push (MayComeReady chart (ready_in r)) self.run.items x held.is_run c.requires.next;
       marks = marks;
-      lines = front_of r self.run.items self.fronts.items _ x c.instance_of-i.result c.index.result.now c.next_front-front.result c.kept.ensures.chart below held.lines marks line_is c.index.ensures next;
+      lines = front_of r self.run.items self.fronts.items _ x c.instance_of-i.result c.index.result.now c.next_front-front.result c.facts.ensures.chart below held.lines marks line_is c.index.ensures next;
       queues = subst (λ (k : ℕ). HasHeads chart (queue_bound r.queues d) (self.run.items ++ x ∷ []) (set self.heads.items k c.first_waiting-head.result)) (sym at)
           (heads_after chart is_wired self.run.items x is_run c.requires.next.may (queue_bound r.queues d) self.heads.items c.first_waiting-head.result away inside held.queues
           (subst (λ (k : ℕ). IsHead (length d.events) (state chart k (self.run.items ++ x ∷ [])) c.first_waiting-head.result) at head));
@@ -79,11 +79,11 @@ returns-else-not-is_local-clause-held c =
     let line_is = rw c.chart-chart.ensures at c.instance_of-i.ensures in
     let next = rw c.deref.ensures.value at c.next_front-front.ensures in
     let own = rw c.chart-chart.ensures at (sym c.is_local.ensures ∙ c.if-not-is_local.false) in
-    let is_wired = c.ends_share_queues.ensures r.queues d c.kept.ensures.chart in
+    let is_wired = c.ends_share_queues.ensures r.queues d c.facts.ensures.chart in
     let is_run = run_of_ready chart (ready_in r) [] self.run.items held.is_run in
     rw c.in_ok-push.ensures.items (record {
       is_run = Steps-push (MayComeReady chart (ready_in r)) self.run.items x held.is_run c.requires.next;
       marks = marks;
-      lines = front_of r self.run.items self.fronts.items _ x c.instance_of-i.result c.index.result.now c.next_front-front.result c.kept.ensures.chart below held.lines marks line_is c.index.ensures next;
+      lines = front_of r self.run.items self.fronts.items _ x c.instance_of-i.result c.index.result.now c.next_front-front.result c.facts.ensures.chart below held.lines marks line_is c.index.ensures next;
       queues = heads_passed chart is_wired self.run.items x is_run c.requires.next.may (queue_bound r.queues d) self.heads.items own held.queues;
     })

@@ -8,7 +8,7 @@ loop-e-init c = record { few = omega arith; number = λ left told. sym (ap lengt
 
 pub overflow_add-total : goal.overflow_add-total
 overflow_add-total c =
-    let all_few = c.kept.ensures.chart.few_events in
+    let all_few = c.facts.ensures.chart.few_events in
     let few = c.loop-e.invariant.few in
     let one = c.count_left_from-total.ensures.few in
     let less = c.loop-e-test.true in
@@ -17,7 +17,7 @@ overflow_add-total c =
 
 pub loop-e-preserved : goal.loop-e-preserved
 loop-e-preserved c =
-    let all_few = c.kept.ensures.chart.few_events in
+    let all_few = c.facts.ensures.chart.few_events in
     let few = c.loop-e.invariant.few in
     let one = c.count_left_from-total.ensures.few in
     record {

@@ -36,7 +36,7 @@ loop-x-2-preserved c =
 pub returns : goal.returns
 returns c =
     let r = c.args.self.now in
-    let accepted = c.kept.ensures.chart in
+    let accepted = c.facts.ensures.chart in
     let lines : HaveOneLine (wiring_of r) = λ x y ix iy. c.inputs_share_lines.ensures r.queues r.chart x y accepted ix iy in
     let told = ready_told (wiring_of r) (ready_of c.args.lines.now) (c.ends_share_queues.ensures r.queues r.chart accepted) lines in
     let i = c.loop-x-2.invariant in

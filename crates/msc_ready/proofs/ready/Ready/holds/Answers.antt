@@ -11,8 +11,7 @@ returns-then-is_empty c =
     let lines = c.self.inside.lines in
     let none : r.lines ≡ [] =
     sym (ap (λ (s : ReadyChart). s.lines) c.self.view_is) ∙ no_lines lines.items (vec_len lines) _ lines.ok.0 c.is_empty.ensures c.if-is_empty.true in
-    let is_wired = c.ends_share_queues.ensures r.queues r.chart c.kept.ensures.chart in
-    let told = all_visual r c.args.x c.args.y is_wired c.kept.ensures.order none c.requires.x_known c.requires.y_known in
+    let told = all_visual r c.args.x c.args.y c.facts.ensures.order none c.requires.x_known c.requires.y_known in
     (λ h. told.0 (sym c.precedes.ensures ∙ h), λ h. c.precedes.ensures ∙ told.1 h)
 
 -- the rows that are held of a chart are those of what is seen of it

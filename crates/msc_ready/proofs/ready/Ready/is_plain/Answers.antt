@@ -8,8 +8,8 @@ use Rattle.msc_ready.proofs.ready.Ready.is_plain.Goals as goal
 pub returns-then-not-is_loose : goal.returns-then-not-is_loose
 returns-then-not-is_loose c =
     let r = c.args.self.now in
-    let visual = c.kept.ensures.order.visual in
-    let is_wired = c.ends_share_queues.ensures r.queues r.chart c.kept.ensures.chart in
+    let visual = c.facts.ensures.order.visual in
+    let is_wired = c.ends_share_queues.ensures r.queues r.chart c.facts.ensures.chart in
     let told = tight_told (wiring_of r) (ready_of c.args.lines.now) is_wired c.args.x c.args.y
     (λ i. by_test (ready_of c.args.lines.now (line r.chart.events c.args.y)) (λ set. set) (λ loose. clash (c.is_loose.ensures.1 (i, loose)) c.if-not-is_loose.true)) in (
       λ h. told.1 (visual.holds c.args.x c.args.y c.requires.x_known c.requires.y_known (sym c.precedes.ensures ∙ h)),
@@ -19,7 +19,7 @@ returns-then-not-is_loose c =
 pub returns-then-x-output : goal.returns-then-x-output
 returns-then-x-output c =
     let r = c.args.self.now in
-    let is_wired = c.ends_share_queues.ensures r.queues r.chart c.kept.ensures.chart in
+    let is_wired = c.ends_share_queues.ensures r.queues r.chart c.facts.ensures.chart in
     let loose = c.is_loose.ensures.0 c.if-not-is_loose.false in
     let told = loose_told (wiring_of r) (ready_of c.args.lines.now) is_wired c.args.x c.args.y loose.0 loose.1 in
     let output = rw c.chart.ensures at c.other_end-output.ensures.value in
@@ -28,8 +28,8 @@ returns-then-x-output c =
 pub returns : goal.returns
 returns c =
     let r = c.args.self.now in
-    let visual = c.kept.ensures.order.visual in
-    let is_wired = c.ends_share_queues.ensures r.queues r.chart c.kept.ensures.chart in
+    let visual = c.facts.ensures.order.visual in
+    let is_wired = c.ends_share_queues.ensures r.queues r.chart c.facts.ensures.chart in
     let loose = c.is_loose.ensures.0 c.if-not-is_loose.false in
     let told = loose_told (wiring_of r) (ready_of c.args.lines.now) is_wired c.args.x c.args.y loose.0 loose.1 in
     let output = rw c.chart.ensures at c.other_end-output.ensures.value in

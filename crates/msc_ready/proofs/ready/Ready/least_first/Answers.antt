@@ -12,17 +12,17 @@ loop-g-init c = λ x below s.
     let within = (range x parts.0).0 (omega (arith, parts.2, here)) in
     absurd (omega (arith, below, within.0))
 
-pub returns-then-is_stick : goal.returns-then-is_stick
-returns-then-is_stick c = inl (record { itself = c.is_stick.ensures.exact.0 c.if-is_stick.true; none_below = c.loop-g.invariant })
+pub returns-then-is_blocked_pair : goal.returns-then-is_blocked_pair
+returns-then-is_blocked_pair c = inl (record { itself = c.is_blocked_pair.ensures.exact.0 c.if-is_blocked_pair.true; none_below = c.loop-g.invariant })
 
 pub loop-g-preserved : goal.loop-g-preserved
-loop-g-preserved c = below_more _ _ c.loop-g.invariant (λ s. clash (c.is_stick.ensures.exact.1 s) c.if-is_stick.false)
+loop-g-preserved c = below_more _ _ c.loop-g.invariant (λ s. clash (c.is_blocked_pair.ensures.exact.1 s) c.if-is_blocked_pair.false)
 
 pub returns : goal.returns
 returns c = inr (
   c.events.ensures,
   λ x s.
-      let above = before_later c.args.self.now.chart.events c.kept.ensures.chart.in_text_order x c.args.h s.drawn in
+      let above = before_later c.args.self.now.chart.events c.facts.ensures.chart.in_text_order x c.args.h s.drawn in
       let last = c.loop-g-test.false in
       c.loop-g.invariant x (omega (arith, above, last)) s,
 )

@@ -39,7 +39,7 @@ pub returns : goal.returns
 returns c =
     let r = c.args.self.now in
     let chart = wiring_of r in
-    let accepted = c.kept.ensures.chart in
+    let accepted = c.facts.ensures.chart in
     let is_wired = c.ends_share_queues.ensures r.queues r.chart accepted in
     let lines : HaveOneLine chart = λ x y ix iy. c.inputs_share_lines.ensures r.queues r.chart x y accepted ix iy in
     let run = c.loop-x.beginning.run.items in

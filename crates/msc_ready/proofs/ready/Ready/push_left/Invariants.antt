@@ -1,7 +1,7 @@
 use Rattle.std.proofs.Common.{◌≡◌, ◌++◌, ℕ, Bool}
 use Rattle.msc_chart.specs.Lists.{pairs_to}
 use Rattle.msc_ready.specs.Held.{ready_in, wiring_of}
-use Rattle.msc_ready.specs.Sticks.{AreLeft}
+use Rattle.msc_ready.specs.BlockedPairs.{AreLeft}
 use Rattle.msc_ready.proofs.ready.Ready.push_left.Given as goal
 
 abbrev pub invariant-loop-f : goal.invariant-loop-f

@@ -14,7 +14,7 @@ pub returns-then-not-is_loose-clause-row : goal.returns-then-not-is_loose-clause
 returns-then-not-is_loose-clause-row c y below over =
     let r = c.args.self.now in
     let mates = over.1 in
-    let one = c.inputs_share_lines.ensures r.queues r.chart c.args.x over.0 c.kept.ensures.chart mates.first mates.second mates.one_queue in
+    let one = c.inputs_share_lines.ensures r.queues r.chart c.args.x over.0 c.facts.ensures.chart mates.first mates.second mates.one_queue in
     let loose : ready_of c.args.lines.now (line r.chart.events c.args.x) ≡ false = ap (ready_of c.args.lines.now) one ∙ mates.loose in
     clash (c.is_loose.ensures.1 (mates.first, loose)) c.if-not-is_loose.true
 
@@ -25,7 +25,7 @@ pub loop-u-preserved : goal.loop-u-preserved
 loop-u-preserved c =
     let r = c.args.self.now in
     let n : ℕ = length r.chart.events in
-    let accepted = c.kept.ensures.chart in
+    let accepted = c.facts.ensures.chart in
     let is_wired = c.ends_share_queues.ensures r.queues r.chart accepted in
     let lines : HaveOneLine (wiring_of r) = λ x y ix iy. c.inputs_share_lines.ensures r.queues r.chart x y accepted ix iy in
     let i = c.loop-u.invariant in

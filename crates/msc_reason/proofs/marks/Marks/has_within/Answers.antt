@@ -55,7 +55,7 @@ pub returns-then-before : goal.returns-then-before
 returns-then-before c allowed asked =
     let e = c.args.enforced.now in
     let drawn = rw c.chart-chart.ensures at c.before-2.ensures in
-    let found = found_first e.chart.events c.enforced.ensures.chart.in_text_order (is_counted e allowed) (counted_drawn e allowed) _ _ asked.marks
+    let found = found_first e.chart.events c.facts.ensures.chart.in_text_order (is_counted e allowed) (counted_drawn e allowed) _ _ asked.marks
     c.args.race.0 c.args.race.1 c.args.first c.args.end asked.race asked.first asked.end (drawn.0 c.if-before.true) in
     sym (some_within e allowed c.args.race found.0 found.1 found.2)
 
@@ -65,7 +65,7 @@ returns-then-before-2 c allowed asked =
     let n = rw c.chart-chart.ensures at c.events.ensures.number in
     let drawn = rw c.chart-chart.ensures at c.before-then-least-events.ensures in
     let same = least_is e.chart.events c.args.self.now.least.items c.args.race.0 c.args.end c.index-least.result.now asked.marks.leasts asked.end c.index-least.ensures in
-    let found = found_least e.chart.events c.enforced.ensures.chart.in_text_order (is_counted e allowed) (counted_drawn e allowed) _ _ asked.marks
+    let found = found_least e.chart.events c.facts.ensures.chart.in_text_order (is_counted e allowed) (counted_drawn e allowed) _ _ asked.marks
     c.args.race.0 c.args.race.1 c.args.first c.args.end asked.race asked.first asked.end
     (let low = c.if-least-events.true in omega (arith, low, same, n))
     (subst (λ (x : ℕ). before e.chart.events x c.args.race.1 ≡ true) same (drawn.0 c.if-before-2.true)) in
@@ -77,7 +77,7 @@ returns c allowed asked =
     let n = rw c.chart-chart.ensures at c.events.ensures.number in
     let ahead = rw c.chart-chart.ensures at c.before-2.ensures in
     let drawn = rw c.chart-chart.ensures at c.before-3.ensures in
-    let text = c.enforced.ensures.chart.in_text_order in
+    let text = c.facts.ensures.chart.in_text_order in
     let own = before_parts e.chart.events _ _ (counted_drawn e allowed c.args.race.0 c.args.race.1 asked.race) in
     let last = last_is c.args.self.now.last.items c.args.race.1 c.index.result.now c.index.ensures (omega (arith, own.1, asked.marks.lasts)) in
     let least = least_is e.chart.events c.args.self.now.least.items c.args.race.0 c.args.end c.index-least.result.now asked.marks.leasts asked.end c.index-least.ensures in

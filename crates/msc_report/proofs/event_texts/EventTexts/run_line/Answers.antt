@@ -20,8 +20,8 @@ number_put d texts run old new k are more known before put =
     ∙ flat_map_more spaced (codes "run") (take k run) (get_or run k 0)
     ∙ ap (λ (l : List ℕ). codes "run" ++ flat_map spaced l) (sym (take_more run k 0 more))
 
-pub put_number-requires : goal.put_number-requires
-put_number-requires c = record {
+pub print_number-requires : goal.print_number-requires
+print_number-requires c = record {
   known = All-get_or (λ (e : ℕ). e < length c.args.self.now) c.args.run.now c.loop-e.e-index 0 c.loop-e-test.true c.requires;
   room = c.loop-e.invariant.within;
 }

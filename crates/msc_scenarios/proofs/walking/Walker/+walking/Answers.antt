@@ -2,7 +2,7 @@ use Rattle.std.proofs.Common.{◌≡◌, ◌+◌, ◌-◌, ◌++◌, ◌∷◌, 
 use Rattle.std.proofs.lemmas.List.{take_rest}
 use Rattle.msc_mermaid.specs.declared.row.Closer.TheVariants as closers
 use Rattle.msc_mermaid.specs.declared.statement.Statement.TheVariants.{Closes}
-use Rattle.msc_scenarios.specs.Courses.{walk, unbroken, side_by_side, one, owned_by}
+use Rattle.msc_scenarios.specs.Steps.{walk, unbroken, side_by_side, one, owned_by}
 use Rattle.msc_scenarios.proofs.WalkLemmas.{round_on, round_not, round_none, side_on, side_not, side_end, walk_skip, walk_next, walk_not, walk_end, walk_zero, walk_some}
 use Rattle.msc_scenarios.proofs.walking.Walker.+walking.Goals as goal
 

@@ -1,5 +1,5 @@
 use Rattle.std.proofs.Common.{◌≡◌, ◌+◌, ◌-◌, ◌*◌, drop, map}
-use Rattle.msc_scenarios.specs.Courses.{walk, walk_on, rounds_from, side_by_side}
+use Rattle.msc_scenarios.specs.Steps.{walk, walk_on, rounds_from, side_by_side}
 use Rattle.msc_scenarios.proofs.walking.Walker.+walking.Given as goal
 
 abbrev pub decreases-walk : goal.decreases-walk

@@ -1,0 +1,113 @@
+-- Charts whose events are those of one chart in several rounds.
+use Rattle.std.proofs.Common.{◌≡◌, ℕ, ◌+◌, ◌*◌, ◌<◌, ◌≤◌, ◌⊎◌, true, length, inl, inr, sym, ap, subst, ◌∙◌, arith}
+use Rattle.msc_chart.specs.declared.queue.Queues.{Queues}
+use Rattle.msc_chart.specs.declared.queue.Queues.TheVariants.{Pair, Mailbox, Single}
+use Rattle.msc_chart.specs.Charts.{line, partner, message, is_output, is_input, is_controlled, before}
+use Rattle.msc_chart.specs.Drawings.{Drawing, IsAccepted}
+use Rattle.msc_chart.specs.Orders.{WiredChart, IsWired, queue, queue_number, sender_at, receiver_at}
+use Rattle.msc_chart.proofs.Drawn.{before_parts, output_parts, output_not_local}
+use Rattle.msc_chart.proofs.EventCounts.{parts_same}
+
+-- the queue of the message of event e, in round r, where a message of its own has a queue of its own
+unfoldable pub queue_in : Queues → Drawing → ℕ → ℕ → ℕ
+queue_in queues d e r = queue_number queues (length d.instances) (sender_at d.events e) (receiver_at d.events e) (r * length d.messages + message d.events e)
+
+-- x is drawn before y: on one line, in an earlier round, or in the same one and so in the chart
+abbrev pub IsAbove : Drawing → ℕ → ℕ → ℕ → ℕ → Type 0
+IsAbove d e r f q = (line d.events e ≡ line d.events f) × ((r < q) ⊎ ((r ≡ q) × (before d.events e f ≡ true)))
+
+-- The events of a chart are those of d in n rounds: event k is event_at k in round_at k, and number_at
+-- leads back.
+pub record HasRounds (queues : Queues) (d : Drawing) (n : ℕ) (chart : WiredChart) : Type 0 where
+  pub event_at : ℕ → ℕ
+  pub round_at : ℕ → ℕ
+  pub number_at : ℕ → ℕ → ℕ
+  pub accepted : IsAccepted d
+  pub is_wired : IsWired chart
+  pub event_in : (k : ℕ) → k < length chart.events → event_at k < length d.events
+  pub round_in : (k : ℕ) → k < length chart.events → round_at k < n
+  pub back : (k : ℕ) → k < length chart.events → number_at (event_at k) (round_at k) ≡ k
+  pub number_in : (e r : ℕ) → e < length d.events → r < n → number_at e r < length chart.events
+  pub event_is : (e r : ℕ) → e < length d.events → r < n → event_at (number_at e r) ≡ e
+  pub round_is : (e r : ℕ) → e < length d.events → r < n → round_at (number_at e r) ≡ r
+  pub line_is : (k : ℕ) → k < length chart.events → line chart.events k ≡ line d.events (event_at k)
+  pub output : (k : ℕ) → k < length chart.events → is_output chart.events k ≡ is_output d.events (event_at k)
+  pub input : (k : ℕ) → k < length chart.events → is_input chart.events k ≡ is_input d.events (event_at k)
+  pub controlled : (k : ℕ) → k < length chart.events → is_controlled chart.events k ≡ is_controlled d.events (event_at k)
+  pub other : (k : ℕ) → k < length chart.events → partner chart.events k ≡ number_at (partner d.events (event_at k)) (round_at k)
+  pub above : (x y : ℕ) → before chart.events x y ≡ true → IsAbove d (event_at x) (round_at x) (event_at y) (round_at y)
+  pub drawn_so : (x y : ℕ) → x < length chart.events → y < length chart.events → IsAbove d (event_at x) (round_at x) (event_at y) (round_at y) → before chart.events x y ≡ true
+  pub queue_is : (k : ℕ) → is_output chart.events k ≡ true → queue chart k ≡ queue_in queues d (event_at k) (round_at k)
+
+-- where two messages share a queue, they do so as many rounds later
+pub queue_shifted : (queues : Queues) (d : Drawing) (e f r q s t : ℕ) → message d.events e < length d.messages → message d.events f < length d.messages
+    → queue_in queues d e (s + r) ≡ queue_in queues d f (s + q) → queue_in queues d e (t + r) ≡ queue_in queues d f (t + q)
+unfolding queue_in queue_number
+queue_shifted Pair d e f r q s t p k same = same
+queue_shifted Mailbox d e f r q s t p k same = same
+queue_shifted Single d e f r q s t p k same =
+    let parts = parts_same (s + r) (s + q) (message d.events e) (message d.events f) (length d.messages) p k same in
+    let round : t + r ≡ t + q = (let h = parts.0 in omega arith) in
+    ap (λ (x : ℕ). x * length d.messages + message d.events e) round
+    ∙ ap (λ (x : ℕ). (t + q) * length d.messages + x) parts.1
+
+module _ {queues : Queues} {d : Drawing} {n : ℕ} {chart : WiredChart} (a : HasRounds queues d n chart) where
+  -- both are events, the second in no earlier round
+  abbrev pub GoesOn : ℕ → ℕ → Type 0
+  GoesOn x y = (x < length chart.events) × (y < length chart.events) × (a.round_at x ≤ a.round_at y)
+
+  -- what is drawn before another goes on so
+  pub drawn_on : (x y : ℕ) → before chart.events x y ≡ true → GoesOn x y
+  drawn_on x y h =
+      let p = before_parts chart.events x y h in
+      (p.0, p.1, elim (a.above x y h).1 [ inl lt ↦ omega arith | inr same ↦ let r = same.0 in omega arith ])
+
+  -- a partner is an event of the same round, and its event is the partner
+  pub partner_is : (k : ℕ) → k < length chart.events
+      → (partner chart.events k < length chart.events) × (a.round_at (partner chart.events k) ≡ a.round_at k) × (a.event_at (partner chart.events k) ≡ partner d.events (a.event_at k))
+  partner_is k within =
+      let is = a.other k within in
+      let p = a.accepted.matched.in_range (a.event_at k) (a.event_in k within) in
+      let r = a.round_in k within in (
+        subst (λ (x : ℕ). x < length chart.events) (sym is) (a.number_in (partner d.events (a.event_at k)) (a.round_at k) p r),
+        ap a.round_at is ∙ a.round_is (partner d.events (a.event_at k)) (a.round_at k) p r,
+        ap a.event_at is ∙ a.event_is (partner d.events (a.event_at k)) (a.round_at k) p r,
+      )
+
+  -- the same of a number that is a partner
+  pub partner_on : (x y : ℕ) → x < length chart.events → partner chart.events x ≡ y → (y < length chart.events) × (a.round_at y ≡ a.round_at x)
+  partner_on x y within is =
+      let p = partner_is x within in
+      (subst (λ (z : ℕ). z < length chart.events) is p.0, ap a.round_at (sym is) ∙ p.1)
+
+  -- the partners of two events go on as these do
+  pub partners_on : (x y s t : ℕ) → GoesOn x y → partner chart.events x ≡ s → partner chart.events y ≡ t → GoesOn s t
+  partners_on x y s t on p q =
+      let h = partner_on x s on.0 p in
+      let k = partner_on y t on.1 q in
+      let up = on.2 in
+      let i = h.1 in
+      let j = k.1 in
+      (h.0, k.0, omega (arith, up, i, j))
+
+  -- an output and its input go on
+  pub sent_on : (x y : ℕ) → is_output chart.events x ≡ true → partner chart.events x ≡ y → GoesOn x y
+  sent_on x y o is =
+      let within = (output_parts chart.events x o).0 in
+      let p = partner_on x y within is in
+      let r = p.1 in
+      (within, p.0, omega (arith, r))
+
+  -- and so does one after the other
+  pub joined_on : (x y z : ℕ) → GoesOn x y → GoesOn y z → GoesOn x z
+  joined_on x y z h k =
+      let p = h.2 in
+      let q = k.2 in
+      (h.0, k.1, omega (arith, p, q))
+
+  -- an output has a message of the chart
+  pub known : (k : ℕ) → is_output chart.events k ≡ true → message d.events (a.event_at k) < length d.messages
+  known k o =
+      let within = (output_parts chart.events k o).0 in
+      let out : is_output d.events (a.event_at k) ≡ true = sym (a.output k within) ∙ o in
+      a.accepted.has_messages.known (a.event_at k) (a.event_in k within) (output_not_local d.events (a.event_at k) out)

@@ -1,0 +1,133 @@
+-- What the status tells of an answer.
+use Rattle.std.proofs.Common.{◌≡◌, ℕ, Bool, true, false, nat_eq, List, Option, Some, None, Result, Ok, Err, inl, inr, refl, sym, subst}
+use Rattle.clap.specs.declared.parser.matches.Found.{Found}
+use Rattle.msc_report.specs.declared.fault.Fault.TheVariants.{Parse, Chart, NotStarted, Memory, Device}
+use Rattle.msc_diagram.specs.declared.scenario.Scenario.{Scenario}
+use Rattle.std.specs.Io.KnownBytes.{Appends}
+use Rattle.msc_markdown.specs.Markdowns.{Found as Markdown}
+use Rattle.msc_command.specs.Scenarios.{PrintsAll}
+use Rattle.msc_command.specs.Surveys.{many_in, Surveys}
+use Rattle.msc_command.specs.declared.tasks.CheckArgs.{CheckArgs}
+use Rattle.msc_command.specs.declared.ending.Refusal.{Refusal}
+use Rattle.msc_command.specs.declared.ending.Refusal.TheVariants as refusals
+use Rattle.msc_command.specs.declared.ending.Status.{Status}
+use Rattle.msc_command.specs.declared.ending.Status.TheVariants.{Done, Races, Refused, Unfinished, Failed}
+use Rattle.msc_command.specs.declared.tasks.ChartCommand.TheVariants as chart_commands
+use Rattle.msc_command.specs.declared.tasks.ScenarioArgs.{ScenarioArgs}
+use Rattle.msc_command.specs.declared.tasks.Task.{Task}
+use Rattle.msc_command.specs.declared.tasks.Task.TheVariants as tasks
+use Rattle.msc_command.specs.Answering.{ends_with, Performs, Prints, PrintsDiagrams}
+use Rattle.msc_command.specs.Ending.{ended_by, finished_by, status_code}
+use Rattle.msc_command.specs.Program.{Obeys, Tells, TellsAnswer, TellsRefused}
+use Rattle.msc_command.specs.Refused.{format_of, TellsIn}
+use Rattle.msc_command.specs.declared.tasks.Format.{Format}
+use Rattle.msc_command.specs.declared.tasks.Format.TheVariants as formats
+
+-- no run that tells whether something holds ends as refused
+never_ended : (holds : Bool) → Refused ≡ ended_by holds → ⊥
+never_ended true same = cc
+never_ended false same = cc
+
+-- and none of a chart that is run
+never_finished : (finished : Bool) → Refused ≡ finished_by finished → ⊥
+never_finished true same = cc
+never_finished false same = cc
+
+-- and none of scenarios
+never_surveyed : (quiet : Bool) (c : CheckArgs) (file name : List ℕ) (drawn : Bool) (ss : List Scenario) (printed : List ℕ) → PrintsAll quiet c file name drawn ss Refused printed → ⊥
+never_surveyed true c file name drawn ss printed (n, (passed, same, zero, says, none)) = never_ended passed same
+never_surveyed false c file name drawn ss printed (n, (format, its, same, says)) = never_ended (nat_eq n 0) same
+
+-- one of several diagrams is refused
+abbrev pub RefusesOne : List ℕ → Type 0
+RefusesOne printed = (x : ScenarioArgs) × (file : List ℕ) × (text : List ℕ) × (f : Markdown) × (many_in x text ≡ Some f) × Surveys x file text f.numbers Done Refused printed
+
+diagram_refused : (many : Option Markdown) (x : ScenarioArgs) (file text printed : List ℕ) → many_in x text ≡ many
+    → PrintsDiagrams many x file text Refused printed → RefusesOne printed
+diagram_refused None x file text printed is (all, of_text, charts, says) = absurd (never_surveyed x.quiet x.check_args file _ _ _ printed says)
+diagram_refused (Some f) x file text printed is says = (x, file, text, f, is, says)
+
+-- so of what is printed for a task only several diagrams are
+printed_refused : (task : Task) (file text printed : List ℕ) → Prints task file text Refused printed → RefusesOne printed
+printed_refused tasks.Read file text printed (draft, has, same, is) = absurd cc
+printed_refused (tasks.Chart (chart_commands.Check c)) file text printed (d, of_text, (chart_format, its, marks, are, room, passed, same, says)) = absurd (never_ended passed same)
+printed_refused (tasks.Chart (chart_commands.Quiet x)) file text printed (d, of_text, (marks, are, room, passed, same, says, none)) = absurd (never_ended passed same)
+printed_refused (tasks.Chart (chart_commands.Explain x)) file text printed (d, of_text, (e, f, two, style, its, enforced, same, says)) = absurd (never_ended enforced same)
+printed_refused (tasks.Chart (chart_commands.Run queues patience)) file text printed (d, of_text, (finished, same, says)) = absurd (never_finished finished same)
+printed_refused (tasks.Chart (chart_commands.List placed)) file text printed (d, of_text, (event_positions, are, same, is)) = absurd cc
+printed_refused (tasks.Chart (chart_commands.Ready x)) file text printed (d, of_text, (only, are, style, its, room, passed, same, says)) = absurd (never_ended passed same)
+printed_refused (tasks.Draw drawn) file text printed (d, is, (same, says)) = absurd cc
+printed_refused (tasks.Import x) file text printed (same, says) = absurd cc
+printed_refused (tasks.Scenarios x) file text printed says = diagram_refused (many_in x text) x file text printed refl says
+
+module _ {W : Type 0} (contents : W → Option (List ℕ)) where
+  -- of a refusal that was told, nothing or its lines went out
+  refused_told : (format : Format) (file text : List ℕ) (refusal : Refusal) (old new : W) → TellsIn contents format file text refusal old new → TellsRefused contents old new
+  refused_told formats.Text file text refusal old new same = inl same
+  refused_told formats.Count file text refusal old new same = inl same
+  refused_told formats.Lines file text refusal old new (printed, is, wrote) = inr (inl (file, text, refusal, printed, is, wrote))
+
+  -- and of several diagrams of which one is refused all that is printed did
+  several_told : (printed : List ℕ) (old new : W) → RefusesOne printed → Appends (contents old) (contents new) printed → TellsRefused contents old new
+  several_told printed old new (x, file, text, f, is, says) wrote = inr (inr (x, file, text, f, is, printed, says, wrote))
+
+  -- the status tells of what was performed
+  tells : (task : Task) (file : List ℕ) (reads : List ℕ → Type 0) (answer : Result Status Refusal) (old new : W)
+      → Performs contents task file reads answer old new → TellsAnswer contents (ends_with answer) old new
+  tells task file reads (Ok Done) old new said = tt
+  tells task file reads (Ok Races) old new (inl (text, read, (printed, says, wrote))) = (task, file, text, printed, says, wrote)
+  tells task file reads (Ok Races) old new (inr (never, same)) = absurd never
+  tells task file reads (Ok Refused) old new (inl (text, read, (printed, says, wrote))) =
+      several_told printed old new (printed_refused task file text printed says) wrote
+  tells task file reads (Ok Refused) old new (inr (never, same)) = absurd never
+  tells task file reads (Ok Unfinished) old new (inl (text, read, (printed, says, wrote))) = (task, file, text, printed, says, wrote)
+  tells task file reads (Ok Unfinished) old new (inr (never, same)) = absurd never
+  tells task file reads (Ok Failed) old new said = tt
+  tells task file reads (Err (refusals.Fault (Parse f))) old new (inl (text, read, (refused, told))) = refused_told (format_of task) file text (refusals.Fault (Parse f)) old new told
+  tells task file reads (Err (refusals.Fault (Parse f))) old new (inr (never, same)) = absurd never
+  tells task file reads (Err (refusals.Fault (Chart f))) old new (inl (text, read, (refused, told))) = refused_told (format_of task) file text (refusals.Fault (Chart f)) old new told
+  tells task file reads (Err (refusals.Fault (Chart f))) old new (inr (never, same)) = absurd never
+  tells task file reads (Err (refusals.Fault (NotStarted i))) old new said = tt
+  tells task file reads (Err (refusals.Fault Memory)) old new said = tt
+  tells task file reads (Err (refusals.Fault Device)) old new said = tt
+  tells task file reads (Err (refusals.Pair f)) old new (inl (text, read, (refused, told))) = refused_told (format_of task) file text (refusals.Pair f) old new told
+  tells task file reads (Err (refusals.Pair f)) old new (inr (never, same)) = absurd never
+  tells task file reads (Err (refusals.Mark f)) old new (inl (text, read, (refused, told))) = refused_told (format_of task) file text (refusals.Mark f) old new told
+  tells task file reads (Err (refusals.Mark f)) old new (inr (never, same)) = absurd never
+  tells task file reads (Err (refusals.Instance name)) old new (inl (text, read, (refused, told))) = refused_told (format_of task) file text (refusals.Instance name) old new told
+  tells task file reads (Err (refusals.Instance name)) old new (inr (never, same)) = absurd never
+  tells task file reads (Err (refusals.Rounds f)) old new (inl (text, read, (refused, told))) = refused_told (format_of task) file text (refusals.Rounds f) old new told
+  tells task file reads (Err (refusals.Rounds f)) old new (inr (never, same)) = absurd never
+  tells task file reads (Err (refusals.Import e)) old new (inl (text, read, (refused, told))) = refused_told (format_of task) file text (refusals.Import e) old new told
+  tells task file reads (Err (refusals.Import e)) old new (inr (never, same)) = absurd never
+
+  -- and of words that were obeyed
+  pub obeyed : (name : List ℕ) (found : Found) (status : Status) (reads : List ℕ → Type 0) (old new : W)
+      → Obeys contents name found status reads old new → TellsAnswer contents status old new
+  obeyed name found status reads old new (inl none) = rw (none.ends) (inl none.kept)
+  obeyed name found status reads old new (inr done) =
+      subst (λ (s : Status). TellsAnswer contents s old new) (sym done.ends.1) (tells done.task _ reads done.ends.0 old new done.ends.2)
+
+  -- where the exit status is 1, an answer that tells so went out
+  pub told_races : (status : Status) (old new : W) → TellsAnswer contents status old new → status_code status ≡ 1 → Tells contents Races old new
+  told_races Done old new told one = absurd cc
+  told_races Races old new told one = told
+  told_races Refused old new told one = absurd cc
+  told_races Unfinished old new told one = absurd cc
+  told_races Failed old new told one = absurd cc
+
+  -- where it is 2, the output has had no call, or has the lines of a refusal
+  pub told_refused : (status : Status) (old new : W) → TellsAnswer contents status old new → status_code status ≡ 2 → TellsRefused contents old new
+  told_refused Done old new told two = absurd cc
+  told_refused Races old new told two = absurd cc
+  told_refused Refused old new told two = told
+  told_refused Unfinished old new told two = absurd cc
+  told_refused Failed old new told two = absurd cc
+
+  -- where it is 3, an answer that tells so went out
+  pub told_unfinished : (status : Status) (old new : W) → TellsAnswer contents status old new → status_code status ≡ 3 → Tells contents Unfinished old new
+  told_unfinished Done old new told three = absurd cc
+  told_unfinished Races old new told three = absurd cc
+  told_unfinished Refused old new told three = absurd cc
+  told_unfinished Unfinished old new told three = told
+  told_unfinished Failed old new told three = absurd cc

@@ -1,0 +1,113 @@
+//! The places of the names of lines, of the labels of arrows, and of their statements in a text.
+
+ghost use Rattle.std.specs.Prelude.{◌≡◌, ◌++◌, map, IfOk, OnOk};
+ghost use Rattle.std.specs.List.{flat_map};
+ghost use Rattle.msc_import.specs.Plans.{seen};
+ghost use Rattle.msc_import.specs.Places.{shown_at, shows, site_of, sites_in, sites_of};
+
+use crate::plan::{Plan, Planned};
+use listed::Listed;
+use msc_mermaid::{Diagram, Placed, Span, Statement};
+use std::alloc::{AllocError, Global};
+
+/// The place of an event's statement in the text, and that of the label of its arrow, which may be
+/// empty.
+#[derive(Clone, Copy, Debug, PartialEq, Eq)]
+pub struct EventSpans {
+    pub statement: Span,
+    pub label: Span,
+}
+
+/// The place of the first name of each line in the text, that of its first shown name, if it has
+/// one, and the sites of the events, in their order.
+#[derive(Drop)]
+pub struct TextSpans {
+    pub names: Listed<Span>,
+    pub shown: Listed<Option<Span>>,
+    pub events: Listed<EventSpans>,
+}
+
+/// Appends the sites of these events.
+fn put_spans(spans: &mut Vec<EventSpans>, events: &[Planned]) -> Result<(), AllocError>
+    ensures { OnOk result
+        (spans.new.items ≡ spans.old.items ++ map (λ e. site_of (seen e)) events.now) }
+{
+    for event in events {
+        let Planned { message, side: _ } = *event;
+        spans.push(EventSpans {
+            statement: message.statement,
+            label: message.label,
+        })?;
+    }
+    Ok(())
+}
+
+/// The sites of the events on all lines.
+pub(crate) fn sites_in(alloc: Global, plans: &[Plan]) -> Result<Vec<EventSpans>, AllocError>
+    ensures { IfOk result (λ v. v.items ≡ flat_map sites_in plans.now) }
+{
+    let mut spans = Vec::new(alloc);
+    for plan in plans {
+        put_spans(&mut spans, plan.events())?;
+    }
+    Ok(spans)
+}
+
+/// Whether a statement gives a line a shown name.
+fn shows(ident: &[u8], statement: &Statement) -> bool
+    ensures { result ≡ shows ident.now statement.now }
+{
+    match statement {
+        Statement::Declares(other, Some(_)) => other.as_slice() == ident,
+        _ => false,
+    }
+}
+
+/// The place of the first shown name of a line.
+fn shown_at(ident: &[u8], statements: &[Placed]) -> Option<Span>
+    ensures { result ≡ shown_at ident.now statements.now }
+{
+    for placed in statements {
+        if shows(ident, &placed.statement) {
+            return Some(placed.shown);
+        }
+    }
+    None
+}
+
+/// The places of the first shown names of lines.
+fn all_shown(
+    alloc: Global,
+    lines: &[Listed<u8>],
+    statements: &[Placed],
+) -> Result<Vec<Option<Span>>, AllocError>
+    ensures { IfOk result (λ v.
+        v.items ≡ map (λ ident. shown_at ident statements.now) lines.now) }
+{
+    let mut shown = Vec::new(alloc);
+    for line in lines {
+        shown.push(shown_at(line.as_slice(), statements))?;
+    }
+    Ok(shown)
+}
+
+/// The places of names and labels of a diagram and of these events.
+pub(crate) fn sites_of(
+    alloc: Global,
+    diagram: &Diagram,
+    events: Vec<EventSpans>,
+) -> Result<TextSpans, AllocError>
+    ensures { IfOk result (λ s. s ≡ sites_of diagram.now events.items) }
+{
+    let shown = all_shown(
+        alloc,
+        diagram.lines.as_slice(),
+        diagram.statements.as_slice(),
+    )?;
+    let names = Vec::from_slice(alloc, diagram.names.as_slice())?;
+    Ok(TextSpans {
+        names: Listed::from_vec(names),
+        shown: Listed::from_vec(shown),
+        events: Listed::from_vec(events),
+    })
+}

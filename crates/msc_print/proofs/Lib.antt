@@ -1,0 +1,4 @@
+pub mod KnownBytes
+pub mod PrintLemmas
+pub mod Putting
+pub mod RowLemmas

@@ -1,0 +1,4 @@
+pub mod Pages
+pub mod Printed
+pub mod Prints
+pub mod Rows

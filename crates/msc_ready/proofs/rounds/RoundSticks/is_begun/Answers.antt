@@ -1,5 +1,0 @@
-use Rattle.msc_ready.proofs.Between.{known_two}
-use Rattle.msc_ready.proofs.rounds.RoundSticks.is_begun.Goals as goal
-
-pub place-round-requires : goal.place-round-requires
-place-round-requires c = record { known = known_two c.args.self.now.numbers.now c.args.self.now.sticks.now.chart c.args.x c.requires.twice c.requires.known }

@@ -1,5 +1,0 @@
-use Rattle.msc_ready.specs.Lesser.{IsLeastBelow}
-use Rattle.msc_ready.proofs.sticks.Sticks.ahead_of.Given as goal
-
-abbrev pub invariant-loop-h : goal.invariant-loop-h
-invariant-loop-h l = IsLeastBelow l.self l.f l.h l.least

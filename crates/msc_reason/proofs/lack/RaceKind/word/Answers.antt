@@ -1,4 +1,0 @@
-use Rattle.msc_reason.proofs.lack.RaceKind.word.Goals as goal
-
-pub returns-in-Unordered : goal.returns-in-Unordered
-returns-in-Unordered c = rw c.in-Unordered.is

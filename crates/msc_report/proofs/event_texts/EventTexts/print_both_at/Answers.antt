@@ -1,0 +1,11 @@
+use Rattle.msc_report.proofs.MadeTexts.{both_joined}
+use Rattle.msc_report.proofs.event_texts.EventTexts.print_both_at.Goals as goal
+
+pub returns : goal.returns
+returns c = λ d texts.
+    rw (
+      c.in_ok-extend_from_slice-2.ensures.items,
+      c.in_ok-extend_from_slice.ensures.items,
+      c.next.ensures,
+      c.placed.ensures,
+    ) (both_joined d c.args.e c.args.f c.args.page.now.bytes.items c.args.self.now texts c.requires.e_known c.requires.f_known)

@@ -1,0 +1,10 @@
+use Rattle.msc_report.proofs.race_line.print_slices.Goals as goal
+
+pub returns : goal.returns
+returns c =
+    rw (
+      c.in_ok-extend_from_slice-4.ensures.items,
+      c.in_ok-extend_from_slice-3.ensures.items,
+      c.in_ok-extend_from_slice-2.ensures.items,
+      c.in_ok-extend_from_slice.ensures.items,
+    )

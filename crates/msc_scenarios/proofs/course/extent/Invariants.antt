@@ -1,7 +1,0 @@
-use Rattle.std.proofs.Common.{◌≡◌, ◌≤◌, ◌+◌, drop}
-use Rattle.msc_scenarios.specs.Courses.{extent}
-use Rattle.msc_scenarios.proofs.course.extent.Given as goal
-
-abbrev pub invariant-loop-i : goal.invariant-loop-i
-invariant-loop-i l =
-    (l.i + extent l.depth (drop l.i l.statements) ≡ extent 0 l.statements) × (l.depth ≤ l.i)

@@ -1,0 +1,39 @@
+"""Pictures in text that the program prints of random charts.
+
+Of each is drawn the chart, the chart with its closest races under each architecture, and for one of
+the races a run that reverses it; of one pair that is no race the program has to say so.
+"""
+from generators.charts import chart
+from harness import Answer, joined
+from models.chart import QUEUES, Chart
+from models.picture import chart_picture, run_picture
+
+NEEDS_PROGRAM = True
+OPTIONS = {"number": 150, "messages": 12}
+
+
+def tasks(pick, text):
+    """The words of runs over a chart's text, with the lines and the fault that each prints."""
+    yield ["draw"], chart_picture(Chart(text, "pair"), False), ""
+    for queues in QUEUES:
+        drawn = Chart(text, queues)
+        yield ["draw", "--queues", queues], chart_picture(drawn, True), ""
+        races = drawn.races()
+        reverse = ["reverse", "--queues", queues]
+        if races:
+            e, f = pick.choice(races)
+            yield [*reverse, str(e), str(f)], run_picture(drawn, e, f), ""
+        if len(drawn.all) > 1:
+            e, f = pick.sample(drawn.all, 2)
+            if (e, f) not in races:
+                yield [*reverse, str(e), str(f)], [], f"pair fault 3: {e} {f} is no race\n"
+
+
+def compare(trial):
+    for _ in range(trial.options.number):
+        text = chart(trial.pick, trial.options.messages, True)
+        for (verb, *options), lines, fault in tasks(trial.pick, text):
+            flags, events = (options[:-2], options[-2:]) if verb == "reverse" else (options, [])
+            wanted = Answer(joined(lines), fault.encode(), 2 if fault else 0)
+            trial.noted["pictures of runs"] += verb == "reverse" and not fault
+            trial.compare([verb, *flags, "-", *events], text.encode("latin-1"), wanted)

@@ -1,0 +1,59 @@
+"""What `msc check --again` and `msc ready --again` print of random charts with their options.
+
+The closest races are compared with those that the program prints of the text of two rounds, too.
+"""
+from generators.charts import chart, marked, small_chart
+from generators.check_options import some_options, words_of
+from harness import Answer, joined
+from models.chart import QUEUES, Chart
+from models.marks import fault_of, marks_for
+from models.races import study
+from models.ready import ALL
+from models.rounds import PLAIN, check_answer, ready_answer, repeated
+
+NEEDS_PROGRAM = True
+OPTIONS = {"number": 150, "messages": 6}
+
+
+def closest_words(text, queues):
+    """What is printed of the text of two rounds with --closest, without runs."""
+    options = {**PLAIN, "closest": True, "why": True, "show": 0}
+    return study(Chart(text, queues), [], options, {})
+
+
+def tasks(pick, text):
+    """The words of runs over a chart, the text that is given, its lines and its status."""
+    faulty = fault_of(text)
+    for queues in QUEUES:
+        options, asked = some_options(pick), ["--queues", queues, "--again"]
+        options["accept"] = options["accept"] and not faulty
+        options["most"] = pick.choice([options["most"], ALL, ALL])
+        lines, status = check_answer(text, queues, options, marks_for(text, queues))
+        yield ["check", *asked, *words_of(options)], text, lines, status
+        names = [*Chart(text, queues).names, "nobody"]
+        only = [pick.choice(names) for _ in range(pick.choice([0, 0, 0, 1, 2]))]
+        show, words, placed = pick.choice([0, 1, 2, ALL]), pick.random() < 0.4, pick.random() < 0.4
+        lines, status = ready_answer(text, queues, only, show, words, placed)
+        more = [word for name in only for word in ("--only", name)]
+        more += ["--words"] * words + ["--places"] * placed + ["--show", str(show)]
+        yield ["ready", *asked, *more], text, lines, status
+        if pick.random() < 0.3:
+            two = repeated(text, 2)
+            words = ["check", "--queues", queues, "--closest", "--why", "--show", "0"]
+            yield words, two, *closest_words(two, queues)
+
+
+def compare(trial):
+    pick, messages = trial.pick, trial.options.messages
+    for _ in range(trial.options.number):
+        if pick.random() < 0.5:
+            text = small_chart(pick, 4, messages)
+        else:
+            text = chart(pick, messages, True)
+        text = text.replace(";", ";" + pick.choice(["", "\n", "\r\n", "\n\t "]))
+        text = marked(pick, text) if pick.random() < 0.4 else text
+        for words, asked_of, lines, status in tasks(pick, text):
+            trial.noted["pairs"] += sum(line.startswith("again ") and ":" in line for line in lines)
+            told = joined(lines)
+            wanted = Answer(b"", told, status) if status == 2 else Answer(told, b"", status)
+            trial.compare([*words, "-"], asked_of.encode("latin-1"), wanted)

@@ -1,0 +1,247 @@
+"""Instances that are ready: sticks, and what `msc ready` prints, straight from the definitions.
+
+    tools/naive/print.py ready [--only NAME].. [--show N] [--words] [--places FILE]
+                               pair|mailbox|single < CHART
+
+prints what `msc ready` prints. An instance that is ready takes a message only when all that is
+drawn before has happened, and leaves the others in their queues. Each definition is a function of
+its own, written for a reader and not for speed. It shares nothing with the crates. The text has to
+be a chart: it names no fault but that of a name that no instance has. It is read as bytes, each of
+which is a character here. The exit status is 0 where the chart finishes without races, 1 where it
+does not, 2 for the fault.
+"""
+import functools
+import itertools
+import sys
+
+from harness import Answer, joined, parser, put
+from models.chart import QUEUES, Chart
+from models.races import named, places_of, run_lines
+
+ALL = 2 ** 32 - 1
+
+
+def closed(count, pairs):
+    """The least transitive relation that holds these pairs, as a set of those after each number."""
+    after = [0] * count
+    for x, y in pairs:
+        after[x] |= 1 << y
+    for middle in range(count):
+        for x in range(count):
+            if after[x] >> middle & 1:
+                after[x] |= after[middle]
+    return after
+
+
+class Ready:
+    """A chart under an architecture, with the lines that are ready."""
+
+    def __init__(self, drawn, ready):
+        self.drawn, self.ready = drawn, ready
+        self.events, self.all, self.partner = drawn.events, drawn.all, drawn.partner
+
+    def is_ready(self, e):
+        return self.events[e].line in self.ready
+
+    def is_input(self, e):
+        return self.events[e].is_input
+
+    def waits(self, e):
+        """The event comes only when all that is drawn before it has come."""
+        return self.drawn.is_controlled(e) or self.is_ready(e)
+
+    def share_queue(self, e, f):
+        return self.is_input(e) and self.is_input(f) and self.drawn.queue(e) == self.drawn.queue(f)
+
+    def plain(self):
+        """What is drawn before an event that waits for it, and outputs before their inputs."""
+        for x, y in itertools.product(self.all, self.all):
+            if self.drawn.before(x, y) and self.waits(y):
+                yield x, y
+        for s in self.all:
+            if self.drawn.is_output(s):
+                yield s, self.partner[s]
+
+    @functools.cached_property
+    def order(self):
+        """The ready order: for each event the set of those after it."""
+        pairs = set(self.plain())
+        while True:
+            after = closed(len(self.events), pairs)
+            more = {
+                (r, u)
+                for r, u in itertools.product(self.all, self.all)
+                if self.share_queue(r, u) and not self.is_ready(u)
+                and after[self.partner[r]] >> self.partner[u] & 1
+            }
+            if more <= pairs:
+                return after
+            pairs |= more
+
+    def stands_before(self, x, y):
+        return bool(self.order[x] >> y & 1)
+
+    def lined(self):
+        """Pairs of inputs of one queue on a ready line, the first drawn before the second."""
+        for e, f in itertools.product(self.all, self.all):
+            if self.drawn.before(e, f) and self.share_queue(e, f) and self.is_ready(f):
+                yield e, f
+
+    @functools.cached_property
+    def sticks(self):
+        return [
+            (e, f)
+            for e, f in self.lined()
+            if not self.stands_before(self.partner[e], self.partner[f])
+        ]
+
+    def ahead(self, f):
+        """The sticks whose second output stands before that of f."""
+        return [
+            (g, h)
+            for g, h in self.sticks
+            if self.stands_before(self.partner[h], self.partner[f])
+        ]
+
+    def may_finish(self):
+        """No ring leads along what has to come before what in a whole ready run."""
+        pairs = set(self.plain())
+        pairs |= {(self.partner[e], self.partner[f]) for e, f in self.lined()}
+        after = closed(len(self.events), pairs)
+        return not any(after[x] >> x & 1 for x in self.all)
+
+    def races(self):
+        """Pairs drawn on a line that is not ready and not in the ready order."""
+        return [
+            (e, f)
+            for e, f in itertools.product(self.all, self.all)
+            if self.drawn.before(e, f) and not self.is_ready(e) and not self.stands_before(e, f)
+        ]
+
+    def empty(self):
+        """A state: the events that have come, and what is in each queue."""
+        return 0, ()
+
+    def may_come(self, state, x):
+        past, queues = state
+        if past >> x & 1 or self.waits(x) and self.drawn.drawn_before[x] & ~past:
+            return False
+        if not self.is_input(x):
+            return True
+        first = next((s for q, s in queues if q == self.drawn.queue(x)), None)
+        return first == self.partner[x]
+
+    def after(self, state, x):
+        past, queues = state
+        if self.drawn.is_output(x):
+            queues = (*queues, (self.drawn.queue(x), x))
+        elif self.is_input(x):
+            queues = tuple(message for message in queues if message[1] != self.partner[x])
+        return past | 1 << x, queues
+
+    def next_events(self, state):
+        return [x for x in self.all if self.may_come(state, x)]
+
+    def stick_run(self, f):
+        """Up to the output of f: the least event up to it that may come, or else the least input
+        that may; then the least event that may come, until none may."""
+        second = self.partner[f]
+        up_to = [x for x in self.all if x == second or self.stands_before(x, second)]
+        run, state = [], self.empty()
+        while True:
+            may = self.next_events(state)
+            if any(not state[0] >> x & 1 for x in up_to):
+                ahead = [x for x in may if x in up_to]
+                may = ahead or [x for x in may if self.is_input(x)]
+            if not may:
+                return run
+            run.append(may[0])
+            state = self.after(state, may[0])
+
+    def is_whole(self, state):
+        return state[0] == (1 << len(self.events)) - 1
+
+    def reach(self, start):
+        """All states that ready runs reach from a state."""
+        found, left = {start}, [start]
+        while left:
+            state = left.pop()
+            for x in self.next_events(state):
+                later = self.after(state, x)
+                if later not in found:
+                    found.add(later)
+                    left.append(later)
+        return found
+
+
+def pair_words(drawn, word, e, f):
+    first, second = drawn.events[e], drawn.events[f]
+    return f"{word} {e} {f} on {drawn.names[first.line]}: {first.text}; {second.text}"
+
+
+def signal(event):
+    """A message as an input of it says it: its name, and from whom."""
+    return event.text.removeprefix("in ")
+
+
+def answer(text, queues, only=(), show=ALL, words=False, file=None):
+    """The lines of `msc ready`, and the exit status."""
+    drawn = Chart(text, queues)
+    for name in only:
+        if name not in drawn.names:
+            return [f"ready fault 1: no instance {name}"], 2
+    places = places_of(text.encode("latin-1"))
+    lines = {i for i, name in enumerate(drawn.names) if name in only or not only}
+    system = Ready(drawn, lines)
+    told = [f"chart {drawn.name}", f"queues {queues}"]
+
+    def at(*events):
+        if file is not None:
+            told.append("at " + " ".join(f"{file}{places[e][1:]}" for e in events))
+
+    if only:
+        told.append(" ".join(["ready", *(drawn.names[i] for i in sorted(lines))]))
+    if not system.sticks:
+        told.append("finishes")
+        races = system.races() if only else []
+        if only:
+            told.append(f"races {len(races)}")
+        for e, f in races:
+            told.append(pair_words(drawn, "race", e, f))
+            at(e, f)
+        return told, int(bool(races))
+    verdict = "may stick" if system.may_finish() else "never finishes"
+    told.append(f"{verdict} {len(system.sticks)}")
+    shown = 0
+    for e, f in system.sticks:
+        told.append(pair_words(drawn, "stick", e, f))
+        at(e, f)
+        first, second = drawn.partner[e], drawn.partner[f]
+        told.append(f"needs {first} {second}: {named(drawn, first)}; {named(drawn, second)}")
+        at(first, second)
+        if words:
+            told.append(
+                f"{drawn.names[drawn.events[e].line]} waits for {signal(drawn.events[e])}; "
+                f"in its queue {signal(drawn.events[f])} stands first"
+            )
+        ahead = system.ahead(f)
+        if ahead:
+            told.append(f"behind {ahead[0][0]} {ahead[0][1]}")
+        elif shown < show:
+            shown += 1
+            told.extend(run_lines(drawn, system.stick_run(f), words))
+    return told, 1
+
+
+def main(given):
+    words = parser(__doc__)
+    words.add_argument("--only", action="append", default=[], metavar="NAME")
+    words.add_argument("--show", type=int, default=ALL, metavar="N")
+    words.add_argument("--words", action="store_true")
+    words.add_argument("--places", metavar="FILE")
+    words.add_argument("queues", choices=QUEUES)
+    it = words.parse_args(given)
+    text = sys.stdin.buffer.read().decode("latin-1")
+    lines, status = answer(text, it.queues, it.only, it.show, it.words, it.places)
+    told = joined(lines)
+    return put(Answer(b"", told, status) if status == 2 else Answer(told, b"", status))

@@ -1,0 +1,229 @@
+"""All scenarios of a diagram, or of those of a text of Markdown, and their races.
+
+    tools/naive/print.py scenarios --queues pair|mailbox|single [--closest] [--why] [--most N]
+                                   [--show N] [--allow KIND] [--format text|count|lines] [--quiet]
+                                   [--words] [--short] [--places] [--from mermaid|any] [--name NAME]
+                                   [--rounds R,R..] [--limit N] [--self action|message]
+                                   [--cross lost|arrives] [--par drawn] [--fence N] FILE
+
+prints what `msc check --from` prints: the scenarios, and their races, each by its two arrows once;
+or on standard error the line of the first fault, and with `--format lines` on standard output too.
+The scenarios are those of courses.py, their races and what is told of them those of chart.py and
+races.py. It shares nothing with the crates. The exit status is 0, 1 if a race is listed, or 2 if a
+diagram is refused.
+"""
+import pathlib
+import sys
+
+from harness import Answer, put
+from models.chart import QUEUES, Chart
+from models.courses import scenarios
+from models.diagrams import made
+from models.mermaid import fault_bytes, texts_of, words_on_diagrams
+from models.races import KINDS, closest_of, editor_lines, kind, race_words, run_lines, shown_run
+from models.races import why
+from models.source import Refused, Source, source_of
+
+STACKED = "pass, parallel branches drawn one below the other"
+ALL = 2 ** 32 - 1
+
+
+class Scenario:
+    """A scenario as a chart under an architecture, with its races and the places of its events."""
+
+    def __init__(self, course, queues, file):
+        self.choices, self.events = course.taken, list(course.events())
+        self.is_stacked = course.is_stacked
+        self.drawn = Chart(course.text("t"), queues)
+        self.races = self.drawn.races()
+        places = [event.arrow.place for _, event in self.events]
+        self.places = [f"{file}:{place.line}:{place.column}" for place in places]
+
+    def left(self, allow, closest):
+        """The races that count, or the closest of them."""
+        left = [race for race in self.races if kind(self.drawn, *race) not in allow]
+        return closest_of(self.drawn, left) if closest else left
+
+    def ends(self, race):
+        """The place of a race: its line, and which ends of which arrows race on it."""
+        line, _ = self.events[race[0]]
+        ends = [event for _, event in map(self.events.__getitem__, race)]
+        return line, *((event.arrow.number, event.way) for event in ends)
+
+
+class Verdict:
+    """The races of all scenarios of a diagram, by their places."""
+
+    def __init__(self, diagram, options):
+        file = diagram.source.file
+        courses = list(scenarios(diagram, options))
+        self.every = [Scenario(course, options.queues, file) for course in courses]
+        self.allow, self.is_closest = options.allow, options.closest
+        self.places = {it.ends(race) for it in self.every for race in it.races}
+        self.listed = self.first_races(options.closest)
+
+    def counting(self, closest):
+        """The places of races that count, or of the closest ones."""
+        return {it.ends(race) for it in self.every for race in it.left(self.allow, closest)}
+
+    def first_races(self, closest):
+        """For each place the first race there that counts, or that is a closest one, with the
+        number of its scenario."""
+        told, found = set(), []
+        for i, scenario in enumerate(self.every):
+            for race in scenario.left(self.allow, closest):
+                if scenario.ends(race) not in told:
+                    told.add(scenario.ends(race))
+                    found.append((i, race))
+        return found
+
+    def numbers(self):
+        """The lines that sum up the races, if the options ask for them."""
+        if not (self.allow or self.is_closest):
+            return [] if self.places else [self.passed()]
+        lines = [f"races {len(self.places)}"] if self.places else [self.passed()]
+        if self.allow:
+            lines.append(f"allowed {len(self.places - self.counting(False))}")
+        if self.is_closest:
+            lines.append(f"closest {len(self.counting(True))}")
+        return lines
+
+    def passed(self):
+        """What is told of a diagram without races."""
+        return STACKED if any(it.is_stacked for it in self.every) else "pass"
+
+    def count(self):
+        closest = len(self.counting(True))
+        return f"races {len(self.places)} closest {closest}" if self.places else "pass"
+
+
+class Output:
+    """What is printed of the diagrams of a file."""
+
+    def __init__(self, options):
+        self.options, self.lines, self.error, self.status = options, [], b"", 0
+        self.most, self.show = options.most, options.show
+        if self.show is None:
+            self.show = ALL if options.words or options.short else 0
+
+    def refused(self, source, fault, name, file):
+        """Tells of a diagram that is refused; it has a name if others may follow."""
+        form = self.options.format
+        if form == "lines":
+            self.lines += source.editor_lines(fault, self.options.notes)
+        elif name is not None:
+            is_count = form == "count"
+            self.lines += [f"refused {file}"] if is_count else [f"diagram {name}", "refused"]
+        self.error += fault_bytes(source, fault, self.options.places)
+        self.status = 2
+
+    def judged(self, verdict, name, file):
+        """Tells of a diagram that is checked."""
+        if self.options.format == "lines":
+            self.lines += self.findings(verdict)
+        elif self.options.format == "count":
+            self.lines.append(f"{verdict.count()} {file}")
+        else:
+            self.lines += self.whole(verdict, name)
+        self.status = max(self.status, int(bool(verdict.listed)))
+
+    def taken(self):
+        """Whether one more race is told, and whether with a run."""
+        is_told, has_run = self.most > 0, self.most > 0 and self.show > 0
+        self.most, self.show = self.most - is_told, self.show - has_run
+        return is_told, has_run
+
+    def findings(self, verdict):
+        for i, race in verdict.listed:
+            if self.taken()[0]:
+                scenario = verdict.every[i]
+                yield from editor_lines(scenario.drawn, scenario.places, *race)
+
+    def whole(self, verdict, name):
+        """The lines of text of a diagram."""
+        yield f"diagram {name}"
+        yield f"queues {self.options.queues}"
+        yield f"scenarios {len(verdict.every)}"
+        yield from verdict.numbers()
+        if not verdict.places:
+            return
+        for i, scenario in enumerate(verdict.every):
+            own = [race for at, race in verdict.listed if at == i]
+            if own:
+                chosen = ",".join(map(str, scenario.choices))
+                yield f"scenario {i + 1}" + (f" choose {chosen}" if chosen else "")
+                yield f"races {len(scenario.races)}"
+            for race in own:
+                is_told, has_run = self.taken()
+                if is_told:
+                    yield from self.race_lines(scenario, race, has_run)
+        yield f"listed {len(verdict.listed)}"
+        yield f"passed {sum(not it.left(self.options.allow, False) for it in verdict.every)}"
+
+    def race_lines(self, scenario, race, has_run):
+        """What is told of a race."""
+        drawn, places = scenario.drawn, scenario.places
+        yield race_words(drawn, *race)
+        yield f"at {places[race[0]]} {places[race[1]]}"
+        if self.options.why:
+            (needed, output), told = why(drawn, *race)
+            yield from told
+            yield f"at {places[needed]} {places[output]}"
+        if has_run:
+            run = shown_run(drawn, *race, self.options.short)
+            yield from run_lines(drawn, run, self.options.words)
+
+
+def name_of(options):
+    """The diagram's name."""
+    if options.name is not None:
+        return made(options.name.encode(), b"diagram").decode()
+    own = "" if options.file == "-" else options.file.rpartition("/")[2]
+    stem, dot, _ = own.rpartition(".")
+    return made((stem if dot else own).encode(), b"diagram").decode()
+
+
+def judge(source, options, output):
+    """Checks the diagrams of a file."""
+    texts, is_all = texts_of(source, options)
+    for text in texts:
+        number = f"#{text.number}" if is_all else ""
+        name, file = name_of(options) + number, source.file + number
+        try:
+            output.judged(Verdict(text.diagram(options), options), name, file)
+        except Refused as fault:
+            output.refused(source, fault, name if is_all else None, file)
+
+
+def answer(text, options):
+    """What goes to both streams, and the exit status."""
+    output, source = Output(options), Source(b"", options.file)
+    try:
+        source = source_of(text, options.file)
+        judge(source, options, output)
+    except Refused as fault:
+        output.refused(source, fault, None, source.file)
+    lines = [] if options.quiet else output.lines
+    return "".join(line + "\n" for line in lines).encode(), output.error, output.status
+
+
+def options_of(given):
+    """The options of these words."""
+    words = words_on_diagrams(__doc__)
+    words.add_argument("--queues", choices=QUEUES, required=True)
+    for option in ("--closest", "--why", "--quiet", "--words", "--short"):
+        words.add_argument(option, action="store_true")
+    words.add_argument("--most", type=int, default=ALL)
+    words.add_argument("--show", type=int)
+    words.add_argument("--allow", choices=KINDS, action="append", default=[])
+    words.add_argument("--format", choices=("text", "count", "lines"), default="text")
+    words.set_defaults(notes=True)
+    words.add_argument("file")
+    return words.parse_args(given)
+
+
+def main(given):
+    options = options_of(given)
+    is_input = options.file == "-"
+    text = sys.stdin.buffer.read() if is_input else pathlib.Path(options.file).read_bytes()
+    return put(Answer(*answer(text, options)))

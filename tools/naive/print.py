@@ -1,0 +1,31 @@
+#!/usr/bin/env python3
+"""Prints what a model says of a text.
+
+    tools/naive/print.py MODEL [WORD ..] < TEXT
+
+MODEL is a module of tools/naive/models that has a command line; its docstring describes the words.
+Expected outputs can be taken from it. For instance
+
+    tools/naive/print.py chart pair < charts/relay.msc
+
+prints what `msc check --queues pair` prints. The exit status is that of `msc`.
+"""
+import importlib
+import pathlib
+import sys
+
+sys.dont_write_bytecode = True
+MODELS = pathlib.Path(__file__).resolve().parent / "models"
+
+
+def main():
+    if len(sys.argv) < 2 or not (MODELS / f"{sys.argv[1]}.py").is_file():
+        sys.exit(__doc__.strip())
+    model = importlib.import_module(f"models.{sys.argv[1]}")
+    if not hasattr(model, "main"):
+        sys.exit(f"print: {sys.argv[1]} has no command line")
+    return model.main(sys.argv[2:])
+
+
+if __name__ == "__main__":
+    sys.exit(main())
