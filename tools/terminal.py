@@ -27,6 +27,8 @@ FAULTS = [
     (["ready", "--queues", "pair", DEADLOCK], False, True),
     (["run", "--queues", "pair", DEADLOCK], False, True),
     (["explain", "--queues", "pair", DEADLOCK, "0", "1"], False, True),
+    (["follow", "--queues", "pair", DEADLOCK], False, True),
+    (["follow", "--queues", "pair", "--plain", DEADLOCK], False, False),
     (["check", "--queues", "pair", "-q", DEADLOCK], False, True),
     (["check", "--queues", "pair", "--format", "count", DEADLOCK], False, True),
     (["draw", DEADLOCK], False, True),
@@ -48,6 +50,8 @@ ANSWERS = [
     ["check", "--queues", "pair", "--places", "--why", RELAY],
     ["list", RELAY],
     ["explain", "--queues", "pair", RELAY, "2", "3"],
+    ["follow", "--queues", "pair", "--words", RELAY],
+    ["follow", "--queues", "pair", "charts/urgent_overtakes.msc"],
 ]
 
 

@@ -18,7 +18,7 @@ import tempfile
 
 from program import MOST_SECONDS, QUEUES, TOP, Answer, Count, add_commands, arguments, run
 from models.answers import again_answer, check_answer, diagram_check_answer, import_answer
-from models.answers import read_answer
+from models.answers import follow_answer, read_answer
 from limits import of_events
 from refuse import Shim
 
@@ -73,6 +73,9 @@ class Commands:
                 yield words, Answer(*check_answer(CHART, queues))
             if "run" in self.wanted:
                 yield [program, "run", "--queues", queues, file], None
+        if "follow" in self.wanted:
+            words = [program, "follow", "--queues", "mailbox", file]
+            yield words, Answer(*follow_answer(CHART, "mailbox"))
         for command, (before, behind, drawn) in DRAWN.items():
             if command in self.wanted:
                 words = [program, command, *before, file, *behind]

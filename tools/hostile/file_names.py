@@ -27,6 +27,7 @@ DIAGRAM = b"sequenceDiagram\nA->>B: a\nC->>B: b\n"
 CHARTS = {
     "races": (TOP / "charts/two_senders.msc").read_bytes(),
     "marks": (TOP / "charts/commands/marked.msc").read_bytes(),
+    "never": (TOP / "charts/urgent_overtakes.msc").read_bytes(),
     "no token": b"msc t;\ninstance a?;", "no end": b"msc t;\n/* x", "long": b"msc " + b"x" * 65,
     "not supported": b"msc t; instance env;", "no semicolon": b"msc t;\ninstance a\n  out m to b;",
     "other": b"msc t;\ninstance a;\nout in to b;", "too long": b" " * 1048577,
@@ -56,6 +57,8 @@ ON_CHARTS = (
     ["check", "--queues", "mailbox", "--format", "lines"],
     ["check", "--queues", "mailbox", "--format", "lines", "--accept", "--again"],
     ["check", "--queues", "mailbox", "--format", "count"], ["read", "--places"],
+    ["follow", "--queues", "pair", "--places"],
+    ["check", "--queues", "pair", "--format", "lines", "--again"],
     ["list", "--places"], ["ready", "--queues", "mailbox", "--places", "--again"],
     ["draw", "--queues", "pair", "--places"], ["report", "--queues", "pair", "--places"],
     ["explain", "--queues", "pair", "--places", "FILE", "1", "2"],
@@ -135,6 +138,7 @@ def wrong_words(count, program):
     """Looks at what is told of wrong words that hold such names."""
     for name in NAMES[:-1]:
         for words in (["read", "a", name], [name], ["read", f"--{name}"], ["check", "--queues", name],
+                      ["follow", "--queues", name, "a"], ["follow", "--queues", "pair", "a", name],
                       ["explain", "--queues", "pair", "a", name, "1"], ["import", "--choose", name]):
             got = run([program, *words])
             is_refused = got.status == 2 and not got.output and got.error.startswith(b"error: ")

@@ -8,15 +8,15 @@ and tries it. Text T of a seed is always the same. Some go from place to place o
 and then to a token that may not follow; some are charts with header, kinds, message instance names,
 parameters and coregions, spelled with any white space and notes; some are tokens in any order. Of
 each sort many are then changed: tokens or bytes are taken away, put in, doubled, exchanged, or the
-text is cut. Each text is given to `msc read`, and to `msc check`, `msc run`, `msc draw`, `msc ready`
-and `msc report` under one architecture: both streams and the status are to be the same, for a chart
-that is run the trace has to be a whole run of it, and a report has to be read as XML. With `--places`
-nothing else may be printed but places, and behind the line of a fault what is said of it, all of it
-of bytes that move no cursor. As lines for editors, with marks, all that is printed is such lines, of
-such bytes, and a refusal is the first of them. Each third text is checked and asked for sticks with
-`--again` too. Each fourth number has a diagram of Mermaid too, of which `msc check --from` has to
-print what the model does. Prints what differs, how many texts got which answer, and
-last `N passed, M failed`.
+text is cut. Each text is given to `msc read`, and to `msc check`, `msc follow`, `msc run`, `msc
+draw`, `msc ready` and `msc report` under one architecture: both streams and the status are to be
+the same, for a chart that is run the trace has to be a whole run of it, and a report has to be read
+as XML. With `--places` nothing else may be printed but places, and behind the line of a fault what
+is said of it, all of it of bytes that move no cursor. As lines for editors, with marks, all that is
+printed is such lines, of such bytes, and a refusal is the first of them. Each third text is checked
+and asked for sticks with `--again` too. Each fourth number has a diagram of Mermaid too, of which
+`msc check --from` has to print what the model does. Prints what differs, how many texts got which
+answer, and last `N passed, M failed`.
 """
 import collections
 import multiprocessing
@@ -31,7 +31,7 @@ from program import QUEUES, Count, add_commands, arguments, check_words, run
 from generators import diagram_checks
 from generators.charts import chart
 from models.answers import ALL, again_answer, check_answer, diagram_check_answer, draw_answer
-from models.answers import read_answer, ready_answer
+from models.answers import follow_answer, read_answer, ready_answer
 from models.reading import PLACES, SUPPORTED, UNSUPPORTED, Draft, Event, tokens
 from whole_runs import Drawn
 
@@ -277,7 +277,8 @@ def tried(program, seed, number, commands):
             told.append((words, text, got, wrong))
         if number % DIAGRAMS == 0:
             told += tried_diagram(program, seed, number)
-    for command, answered in (("draw", draw_answer), ("ready", ready_answer)):
+    answers = {"draw": draw_answer, "follow": follow_answer, "ready": ready_answer}
+    for command, answered in answers.items():
         if command in commands:
             words, wanted = [command, "--queues", queues, "-"], answered(text, queues)
             got = run([program, *words], text)

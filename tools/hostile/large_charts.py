@@ -8,12 +8,14 @@ Of a random chart of each of these numbers of events (201, 257 and 300 if none i
 diagram whose chart has as many, each command prints what the definitions of tools/naive say, byte
 for byte; SVG and reports are read by tools/picture, and traces by whole_runs.py. Of the largest
 charts that docs/LANGUAGE.md allows each command answers: its status is 0 or 1, standard error is
-empty, and its answer begins as it has to. A run is made only if it is shown. Prints what differs,
+empty, and its answer begins as it has to; whole_runs.py reads whether their drawings can happen,
+and `follow` says so within seconds. A run is made only if it is shown. Prints what differs,
 and last `N passed, M failed`.
 """
 import random
 import sys
 import tempfile
+import time
 import xml.etree.ElementTree
 
 from limits import of_events
@@ -24,18 +26,22 @@ from comparisons.explanations import check_placed, check_short
 from generators import charts
 from generators.check_options import words_of
 from models import notes, ready, rounds
-from models.answers import diagram_check_answer, import_answer, lines_answer, read_answer
+from models.answers import diagram_check_answer, follow_answer, import_answer, lines_answer
+from models.answers import read_answer
 from models.chart import Chart, is_enforced
 from models.explanations import Wrong, check
 from models.marks import marks_for
 from models.picture import chart_picture, run_picture
-from models.races import listing, places_of, study
+from models.races import listing, study
+from models.shown import places_of
 from refuse import Shim
 
 sys.path.append(str(TOP / "tools/picture"))
 import readers
 
 SIZES = (201, 257, 300)
+# in which a drawing of the largest charts is answered
+FEW_SECONDS = 10
 # what is asked of the races of a chart: each differs from rounds.PLAIN in this
 STUDIES = (
     {"show": 2}, {"show": 2, "words": True, "short": True, "why": True, "closest": True},
@@ -104,6 +110,10 @@ def answers_on_charts(pick, text, queues, more):
         yield ["list", *["--places"] * placed, "-"], lines_answer(lines, 0)
     yield ["draw", "-"], lines_answer(chart_picture(chart, False), 0)
     yield ["draw", *asked, "-"], lines_answer(chart_picture(chart, True), 0)
+    for words, placed in ((False, False), (True, True)):
+        more_words = ["--words"] * words + ["--places"] * placed
+        told = follow_answer(text.encode(), queues, words, "-" if placed else None)
+        yield ["follow", *asked, *more_words, "-"], told
     e, f = pick.choice(races)
     yield ["reverse", *asked, "-", str(e), str(f)], lines_answer(run_picture(chart, e, f), 0)
     for given in STUDIES:
@@ -239,6 +249,7 @@ def asked_of_the_largest(text, queues, passes):
     ends = ["2000", "1030"]
     yield ["explain", *asked, "-", *ends], head, None
     yield ["explain", *asked, "--short", "--words", "--places", "-", *ends], head, None
+    yield ["follow", *asked, "--words", "--places", "-"], head, None
     yield ["draw", *asked, "-"], " ", 0
     yield ["draw", *asked, "--svg", "-"], "<svg ", 0
     yield ["report", *asked, "-"], "<!DOCTYPE html>", 0
@@ -309,6 +320,25 @@ def of_the_largest(count, program):
     are_answered(count, program, [*asked_of_rounds(), *asked_of_diagrams()])
 
 
+def drawings(count, program):
+    """Looks at what is told of the drawings of the largest charts, and how long that takes."""
+    order = random.Random(1).sample(range(MESSAGES), MESSAGES)
+    taken = "".join(f"in m{number} from a;" for number in order)
+    head = of_events(MESSAGES, inputs=0).decode().removesuffix("endinstance;endmsc;")
+    texts = [text for text, _ in largest_charts()]
+    texts.append(f"{head}{taken}endinstance;endmsc;".encode())
+    for text in texts:
+        for queues in QUEUES:
+            begun = time.monotonic()
+            answer = run([program, "follow", "--queues", queues, "-"], text)
+            seconds = time.monotonic() - begun
+            wrong = answer.error or Drawn(text).wrong_drawing(queues, answer.output.decode())
+            is_right = not wrong and answer.status == int("\nnever\n" in answer.output.decode())
+            is_right = is_right and (queues != "single" or answer.status == 0)
+            count.add(is_right and seconds < FEW_SECONDS, "follow", queues, text[:40], wrong,
+                      f"{seconds:.1f} seconds", answer.output[:100])
+
+
 def runs_that_are_made(count, program):
     """Looks whether a run is made only if it is shown: of a chart whose races begin at 100 events,
     more allocations are made with --show 1 than with --show 0, and many more without --show."""
@@ -332,6 +362,7 @@ def main():
     for place, events in enumerate(options.events):
         of_size(count, options.program, pick, place, events)
     of_the_largest(count, options.program)
+    drawings(count, options.program)
     runs_that_are_made(count, options.program)
     return count.end()
 

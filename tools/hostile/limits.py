@@ -18,6 +18,7 @@ from load import INSTANCES, MESSAGES, drawn
 from program import QUEUES, Answer, Count, add_commands, arguments, check_words, run
 from generators import diagram_checks, imports
 from models.answers import read_answer
+from models.shown import run_lines
 
 LIMIT = 1048576
 # bytes of a small stack
@@ -132,6 +133,29 @@ def numbers_of_sticks():
     yield of_events(1024), "pair", "finishes", 0
     # all are overtaken: each two are a stick, and the first message that is waited for comes last
     yield of_events(1024, step=-1), "pair", f"never finishes {1024 * 1023 // 2}", 1024 * 1023 // 2
+
+
+def drawings():
+    """Charts at the limits, architectures, what is printed of their drawings, and the status."""
+    # all outputs come first, since they are the least
+    for messages, actions in ((0, 0), (1024, 1024), (0, 1024)):
+        text, run_of_all = of_events(messages, actions), range(2 * messages + actions)
+        for queues in QUEUES:
+            yield text, queues, ["follows", *run_lines(None, run_of_all, False)], 0
+    # m0 is sent first and taken last, so each other message has to be ahead of it
+    ring = ["drawn 0 1: a out m0 to b; a out m1 to b", "ahead 1 0: a out m1 to b; a out m0 to b"]
+    for queues in ("pair", "mailbox"):
+        yield of_events(1024, step=-1), queues, ["never", *ring], 1
+    yield of_events(1024, step=-1), "single", ["follows", *run_lines(None, range(2048), False)], 0
+
+
+def checks_of_drawings(count, program):
+    """Compares what is printed of the drawings of charts at the limits."""
+    for text, queues, lines, status in drawings():
+        told = "".join(f"{line}\n" for line in ["chart t", f"queues {queues}", *lines])
+        words = ["follow", "--queues", queues, "-"]
+        got = run([program, *words], text)
+        count.compare(got, Answer(told.encode(), b"", status), *words, text[:60])
 
 
 def of_two_senders(messages):
@@ -278,7 +302,7 @@ def stacks(count, program, commands):
     succeeds."""
     for text in (of_events(1024, 1024), drawn(random.Random(1), INSTANCES, MESSAGES)):
         ways = [[program, "read", "-"], *(check_words(program, queues, 3) for queues in QUEUES)]
-        for command in ("run", "draw", "report", "ready"):
+        for command in ("follow", "run", "draw", "report", "ready"):
             if command in commands:
                 ways += [[program, command, "--queues", queues, "-"] for queues in QUEUES]
         for words in ways:
@@ -335,6 +359,8 @@ def main():
         is_told = answer.output.startswith(f"chart t\nqueues {queues}\n{told}\n".encode())
         is_told = is_told and answer.output.count(b"\nstick ") == sticks
         count.add(is_told and answer.status == int(bool(sticks)), told, answer.output[:100])
+    if "follow" in options.commands:
+        checks_of_drawings(count, program)
     checks_of_rounds(count, program, options.commands)
     if "check" in options.commands:
         checks_of_diagrams(count, program)

@@ -4,9 +4,9 @@ do so.
 
     memory.py [--most N] [--every K] [--commands C,..] [--limit] PROGRAM [CHART ..]
 
-Every chart of charts/ and of charts/refused/ is read, and checked, run, drawn, reported and asked
-for sticks under each architecture, and of two rounds under `mailbox`, and every diagram of
-charts/import/ is imported and checked, where these are not given; of the runs with more than N
+Every chart of charts/ and of charts/refused/ is read, and checked, followed, run, drawn, reported
+and asked for sticks under each architecture, and of two rounds under `mailbox`, and every diagram
+of charts/import/ is imported and checked, where these are not given; of the runs with more than N
 allocations (400 where it is not said) each K-th allocation alone is refused. What a refused run has
 to answer says tools/refuse/refuse.py. With --limit no call is refused, but each command has less
 and less address space for a chart at the limits, down to too little for the program to begin.

@@ -9,7 +9,7 @@ from harness import MOST_SECONDS, Answer, parser, run
 from models.chart import QUEUES
 
 # the commands that are tried
-COMMANDS = ["read", "check", "run", "draw", "reverse", "report", "ready", "import"]
+COMMANDS = ["read", "check", "follow", "run", "draw", "reverse", "report", "ready", "import"]
 
 
 def arguments(about):

@@ -6,8 +6,8 @@ of every byte; compares what the program answers with what the models of tools/n
 
 The charts are charts/kinds_and_comments.msc and charts/texts_of_actions.msc where none is given,
 and charts/import/websocket_chat.mmd. Each text, or each K-th, is given to `msc read`, and where it
-has a draft also to `msc check` under each architecture, to `msc draw` and `msc ready` under one, and
-to `check` and `ready` with `--again`.
+has a draft also to `msc check` under each architecture, to `msc follow`, `msc draw` and `msc ready`
+under one, and to `check` and `ready` with `--again`.
 Those of a diagram are given to `msc import`, and where a scenario has a draft to `msc check --from`,
 and compared with these too. Prints what differs, for each chart how
 many texts had a draft, and last `N passed, M failed`.
@@ -17,7 +17,7 @@ import sys
 
 from program import QUEUES, TOP, Count, arguments, check_words, run
 from models.answers import again_answer, check_answer, diagram_check_answer, draw_answer
-from models.answers import import_answer, read_answer, ready_answer
+from models.answers import follow_answer, import_answer, read_answer, ready_answer
 
 CHARTS = [TOP / "charts/kinds_and_comments.msc", TOP / "charts/texts_of_actions.msc",
           TOP / "charts/import/websocket_chat.mmd"]
@@ -54,7 +54,8 @@ def compare_chart(count, program, text):
     for queues in QUEUES:
         answer = run(check_words(program, queues), text)
         count.compare(answer, check_answer(text, queues), queues, text)
-    for command, answered in (("draw", draw_answer), ("ready", ready_answer)):
+    answers = {"draw": draw_answer, "follow": follow_answer, "ready": ready_answer}
+    for command, answered in answers.items():
         answer = run([program, command, "--queues", "mailbox", "-"], text)
         count.compare(answer, answered(text, "mailbox"), command, text)
     for command in ("check", "ready"):

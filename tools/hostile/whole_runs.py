@@ -1,6 +1,8 @@
-"""Whether what `msc run` printed is a whole run of a chart, in time that grows with the chart
-alone: for large charts and many runs. the model of executions in tools/naive says more of small ones."""
+"""Whether what `msc run` printed is a whole run of a chart, and what `msc follow` printed shows
+whether the drawing can happen, in time that grows with the chart alone: for large charts and many
+runs. The models of executions and of drawings in tools/naive say more of small ones."""
 import collections
+import re
 
 from models.chart import action_text
 from models.reading import Draft, key
@@ -62,6 +64,72 @@ class Drawn:
             if event.way == "out":
                 waiting.setdefault(self.queue(e, queues), collections.deque()).append(self.keys[e])
             left[line, item] -= 1
+
+
+    def wrong_drawing(self, queues, printed):
+        """What is wrong with a printed answer on the drawing, or None."""
+        *lines, last = printed.split("\n")
+        if lines[:2] != [f"chart {self.name}", f"queues {queues}"] or last:
+            return "another head"
+        if lines[2] == "follows" and len(lines) == 4:
+            return self.wrong_following(queues, list(map(int, lines[3].split()[1:])))
+        return self.wrong_ring(queues, lines[3:]) if lines[2] == "never" else "another verdict"
+
+    def wrong_following(self, queues, run):
+        """What is wrong with a run that is to be whole and as drawn, or None."""
+        if sorted(run) != list(range(len(self.events))):
+            return "the run does not have each event once"
+        e = next(self.misplaced(queues, run), None)
+        if e is not None:
+            return f"event {e} may not come there"
+        # the items of each line come in their order
+        reached = {}
+        for e in run:
+            line, item, _ = self.events[e]
+            if reached.setdefault(line, item) > item:
+                return f"event {e} comes after one that is drawn below it"
+            reached[line] = item
+        return None
+
+    def is_step(self, queues, word, x, y):
+        """Whether a step with this word leads from x to y."""
+        if word == "sent":
+            return self.is_output(x) and self.other_end(x) == y
+        if word == "drawn":
+            return self.is_drawn(x, y)
+        if word != "ahead" or not (self.is_output(x) and self.is_output(y)):
+            return False
+        is_one = self.queue(x, queues) == self.queue(y, queues)
+        return is_one and self.is_drawn(self.other_end(x), self.other_end(y))
+
+    def is_output(self, e):
+        return self.events[e][2].way == "out"
+
+    def is_drawn(self, x, y):
+        """Whether x is drawn before y."""
+        (line, above, _), (other, below, _) = self.events[x], self.events[y]
+        return line == other and above < below
+
+    def other_end(self, s):
+        """The input of an output."""
+        ends = (e for e, key in enumerate(self.keys) if key == self.keys[s] and e != s)
+        return next(ends)
+
+    def wrong_ring(self, queues, told):
+        """What is wrong with the lines of a ring, or None."""
+        steps = [re.match(r"(\w+) (\d+) (\d+): ", line) for line in told]
+        if not all(steps):
+            return "a line that is no step"
+        steps = [(it[1], int(it[2]), int(it[3])) for it in steps]
+        firsts, seconds = [x for _, x, _ in steps], [y for _, _, y in steps]
+        if len(set(firsts)) != len(steps) or len(steps) < 2 or seconds != firsts[1:] + firsts[:1]:
+            return "the steps are no ring"
+        for line, (word, x, y) in zip(told, steps):
+            (_, first), (_, second) = (self.lines[e].split(" ", 1) for e in (x, y))
+            wanted = f"{word} {x} {y}: {first}; {second}"
+            if line != wanted or not self.is_step(queues, word, x, y):
+                return f"{line} is no step"
+        return None
 
 
 def spoiled(printed):

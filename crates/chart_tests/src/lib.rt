@@ -14,6 +14,8 @@ mod drafts;
 #[cfg(test)]
 mod faults;
 #[cfg(test)]
+mod following;
+#[cfg(test)]
 mod further;
 #[cfg(test)]
 mod gathering;

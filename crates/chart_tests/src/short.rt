@@ -7,7 +7,7 @@ use msc_chart::{Chart, Event, Queues};
 use msc_race::Enforced;
 
 /// An ISDN basic call, as `charts/isdn_call.msc` has it below its note of two lines.
-const ISDN_CALL: &[u8] = b"
+pub(crate) const ISDN_CALL: &[u8] = b"
 
 msc basic_call;
 inst caller, network, callee;

@@ -83,7 +83,7 @@ by_marks r e q accepted stale t =
 
 -- so what is asked for a verdict is printed as it, where marks are not asked
 pub plain_text : (e : EnforcedChart) (most show : ℕ) (m : Marking) (t : Tables) → m.accepted ≡ None → m.stale.now ≡ [] → length (races_of e) ≤ most
-    → answer_text (texts_in (Lines plain_style) e.chart) e (record { closest = false; why = false; allowed = no_kind; most = most; show = show; short = false }) m t
+    → answer_text (texts_in (Lines plain_style) [] e.chart) e (record { closest = false; why = false; allowed = no_kind; most = most; show = show; short = false }) m t
     ≡ checked_text e.chart e.queues t.runs show (verdict_of (races_of e))
 plain_text e most show m t none no_stale few =
     let q : CheckOptions = record { closest = false; why = false; allowed = no_kind; most = most; show = show; short = false } in
@@ -91,7 +91,7 @@ plain_text e most show m t none no_stale few =
     let long = found_all t.causes 0 (races_of e) in
     let first = ap (λ (l : List (ℕ × ℕ)). take most (findings_from false t.causes 0 l)) listed_is
     ∙ take_all most (findings_from false t.causes 0 (races_of e)) (omega (arith, few, long)) in
-    ap₂ (λ (accepted : Option (Bor PairTable)) (stale : List ℕ). by_marks (texts_in (Lines plain_style) e.chart) e q accepted stale t) none no_stale
+    ap₂ (λ (accepted : Option (Bor PairTable)) (stale : List ℕ). by_marks (texts_in (Lines plain_style) [] e.chart) e q accepted stale t) none no_stale
     ∙ ap₂ (λ (s r : List ℕ). s ++ r) (append-nil (head_text e.chart e.queues (length (races_of e))))
     (append-nil _ ∙ ap (flat_map (finding_shown (finding_text None e.chart) (λ run. run_line (Some run)) show (λ p. t.runs p.0))) first
     ∙ found_races e.chart t.runs show t.causes 0 show (races_of e) (omega arith))

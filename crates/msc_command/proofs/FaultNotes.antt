@@ -53,6 +53,7 @@ printed_refused tasks.Read file text printed (draft, has, same, is) = absurd cc
 printed_refused (tasks.Chart (chart_commands.Check c)) file text printed (d, of_text, (chart_format, its, marks, are, room, passed, same, says)) = absurd (never_ended passed same)
 printed_refused (tasks.Chart (chart_commands.Quiet x)) file text printed (d, of_text, (marks, are, room, passed, same, says, none)) = absurd (never_ended passed same)
 printed_refused (tasks.Chart (chart_commands.Explain x)) file text printed (d, of_text, (e, f, two, style, its, enforced, same, says)) = absurd (never_ended enforced same)
+printed_refused (tasks.Chart (chart_commands.Follow x)) file text printed (d, of_text, (style, its, follows, same, says)) = absurd (never_ended follows same)
 printed_refused (tasks.Chart (chart_commands.Run queues patience)) file text printed (d, of_text, (finished, same, says)) = absurd (never_finished finished same)
 printed_refused (tasks.Chart (chart_commands.List placed)) file text printed (d, of_text, (event_positions, are, same, is)) = absurd cc
 printed_refused (tasks.Chart (chart_commands.Ready x)) file text printed (d, of_text, (only, are, style, its, room, passed, same, says)) = absurd (never_ended passed same)

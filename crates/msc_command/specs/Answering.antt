@@ -20,6 +20,7 @@ use Rattle.msc_report.specs.declared.style.Style.{Style}
 use Rattle.msc_source.specs.Texts.{IsChartOf, source_text, SourceText}
 use Rattle.msc_source.specs.declared.language.Language.TheVariants.{MscPr}
 use Rattle.msc_text.specs.Explaining.{PrintsReason}
+use Rattle.msc_text.specs.Following.{PrintsFollowed}
 use Rattle.msc_text.specs.Judging.{JudgesChart, Passes}
 use Rattle.msc_text.specs.Readying.{PrintsReady}
 use Rattle.msc_text.specs.declared.judging.ChartFormat.{ChartFormat}
@@ -41,7 +42,7 @@ use Rattle.msc_command.specs.declared.ending.Refusal.TheVariants as refusals
 use Rattle.msc_command.specs.declared.ending.Status.{Status}
 use Rattle.msc_command.specs.declared.ending.Status.TheVariants.{Done}
 use Rattle.msc_command.specs.declared.tasks.ChartCommand.{ChartCommand}
-use Rattle.msc_command.specs.declared.tasks.ChartCommand.TheVariants.{Check, Quiet, Explain, Run, List as Listing, Ready}
+use Rattle.msc_command.specs.declared.tasks.ChartCommand.TheVariants.{Check, Quiet, Explain, Follow, Run, List as Listing, Ready}
 use Rattle.msc_command.specs.declared.tasks.QuietArgs.{QuietArgs}
 use Rattle.msc_command.specs.declared.tasks.ScenarioArgs.{ScenarioArgs}
 use Rattle.msc_command.specs.declared.tasks.Task.{Task}
@@ -60,6 +61,9 @@ PrintsOf (Quiet x) file s status printed =
 PrintsOf (Explain x) file s status printed =
     (e f : ℕ) × AreTwoNamed s x.first x.second e f × (style : Style) × IsStyle x.event_style file s.text style
     × (enforced : Bool) × (status ≡ ended_by enforced) × PrintsReason s.chart x.queues e f x.short style enforced printed
+PrintsOf (Follow x) file s status printed =
+    (style : Style) × IsStyle x.event_style file s.text style
+    × (follows : Bool) × (status ≡ ended_by follows) × PrintsFollowed s.chart x.queues style follows printed
 PrintsOf (Run queues patience) file s status printed =
     (finished : Bool) × (status ≡ finished_by finished) × PrintsExecution s.chart queues true patience finished printed
 PrintsOf (Listing placed) file s status printed =

@@ -29,13 +29,14 @@ use Rattle.msc_command.specs.declared.tasks.CheckArgs.{CheckArgs}
 use Rattle.msc_command.specs.declared.tasks.Drawn.TheVariants as drawn
 use Rattle.msc_command.specs.declared.tasks.ReverseArgs.{ReverseArgs}
 use Rattle.msc_command.specs.declared.tasks.ExplainArgs.{ExplainArgs}
+use Rattle.msc_command.specs.declared.tasks.FollowArgs.{FollowArgs}
 use Rattle.msc_command.specs.declared.tasks.DiagramArgs.{DiagramArgs}
 use Rattle.msc_command.specs.declared.tasks.ImportArgs.{ImportArgs}
 use Rattle.msc_command.specs.declared.tasks.EventStyle.{EventStyle}
 use Rattle.msc_command.specs.declared.tasks.QuietArgs.{QuietArgs}
 use Rattle.msc_command.specs.declared.tasks.ReadyArgs.{ReadyArgs}
 use Rattle.msc_command.specs.declared.tasks.ScenarioArgs.{ScenarioArgs}
-use Rattle.msc_command.specs.declared.tasks.ChartCommand.TheVariants.{Check, Quiet, Explain, Run, List as Listing, Ready}
+use Rattle.msc_command.specs.declared.tasks.ChartCommand.TheVariants.{Check, Quiet, Explain, Follow, Run, List as Listing, Ready}
 use Rattle.msc_command.specs.declared.tasks.Format.{Format}
 use Rattle.msc_command.specs.declared.tasks.Format.TheVariants as formats
 use Rattle.msc_command.specs.declared.tasks.Task.{Task}
@@ -195,6 +196,11 @@ pub record AreExplainArgs (found : Found) (x : ExplainArgs) : Type 0 where
   pub short : IsFlag found (arg_word words.Short) x.short
   pub event_style : IsEventStyle found x.event_style
 
+-- what the words of `follow` ask of the drawing under an architecture
+pub record AreFollowArgs (found : Found) (x : FollowArgs) : Type 0 where
+  pub architecture_is : architecture found ≡ Some x.queues
+  pub event_style : IsEventStyle found x.event_style
+
 -- what the words of `ready` ask of ready instances under an architecture
 pub record AreReadyArgs (found : Found) (x : ReadyArgs) : Type 0 where
   pub architecture_is : architecture found ≡ Some x.queues
@@ -305,6 +311,7 @@ AsksFor command_names.Check found (Chart (Quiet x)) =
     IsOfChart found × IsFlag found (arg_word words.Quiet) true × AreQuietArgs found x
 AsksFor command_names.Check found (Scenarios x) = (is_of_scenarios found ≡ true) × IsSurvey found x
 AsksFor command_names.Explain found (Chart (Explain x)) = AreExplainArgs found x
+AsksFor command_names.Follow found (Chart (Follow x)) = AreFollowArgs found x
 AsksFor command_names.Run found (Chart (Run queues patience)) =
     IsOptionNumber found (arg_word words.Patience) default_patience patience
     × (architecture found ≡ Some queues)

@@ -6,7 +6,7 @@ use Rattle.msc_command.specs.declared.tasks.Format.TheVariants as formats
 use Rattle.msc_command.specs.declared.words.ValueKind.{ValueKind}
 use Rattle.msc_command.specs.declared.words.ValueKind.TheVariants as value_kind
 use Rattle.msc_command.specs.declared.words.CommandName.{CommandName}
-use Rattle.msc_command.specs.declared.words.CommandName.TheVariants.{Read, Check, Explain, Run, List as Listing, Draw, Reverse, Report, Ready, Import}
+use Rattle.msc_command.specs.declared.words.CommandName.TheVariants.{Read, Check, Explain, Follow, Run, List as Listing, Draw, Reverse, Report, Ready, Import}
 use Rattle.msc_command.specs.declared.words.ArgName.{ArgName}
 use Rattle.msc_command.specs.declared.words.ArgName.TheVariants.{File, Queues, QueuesIfAny, Closest, Why, Most, Show, ShowSticks, Only, Allow, ChartFormat, Quiet, Words, Short, Accept, Again, Patience, Places, Plain, Svg, FirstEvent, SecondEvent, From, Choose, Listed, Name, Own, Cross, Par, ScenariosFrom, Rounds, Limit, Fence}
 
@@ -87,6 +87,7 @@ abbrev pub command_word : CommandName → List ℕ
 command_word Read = codes "read"
 command_word Check = codes "check"
 command_word Explain = codes "explain"
+command_word Follow = codes "follow"
 command_word Run = codes "run"
 command_word Listing = codes "list"
 command_word Draw = codes "draw"
@@ -97,7 +98,7 @@ command_word Import = codes "import"
 
 -- all commands
 abbrev pub command_names : List CommandName
-command_names = Read ∷ Check ∷ Explain ∷ Run ∷ Listing ∷ Draw ∷ Reverse ∷ Report ∷ Ready ∷ Import ∷ []
+command_names = Read ∷ Check ∷ Explain ∷ Follow ∷ Run ∷ Listing ∷ Draw ∷ Reverse ∷ Report ∷ Ready ∷ Import ∷ []
 
 -- the command of a name
 unfoldable pub command_of_word : List ℕ → Option CommandName
@@ -110,6 +111,7 @@ args_of Check =
     Queues ∷ Closest ∷ Why ∷ Most ∷ Show ∷ Allow ∷ Accept ∷ Again ∷ ChartFormat ∷ Quiet ∷ Words ∷ Short
     ∷ ScenariosFrom ∷ Rounds ∷ Limit ∷ Fence ∷ Name ∷ Own ∷ Cross ∷ Par ∷ Places ∷ Plain ∷ File ∷ []
 args_of Explain = Queues ∷ Words ∷ Short ∷ Places ∷ Plain ∷ File ∷ FirstEvent ∷ SecondEvent ∷ []
+args_of Follow = Queues ∷ Words ∷ Places ∷ Plain ∷ File ∷ []
 args_of Run = Queues ∷ Patience ∷ Places ∷ Plain ∷ File ∷ []
 args_of Listing = Places ∷ Plain ∷ File ∷ []
 args_of Draw = QueuesIfAny ∷ Svg ∷ Places ∷ Plain ∷ File ∷ []

@@ -32,8 +32,8 @@ use crate::scenarios::{Surveyed, check_scenarios};
 use crate::sited::{event_positions_of, style_of};
 use crate::surveying::{behind, blocks_of, check_block, of_block, refused_page, worse};
 use crate::tasks::{
-    ChartCommand, CheckArgs, Drawn, ExplainArgs, Format, ImportArgs, QuietArgs, ReadyArgs, Request,
-    ScenarioArgs, Task, format_of,
+    ChartCommand, CheckArgs, Drawn, ExplainArgs, FollowArgs, Format, ImportArgs, QuietArgs,
+    ReadyArgs, Request, ScenarioArgs, Task, format_of,
 };
 use msc_chart::Unrolled;
 use msc_instance::AlwaysOpen;
@@ -46,8 +46,8 @@ use msc_print::Page;
 use msc_report::Fault;
 use msc_source::{Language, ReadFault, Reading, Source, read_all};
 use msc_text::{
-    ChartFormat, CheckInput, ReadyQuery, explain_pair, judge_chart, list_chart, passes_chart,
-    write_reading, write_ready,
+    ChartFormat, CheckInput, ReadyQuery, explain_pair, follow_drawing, judge_chart, list_chart,
+    passes_chart, write_reading, write_ready,
 };
 use msc_tool::print_execution;
 use std::alloc::Global;
@@ -201,6 +201,29 @@ fn explain<O: Write>(
     put(output, &page, ended_by(enforced))
 }
 
+/// Writes a run that keeps the drawing of the chart of a text in the file of this name, or why no
+/// run does.
+fn follow<O: Write>(
+    alloc: Global,
+    following: FollowArgs,
+    file: &str,
+    source: &Source,
+    output: &mut O,
+) -> Result<Status, Refusal<'static>>
+    ensures { AnswersOf O.contents (ChartCommand.Follow following) file.now source.now result
+        output.old output.new }
+{
+    let event_positions = event_positions_of(
+        alloc,
+        following.event_style.places,
+        file,
+        source.text(),
+    )?;
+    let style = style_of(following.event_style, event_positions.as_ref());
+    let (page, follows) = follow_drawing(alloc, source.chart(), following.queues, style)?;
+    put(output, &page, ended_by(follows))
+}
+
 /// Writes the events of the chart of a text in the file of this name, with their places if
 /// requested.
 fn list<O: Write>(
@@ -266,6 +289,7 @@ fn answer_chart<'w, R: Threads + Wait + Sync, O: Write>(
         ChartCommand::Check(check_args) => check(alloc, check_args, file, source, output),
         ChartCommand::Quiet(quieting) => quiet(alloc, quieting, source),
         ChartCommand::Explain(explaining) => explain(alloc, explaining, file, source, output),
+        ChartCommand::Follow(following) => follow(alloc, following, file, source, output),
         ChartCommand::Run(queues, patience) => {
             let (page, finished) = print_execution(
                 rt,

@@ -208,9 +208,10 @@ pub(crate) const VERSION: &str = "0.2.0";
 const NOTES: &str = "\
 Exit status:
   0  the answer was written; `check` found no races that count, `explain` that E is enforced
-     before F, `run` that all instances finish, `ready` that the system does
-  1  `check` found races that count, `explain` that E is not enforced before F, or `ready` a
-     system that may stick, or races that are left
+     before F, `follow` a run that keeps the drawing, `run` that all instances finish, `ready`
+     that the system does
+  1  `check` found races that count, `explain` that E is not enforced before F, `follow` that no
+     run keeps the drawing, or `ready` a system that may stick, or races that are left
   2  the text, the pair or a name was refused, or the words are no command
   3  some instance of `run` has not finished
   4  memory ran out, a thread could not be started, or a file or the output failed

@@ -179,12 +179,13 @@ pub fn refuse_words<E: Write>(faults: &mut E, error: &io::Error) -> u8
 ///   it. `--show N` shows runs of the first N races, `--most N` lists the first N, `--closest` only
 ///   the closest ones. `--allow KIND` leaves out the races of a kind (`early`, `queues`,
 ///   `unordered`, `overtaken`), `--accept` those that marks accept. `--why` adds kinds and causes.
-///   `--chart_format count` prints numbers, `--chart_format lines` lines for editors, `--quiet`
-///   nothing.
+///   `--format count` prints numbers, `--format lines` lines for editors, `--quiet` nothing.
 /// - `check --from LANGUAGE ..`: the same for all scenarios of a sequence diagram, or of all
 ///   diagrams of a Markdown text; `--fence N` takes its N-th block.
 /// - `explain --queues QUEUES FILE E F`: why event E is enforced before event F, or a run that has
 ///   F first.
+/// - `follow --queues QUEUES FILE`: a run that keeps the drawing, or the ring of steps by which none
+///   does.
 /// - `ready --queues QUEUES [--only NAME].. FILE`: whether instances that wait for one message can
 ///   stick. `--again` of `check` and `ready` adds what is between a round and the next.
 /// - `run --queues QUEUES [--patience N] FILE`: an execution, in which an instance gives up after N
@@ -202,8 +203,8 @@ pub fn refuse_words<E: Write>(faults: &mut E, error: &io::Error) -> u8
 /// writing fails, the status stays.
 ///
 /// The status is 0 if the answer or the requested help was written. It is 1 if there are races that
-/// are not left out, if E is not enforced before F, or if a system of ready instances can stick. It
-/// is 2 if the words are no command, or if the text, a diagram of a Markdown text, its rounds, the
+/// are not left out, if E is not enforced before F, if no run keeps the drawing, or if a system of
+/// ready instances can stick. It is 2 if the words are no command, or if the text, a diagram of a Markdown text, its rounds, the
 /// pair or a name was refused. It is 3 if some instance of an execution has not finished. It is 4
 /// if memory ran out, a thread could not be started, a file could not be opened or read, or the
 /// output could not be written.

@@ -115,6 +115,13 @@ pub(crate) struct ExplainArgs {
     pub event_style: EventStyle,
 }
 
+/// Whether some run keeps the drawing under an architecture, and how it is printed.
+#[derive(Clone, Copy)]
+pub(crate) struct FollowArgs {
+    pub queues: Queues,
+    pub event_style: EventStyle,
+}
+
 /// A query on ready instances under an architecture, and how it is answered.
 #[derive(Clone, Copy)]
 pub(crate) struct ReadyArgs<'w> {
@@ -137,6 +144,8 @@ pub(crate) enum ChartCommand<'w> {
     Quiet(QuietArgs),
     /// Why one event comes before another, or a run in which it does not.
     Explain(ExplainArgs),
+    /// A run that keeps the drawing, or why no run does.
+    Follow(FollowArgs),
     /// An execution under an architecture, with the patience of its instances.
     Run(Queues, u32),
     /// Its events, and whether their places are printed.
@@ -605,6 +614,17 @@ fn explain_of<'w>(queues: Queues, words: &'w ArgMatches) -> Result<Task<'w>, Mis
     })))
 }
 
+/// The task of `msc follow`.
+fn follow_of(queues: Queues, words: &ArgMatches) -> Task<'static>
+    ensures { architecture (found_of words.now) ≡ Some queues
+        → AsksFor CommandName.Follow (found_of words.now) result }
+{
+    Task::Chart(ChartCommand::Follow(FollowArgs {
+        queues,
+        event_style: event_style_of(words),
+    }))
+}
+
 /// The task of `msc list`.
 fn list_of(words: &ArgMatches) -> Task<'static>
     ensures { AsksFor CommandName.List (found_of words.now) result }
@@ -771,6 +791,7 @@ fn complete_task<'w>(
         CommandName::Read => Ok(Task::Read),
         CommandName::Check => check_of(queues_of(words)?, words),
         CommandName::Explain => explain_of(queues_of(words)?, words),
+        CommandName::Follow => Ok(follow_of(queues_of(words)?, words)),
         CommandName::Run => Ok(run_of(queues_of(words)?, words)),
         CommandName::List => Ok(list_of(words)),
         CommandName::Draw => Ok(draw_of(words)),

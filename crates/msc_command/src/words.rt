@@ -11,6 +11,7 @@ pub(crate) enum CommandName {
     Read,
     Check,
     Explain,
+    Follow,
     Run,
     List,
     Draw,
@@ -277,6 +278,15 @@ const EXPLAIN: [ArgName; 8] = [
     ArgName::SecondEvent,
 ];
 
+/// The words after `follow`, in the order of the help.
+const FOLLOW: [ArgName; 5] = [
+    ArgName::Queues,
+    ArgName::Words,
+    ArgName::Places,
+    ArgName::Plain,
+    ArgName::File,
+];
+
 /// The words after `run`, in the order of the help.
 const RUN: [ArgName; 5] = [
     ArgName::Queues,
@@ -335,10 +345,11 @@ const IMPORT: [ArgName; 11] = [
 
 impl CommandName {
     /// All commands, in the order of the help.
-    pub const ALL: [CommandName; 10] = [
+    pub const ALL: [CommandName; 11] = [
         CommandName::Read,
         CommandName::Check,
         CommandName::Explain,
+        CommandName::Follow,
         CommandName::Run,
         CommandName::List,
         CommandName::Draw,
@@ -356,6 +367,7 @@ impl CommandName {
             CommandName::Read => "read",
             CommandName::Check => "check",
             CommandName::Explain => "explain",
+            CommandName::Follow => "follow",
             CommandName::Run => "run",
             CommandName::List => "list",
             CommandName::Draw => "draw",
@@ -390,6 +402,7 @@ impl CommandName {
             ],
             CommandName::Check => &CHECK,
             CommandName::Explain => &EXPLAIN,
+            CommandName::Follow => &FOLLOW,
             CommandName::Run => &RUN,
             CommandName::Draw => &DRAW,
             CommandName::Reverse => &REVERSE,
@@ -413,6 +426,7 @@ impl CommandName {
             CommandName::Explain => {
                 "Print why an event comes before another, or a run in which it does not"
             }
+            CommandName::Follow => "Print a run that keeps the drawing, or why no run does",
             CommandName::Run => {
                 "Run the chart on threads, and print how each instance ended and the trace"
             }
@@ -434,6 +448,7 @@ impl CommandName {
             CommandName::Read => READ_NOTES,
             CommandName::Check => CHECK_NOTES,
             CommandName::Explain => EXPLAIN_NOTES,
+            CommandName::Follow => FOLLOW_NOTES,
             CommandName::Run => RUN_NOTES,
             CommandName::List => LIST_NOTES,
             CommandName::Draw => DRAW_NOTES,
@@ -505,6 +520,27 @@ Exit status:
 
 Example:
   msc explain --queues mailbox relay.msc 2 3";
+
+/// The text below the help of `msc follow`.
+const FOLLOW_NOTES: &str = "\
+`check` tells what else can happen; this tells whether the drawing itself can:
+
+  follows  some run keeps the drawing, and one is printed
+  never    no run does: each of these steps forces an event before the next, in a ring
+
+Events are numbered from 0, over all lines. The lines of a ring:
+  sent X Y   Y is the input of X
+  drawn X Y  Y is drawn below X
+  ahead X Y  two outputs of one queue: the input of X is drawn above that of Y
+
+Exit status:
+  0  some run keeps the drawing
+  1  no run keeps the drawing
+  2  the text was refused, or the words are no command
+  4  memory ran out, or a file or the output failed
+
+Example:
+  msc follow --queues pair --places relay.msc";
 
 /// The text below the help of `msc run`.
 const RUN_NOTES: &str = "\

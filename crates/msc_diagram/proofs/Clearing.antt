@@ -8,6 +8,7 @@ use Rattle.msc_race.specs.ShortLaws.{AShortWitnessExists}
 use Rattle.msc_race.specs.Wired.{enforced_chart, EnforcedChart, IsEnforced}
 use Rattle.msc_race.specs.Views.{races_of}
 use Rattle.msc_reason.specs.Counting.{counting, listed}
+use Rattle.msc_reason.specs.Kinds.{is_empty}
 use Rattle.msc_reason.specs.LeftOut.{of_kinds}
 use Rattle.msc_reason.specs.Marked.{cause_in}
 use Rattle.msc_reason.specs.declared.kinds.KindSet.{KindSet}
@@ -33,13 +34,14 @@ success_holds (Err e) then p = tt
 -- by the enforced order it is known what of a scenario was seen
 pub case_seen : (queues : Queues) (q : CheckOptions) (s : Scenario) (e : EnforcedChart) (old new : Answer)
     → e.chart ≡ s.chart → e.queues ≡ queues → IsEnforced e → IsAccepted e.chart → AWitnessExists → AShortWitnessExists
-    → new.all ≡ above_with s old.all (races_of e) → new.counting ≡ above_with s old.counting (counting e (of_kinds q.allowed) (cause_in e))
+    → new.all ≡ above_with s old.all (races_of e)
+    → (is_empty q.allowed ≡ false → new.counting ≡ above_with s old.counting (counting e (of_kinds q.allowed) (cause_in e)))
     → new.listed ≡ above_with s old.listed (listed e (of_kinds q.allowed) q.closest (cause_in e)) → SeesCase s queues q old new
 case_seen queues q s e old new chart its is accepted exists shorts all some few =
     let same : e ≡ enforced_chart s.chart queues e.order = ap₂ (λ (d : Drawing) (a : Queues). enforced_chart d a e.order) chart its in
     let now = enforced_chart s.chart queues e.order in
     let found = subst (λ (x : EnforcedChart). IsEnforced x × IsAccepted x.chart × (new.all ≡ above_with s old.all (races_of x))
-    × (new.counting ≡ above_with s old.counting (counting x (of_kinds q.allowed) (cause_in x)))
+    × (is_empty q.allowed ≡ false → new.counting ≡ above_with s old.counting (counting x (of_kinds q.allowed) (cause_in x)))
     × (new.listed ≡ above_with s old.listed (listed x (of_kinds q.allowed) q.closest (cause_in x))))
     same (is, accepted, all, some, few) in
     let known = all_tables now found.0 found.1 exists shorts in

@@ -2,6 +2,7 @@
 use Rattle.std.specs.Prelude.{◌≡◌, ◌⊎◌, ℕ, true, false, List, [], ◌++◌, Option, None, Some, Result, Ok, Err, length, take}
 use Rattle.msc_chart.specs.declared.queue.Queues.{Queues}
 use Rattle.msc_print.specs.Pages.{Pages, WritesBeginning}
+use Rattle.msc_reason.specs.Kinds.{is_empty}
 use Rattle.msc_print.specs.declared.page.WriteFault.{WriteFault}
 use Rattle.msc_print.specs.declared.page.WriteFault.TheVariants.{Memory, Device}
 use Rattle.msc_judge.specs.declared.options.CheckOptions.{CheckOptions}
@@ -76,14 +77,14 @@ abbrev pub above_text : CheckOptions → Option PlaceCounts → List ℕ
 above_text q None = []
 above_text q (Some counts) = counts_text q counts
 
--- the races of a scenario joined the places of all races, of those that count, and of those that
--- are listed
+-- the races of a scenario joined the places of all races, of those that count if some kinds are
+-- left out, and of those that are listed
 pub record SeesCase (s : Scenario) (queues : Queues) (q : CheckOptions) (old new : Answer) : Type 0 where
   pub known : Case
   pub scenario : known.scenario ≡ s
   pub is : IsCase queues q.short known
   pub all : new.all ≡ above_with s old.all (all_of queues known)
-  pub counting : new.counting ≡ above_with s old.counting (counting_of queues q.allowed known)
+  pub counting : is_empty q.allowed ≡ false → new.counting ≡ above_with s old.counting (counting_of queues q.allowed known)
   pub listed : new.listed ≡ above_with s old.listed (asked_of queues q known)
 
 -- the same of all scenarios
@@ -91,5 +92,5 @@ pub record SeesCases (scenarios : List Scenario) (queues : Queues) (q : CheckOpt
   pub cases : List Case
   pub are : AreCases queues q.short scenarios cases
   pub all : new.all ≡ places_from (all_of queues) old.all cases
-  pub counting : new.counting ≡ places_from (counting_of queues q.allowed) old.counting cases
+  pub counting : is_empty q.allowed ≡ false → new.counting ≡ places_from (counting_of queues q.allowed) old.counting cases
   pub listed : new.listed ≡ places_from (asked_of queues q) old.listed cases

@@ -14,7 +14,7 @@ use std::alloc::Global;
 pub(crate) struct Answer {
     /// The places of all races.
     pub all: ReportedRaces,
-    /// The places of races that count.
+    /// The places of races that count, if some kinds are left out.
     pub counting: ReportedRaces,
     /// The places of races that are listed.
     pub listed: ReportedRaces,

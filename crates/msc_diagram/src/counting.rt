@@ -1,9 +1,11 @@
 //! Counts the places of races in scenarios.
 
-ghost use Rattle.std.specs.Prelude.{◌≡◌, IfOk, OnOk, length};
+ghost use Rattle.std.specs.Prelude.{◌≡◌, IfOk, OnOk, false, length};
 ghost use Rattle.std.specs.List.{filter};
 ghost use Rattle.msc_race.specs.Views.{races_of, AreRacesOf};
 ghost use Rattle.msc_reason.specs.Counting.{counting, counts, listed};
+ghost use Rattle.msc_reason.specs.Kinds.{is_empty};
+ghost use Rattle.msc_reason.specs.LeftOut.{of_kinds};
 ghost use Rattle.msc_reason.specs.Marked.{cause_in};
 ghost use Rattle.msc_diagram.specs.Counts.{AreCountsOf};
 ghost use Rattle.msc_diagram.specs.Places.{above_with, fresh, AreAllPlaces};
@@ -20,7 +22,7 @@ use msc_chart::{Event, Queues};
 use msc_judge::CheckOptions;
 use msc_race::laws::{short_witnesses_show, the_witness_reverses};
 use msc_race::{Enforced, Walk};
-use msc_reason::{LeftOut, Listing, Stream, counts};
+use msc_reason::{KindSet, LeftOut, Listing, Stream, counts};
 use std::alloc::{AllocError, Global};
 
 /// Adds the places of all races of a scenario. `places` has the places of its events.
@@ -132,8 +134,29 @@ fn see_counting(
     Ok(())
 }
 
-/// Adds the places of the races of a scenario: of all, of those that count, and of those that are
-/// listed.
+/// Adds the places of the races of a scenario that count, if some kinds are left out: otherwise all
+/// races count.
+fn see_some(
+    alloc: Global,
+    reported: &mut ReportedRaces,
+    enforced: &Enforced<'_>,
+    allowed: KindSet,
+    places: &[EventPlace],
+) -> Result<(), AllocError>
+    requires { length places.now ≡ length enforced.now.chart.events }
+    ensures { (s : Scenario) → AreAllPlaces s places.now → is_empty allowed ≡ false
+        → OnOk result (reported.new ≡ above_with s reported.old
+        (counting enforced.now (of_kinds allowed) (cause_in enforced.now))) }
+{
+    if allowed.is_empty() {
+        return Ok(());
+    }
+    let left = LeftOut::of_kinds(allowed);
+    see_counting(alloc, reported, enforced, left, places)
+}
+
+/// Adds the places of the races of a scenario: of all, of those that count if some kinds are left
+/// out, and of those that are listed.
 fn see_case(
     alloc: Global,
     answer: &mut Answer,
@@ -149,14 +172,14 @@ fn see_case(
     enforced.facts();
     let places = places_of(alloc, scenario)?;
     see_all(alloc, &mut answer.all, &enforced, places.as_slice())?;
-    let left = LeftOut::of_kinds(options.allowed);
-    see_counting(
+    see_some(
         alloc,
         &mut answer.counting,
         &enforced,
-        left,
+        options.allowed,
         places.as_slice(),
     )?;
+    let left = LeftOut::of_kinds(options.allowed);
     let listing = Listing::of(alloc, enforced, left, options.closest)?;
     see_listed(alloc, &mut answer.listed, &listing, places.as_slice())
 }

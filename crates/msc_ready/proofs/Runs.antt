@@ -11,3 +11,4 @@ pub mod Whole
 pub mod Lines
 pub mod Reversing
 pub mod OneRun
+pub mod Counting

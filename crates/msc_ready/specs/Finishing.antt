@@ -1,6 +1,6 @@
 -- What has to come before what in a whole ready run.
-use Rattle.std.specs.Prelude.{◌≡◌, ℕ, Bool, false, List, IsTrue}
-use Rattle.msc_chart.specs.Lists.{occurs}
+use Rattle.std.specs.Prelude.{◌≡◌, ℕ, Bool, false, List, [], IsTrue}
+use Rattle.msc_chart.specs.Lists.{occurs, IsLeast, Steps}
 use Rattle.msc_chart.specs.Charts.{line, partner, is_input, before}
 use Rattle.msc_chart.specs.Orders.{WiredChart, queue}
 use Rattle.msc_chart.specs.Precedence.{Precedes}
@@ -42,3 +42,8 @@ IsInTurn chart ready past x =
 pub record MayComeInTurn (chart : WiredChart) (ready : ℕ → Bool) (past : List ℕ) (x : ℕ) : Type 0 where
   pub may : MayComeReady chart ready past x
   pub turn : IsInTurn chart ready past x
+
+-- the finishing run: each event is the least that may come next in turn, and after it none may
+pub record IsFinishingRun (chart : WiredChart) (ready : ℕ → Bool) (events : List ℕ) : Type 0 where
+  pub least : Steps (λ past. IsLeast (MayComeInTurn chart ready past)) [] events
+  pub none : (x : ℕ) → MayComeInTurn chart ready events x → ⊥

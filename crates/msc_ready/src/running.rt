@@ -26,24 +26,29 @@ pub enum Among {
     UpTo(Event),
     /// The inputs.
     Inputs,
+    /// The events that are in turn: each output that has to precede them has occurred.
+    InTurn,
     /// All events.
     All,
 }
 
-/// Whether `x` is one of these events.
-fn is_among(ready: &Ready, among: Among, x: Event) -> bool
-    requires known { x < length ready.now.chart.events }
-    requires up_to { (t : ℕ) → among ≡ Among.UpTo t → t < length ready.now.chart.events }
-    ensures { IsTrue result ↔ IsAmong (wiring_of ready.now) (ready_in ready.now) among x }
-{
-    match among {
-        Among::UpTo(t) => x == t || ready.holds(x, t),
-        Among::Inputs => ready.is_input(x),
-        Among::All => true,
-    }
-}
-
 impl Beginning {
+    /// Whether `x` is one of these events.
+    fn is_among(&self, ready: &Ready, among: Among, x: Event) -> bool
+        requires known { x < length ready.now.chart.events }
+        requires held { HoldsRun ready.now self.now }
+        requires up_to { (t : ℕ) → among ≡ Among.UpTo t → t < length ready.now.chart.events }
+        ensures { IsTrue result ↔ IsAmong (wiring_of ready.now) (ready_in ready.now) among
+            self.now.run.items x }
+    {
+        match among {
+            Among::UpTo(t) => x == t || ready.holds(x, t),
+            Among::Inputs => ready.is_input(x),
+            Among::InTurn => self.is_in_turn(ready, x),
+            Among::All => true,
+        }
+    }
+
     /// Whether neither `x` nor a later event of line `i` may come next: the line has ended, or it
     /// is ready and `x` may not come. The search calls it from the front of the line on.
     fn is_barred(&self, ready: &Ready, i: u32, x: Event) -> bool
@@ -76,7 +81,7 @@ impl Beginning {
         if !self.may_come(ready, x) {
             return false;
         }
-        is_among(ready, among, x)
+        self.is_among(ready, among, x)
     }
 
     /// The least of these events of line `i` that may come next.
@@ -101,7 +106,7 @@ impl Beginning {
     }
 
     /// The least of these events that may come next.
-    fn least_next(&self, ready: &Ready, among: Among) -> Option<Event>
+    pub fn least_next(&self, ready: &Ready, among: Among) -> Option<Event>
         requires held { HoldsRun ready.now self.now }
         requires up_to { (t : ℕ) → among ≡ Among.UpTo t → t < length ready.now.chart.events }
         ensures { MatchOption result ((x : ℕ) → ComesAmong (wiring_of ready.now)

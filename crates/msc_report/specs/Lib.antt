@@ -11,6 +11,7 @@ pub mod Lines
 pub mod Counts
 pub mod Editors
 pub mod Reasons
+pub mod Following
 pub mod BlockedPairs
 pub mod Rounds
 pub mod Fitting

@@ -2,7 +2,7 @@
 use Rattle.std.specs.Prelude.{ℕ, ◌&&◌, cond, List, [], ◌∷◌, ◌++◌, Option, None, Some, codes, nat_eq}
 use Rattle.std.specs.Fmt.{decimal}
 use Rattle.msc_chart.specs.declared.queue.Queues.{Queues}
-use Rattle.msc_chart.specs.Charts.{is_output, partner}
+use Rattle.msc_chart.specs.Charts.{before, is_output, partner}
 use Rattle.msc_chart.specs.Drawings.{Drawing}
 use Rattle.msc_reason.specs.declared.cause.Cause.{Cause}
 use Rattle.msc_reason.specs.declared.reason.Reason.{Reason}
@@ -17,9 +17,11 @@ use Rattle.msc_report.specs.Styles.{at_text, run_text, event_positions_in}
 use Rattle.msc_report.specs.Lines.{pair_text, why_text}
 use Rattle.msc_report.specs.declared.style.Style.{Style}
 
--- the word for a step from x to y: y is the input of x, or it is drawn below x
+-- the word for a step from x to y: y is the input of x, or it is drawn below x; otherwise x has to be
+-- ahead of y in their queue
 abbrev pub step_word : Drawing → ℕ → ℕ → List ℕ
-step_word d x y = cond (is_output d.events x && nat_eq (partner d.events x) y) (codes "sent") (codes "drawn")
+step_word d x y =
+    cond (is_output d.events x && nat_eq (partner d.events x) y) (codes "sent") (cond (before d.events x y) (codes "drawn") (codes "ahead"))
 
 -- a chain from x on: a line for each step, behind so many blanks
 abbrev pub chain_text : Option EventPositionsIn → List ℕ → Drawing → ℕ → List ℕ → List ℕ

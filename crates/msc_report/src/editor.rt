@@ -1,5 +1,5 @@
-//! The renderer of lines for editors: each race as a line that begins with its place, and a note at
-//! the event drawn below it; and each mark that accepts no race.
+//! The renderer of lines for editors: that no run keeps the drawing; each race as a line that begins
+//! with its place, and a note at the event drawn below it; and each mark that accepts no race.
 
 ghost use Rattle.std.specs.Prelude.{◌≡◌, ◌<◌, [], ◌++◌, IfOk, OnOk, length};
 ghost use Rattle.std.specs.Io.KnownBytes.{Appends};
@@ -10,10 +10,12 @@ ghost use Rattle.msc_report.specs.Fitting.{FitsEditor};
 ghost use Rattle.msc_report.specs.EventPositionTexts.{AreEventPositionsOf};
 ghost use Rattle.msc_report.specs.Editors.{editor_text, grave_line, kind_text, level_word};
 ghost use Rattle.msc_report.specs.Editors.{note_line, told_text};
+ghost use Rattle.msc_report.specs.Following.{never_error, AreStepsOf};
 ghost use Rattle.msc_report.specs.Stale.{stale_warnings};
 
 use crate::event_position_texts::EventPositionTexts;
 use crate::event_texts::EventTexts;
+use crate::following::write_never_error;
 use crate::race::{write_event, write_pair_place};
 use crate::stale::write_stale_warnings;
 use msc_chart::{Chart, Event};
@@ -202,26 +204,33 @@ impl WarningTexts {
 /// Lines for editors, made from the texts and the places of a chart's events. These are made once,
 /// if the chart has races.
 #[derive(Drop)]
-pub struct EditorLines<'s> {
+pub struct EditorLines<'s, 'r> {
     made: Option<WarningTexts>,
     event_positions: &'s EventPositions<'s>,
+    /// The steps of the ring by which no run keeps the drawing, if none does.
+    ring: &'r [(Event, Event)],
 }
 
-impl<'s> EditorLines<'s> {
-    /// The lines of a chart with `races` races. An error is a growth of memory that was refused.
+impl<'s, 'r> EditorLines<'s, 'r> {
+    /// The lines of a chart with `races` races, and of the steps of a ring by which no run keeps the
+    /// drawing; there are none if some run does. An error is a growth of memory that was refused.
     pub fn of(
         alloc: Global,
         chart: &Chart,
         races: u32,
         event_positions: &'s EventPositions<'s>,
-    ) -> Result<EditorLines<'s>, AllocError>
+        ring: &'r [(Event, Event)],
+    ) -> Result<EditorLines<'s, 'r>, AllocError>
+        requires { AreStepsOf chart.now ring.now }
         ensures fits { IfOk result (FitsEditor chart.now) }
         ensures event_positions { IfOk result (λ lines. lines.event_positions ≡ event_positions.entry) }
+        ensures ring { IfOk result (λ lines. lines.ring.now ≡ ring.now) }
     {
         if races == 0 {
             return Ok(EditorLines {
                 made: None,
                 event_positions,
+                ring,
             });
         }
         let texts = EventTexts::new(alloc, chart)?;
@@ -230,6 +239,7 @@ impl<'s> EditorLines<'s> {
         Ok(EditorLines {
             made,
             event_positions,
+            ring,
         })
     }
 
@@ -299,10 +309,10 @@ impl<'s> Renderer for Editor<'s> {
     }
 }
 
-impl<'s> Renderer for EditorLines<'s> {
+impl<'s, 'r> Renderer for EditorLines<'s, 'r> {
     ghost fits = { λ s d. FitsEditor d s };
 
-    ghost heading_text = { λ s d h. [] };
+    ghost heading_text = { λ s d h. never_error s.event_positions.now d s.ring.now };
 
     ghost run_text = { λ s d run. [] };
 
@@ -312,11 +322,14 @@ impl<'s> Renderer for EditorLines<'s> {
 
     fn print_heading(
         &self,
-        _page: &mut Page,
-        _chart: &Chart,
+        page: &mut Page,
+        chart: &Chart,
         _heading: Heading,
     ) -> Result<(), AllocError> {
-        Ok(())
+        match write_never_error(page, chart, self.event_positions, self.ring) {
+            Ok(()) => Ok(()),
+            Err(_) => Err(AllocError),
+        }
     }
 
     fn run_line(

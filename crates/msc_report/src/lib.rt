@@ -1,9 +1,9 @@
 //! Texts that the program prints: canonical texts, verdicts, races, executions and fault lines.
 //!
 //! Each call writes exactly its text or answers an `io::Error`; no contract says how much was
-//! written before an error. The contracts cite definitions of these texts. No call but those of
-//! `EventTexts` takes memory, beyond what the writer does. Events are numbered from 0, over all
-//! lines.
+//! written before an error. The contracts cite definitions of these texts. Only the calls of
+//! `EventTexts` and [`ring_steps`] take memory, beyond what the writer does. Events are numbered
+//! from 0, over all lines.
 //!
 //! # Choices
 //!
@@ -20,6 +20,7 @@ mod editor;
 mod event_position_texts;
 mod event_texts;
 mod fault;
+mod following;
 mod instance;
 mod lines;
 mod list;
@@ -42,6 +43,7 @@ pub use counts::{Counts, write_tally};
 pub use editor::{Editor, EditorLines};
 pub use event_texts::EventTexts;
 pub use fault::Fault;
+pub use following::{ring_steps, write_follows, write_never};
 pub use instance::write_instance_fault;
 pub use lines::Lines;
 pub use list::write_list;

@@ -68,7 +68,7 @@ pub(crate) fn write_both_at<W: Write>(
 }
 
 /// Writes a line that names two events: a word, their numbers, and what both of them do.
-fn write_pair<W: Write>(
+pub(crate) fn write_pair<W: Write>(
     writer: &mut W,
     chart: &Chart,
     word: &str,
@@ -290,6 +290,7 @@ fn print_event_positions(
 }
 
 /// Appends the places of two events to a page, if places are printed.
+#[inline(always)]
 pub(crate) fn print_places(
     page: &mut Page,
     event_positions: Option<&EventPositions<'_>>,
@@ -413,6 +414,8 @@ impl<'s> Lines<'s> {
     }
 
     /// Appends the places of a race to a page, if places are printed.
+    // Inlined, so that a row without places makes no call: a chart may have half a million races.
+    #[inline(always)]
     fn print_places(
         &self,
         page: &mut Page,

@@ -19,20 +19,24 @@ use msc_reason::{Cause, Reason, Why};
 use std::io;
 use std::io::Write;
 
-/// The word for a step.
-fn step_word(chart: &Chart, from: Event, to: Event) -> &'static str
-    requires { from < length chart.now.events }
+/// The word for a step: `to` is the input of `from`, or is drawn below it, or `from` has to be ahead
+/// of it in their queue.
+pub(crate) fn step_word(chart: &Chart, from: Event, to: Event) -> &'static str
+    requires from_known { from < length chart.now.events }
+    requires to_known { to < length chart.now.events }
     ensures { result.now ≡ step_word chart.now from to }
 {
     if chart.is_output(from) && chart.other_end(from) == to {
         "sent"
-    } else {
+    } else if chart.before(from, to) {
         "drawn"
+    } else {
+        "ahead"
     }
 }
 
 /// Writes the line of a step after `blanks`.
-fn write_step<W: Write>(
+pub(crate) fn write_step<W: Write>(
     writer: &mut W,
     chart: &Chart,
     event_positions: Option<&EventPositions<'_>>,

@@ -8,7 +8,7 @@ use Rattle.msc_chart.specs.declared.queue.Queues.{Queues}
 use Rattle.msc_chart.specs.Drawings.{Drawing, IsAccepted}
 use Rattle.msc_chart.specs.Rounds.{two_rounds}
 use Rattle.msc_order.specs.Tables.{Table}
-use Rattle.msc_race.specs.Views.{races_of}
+use Rattle.msc_race.specs.Views.{races_of, wiring_of}
 use Rattle.msc_race.specs.Wired.{enforced_chart, EnforcedChart, IsEnforced}
 use Rattle.msc_reason.proofs.CausesIn.{all_causes}
 use Rattle.msc_reason.specs.Counting.{counting, listed, AreCauses}
@@ -25,38 +25,41 @@ use Rattle.msc_print.specs.Pages.{Tells}
 use Rattle.msc_print.specs.declared.page.WriteFault.{WriteFault}
 use Rattle.msc_print.specs.declared.page.WriteFault.TheVariants as writing
 use Rattle.msc_judge.specs.declared.options.CheckOptions.{CheckOptions}
+use Rattle.msc_report.specs.Following.{ring_steps}
 use Rattle.msc_report.specs.declared.fault.Fault.TheVariants.{Memory}
-use Rattle.msc_text.specs.Judging.{asked, left_out, round_texts_in, texts_in, IsMarking, JudgesChart, JudgesUnrolled, PassesOnce, PassesRounds}
+use Rattle.msc_text.specs.Judging.{asked, left_out, round_texts_in, texts_in, IsMarking, IsRingIn, JudgesChart, JudgesUnrolled, PassesOnce, PassesRounds}
 use Rattle.msc_text.specs.declared.judging.ChartFormat.{ChartFormat}
 
 -- what a renderer wrote of a chart is told of it
-pub told_once : {W : Type 0} (contents : W → Option (List ℕ)) (e : EnforcedChart) (q : CheckOptions) (marks : Option (List Mark)) (m : Marking) (format : ChartFormat) (r : Result Bool WriteFault) (old new : W)
-    → IsAccepted e.chart → IsEnforced e → IsMarking e marks m → Answers e (asked format q) m (texts_in format e.chart) r (contents old) (contents new)
+pub told_once : {W : Type 0} (contents : W → Option (List ℕ)) (e : EnforcedChart) (q : CheckOptions) (marks : Option (List Mark)) (m : Marking) (format : ChartFormat) (ring : List ℕ) (r : Result Bool WriteFault) (old new : W)
+    → IsAccepted e.chart → IsEnforced e → IsMarking e marks m → IsRingIn format (wiring_of e) ring
+    → Answers e (asked format q) m (texts_in format (ring_steps ring) e.chart) r (contents old) (contents new)
     → Tells contents (JudgesChart e.chart e.queues q marks false format) r old new
-told_once contents e q marks m format (Ok passed) old new accepted is marked said = (
-  answer_text (texts_in format e.chart) e (asked format q) m said.tables,
-  record { accepted = accepted; order = e.order; by_order = is; marking = m; marked = marked; tables = said.tables; are = said.are; answered = said.passed; text = refl },
+told_once contents e q marks m format ring (Ok passed) old new accepted is marked barred said = (
+  answer_text (texts_in format (ring_steps ring) e.chart) e (asked format q) m said.tables,
+  record { accepted = accepted; order = e.order; by_order = is; marking = m; marked = marked; tables = said.tables; are = said.are; ring = ring; barred = barred; answered = said.passed; text = refl },
   said.written,
 )
-told_once contents e q marks m format (Err writing.Memory) old new accepted is marked said = inr (
+told_once contents e q marks m format ring (Err writing.Memory) old new accepted is marked barred said = inr (
   passes e (asked format q) m said.tables.causes,
-  answer_text (texts_in format e.chart) e (asked format q) m said.tables,
-  record { accepted = accepted; order = e.order; by_order = is; marking = m; marked = marked; tables = said.tables; are = said.are; answered = refl; text = refl },
+  answer_text (texts_in format (ring_steps ring) e.chart) e (asked format q) m said.tables,
+  record { accepted = accepted; order = e.order; by_order = is; marking = m; marked = marked; tables = said.tables; are = said.are; ring = ring; barred = barred; answered = refl; text = refl },
   said.written,
 )
-told_once contents e q marks m format (Err writing.Device) old new accepted is marked said = tt
+told_once contents e q marks m format ring (Err writing.Device) old new accepted is marked barred said = tt
 
-module _ (e : EnforcedChart) (order : Table) (q : CheckOptions) (marks : Option (List Mark)) (m : Marking) (format : ChartFormat)
-    (accepted : IsAccepted e.chart) (is : IsEnforced e) (is_two : IsEnforced (enforced_chart (two_rounds e.chart) e.queues order)) (marked : IsMarking e marks m) where
+module _ (e : EnforcedChart) (order : Table) (q : CheckOptions) (marks : Option (List Mark)) (m : Marking) (format : ChartFormat) (ring : List ℕ)
+    (accepted : IsAccepted e.chart) (is : IsEnforced e) (is_two : IsEnforced (enforced_chart (two_rounds e.chart) e.queues order)) (marked : IsMarking e marks m)
+    (barred : IsRingIn format (wiring_of e) ring) where
   -- two rounds of the chart
   abbrev two : EnforcedChart
   two = enforced_chart (two_rounds e.chart) e.queues order
 
   -- what was written of both is what is printed of the chart and of two rounds of it
-  module _ {r : Result Bool WriteFault} {before after : Option (List ℕ)} (said : AnswersRounds e two (asked format q) m (texts_in format e.chart) (round_texts_in format e.chart) r before after) where
+  module _ {r : Result Bool WriteFault} {before after : Option (List ℕ)} (said : AnswersRounds e two (asked format q) m (texts_in format (ring_steps ring) e.chart) (round_texts_in format e.chart) r before after) where
     -- the text of one round
     abbrev above : List ℕ
-    above = answer_text (texts_in format e.chart) e (asked format q) m said.tables
+    above = answer_text (texts_in format (ring_steps ring) e.chart) e (asked format q) m said.tables
 
     -- and of two
     abbrev below : List ℕ
@@ -71,7 +74,7 @@ module _ (e : EnforcedChart) (order : Table) (q : CheckOptions) (marks : Option 
     judged_unrolled passed answered = record {
       first = passes e (asked format q) m said.tables.causes;
       above = above;
-      once = record { accepted = accepted; order = e.order; by_order = is; marking = m; marked = marked; tables = said.tables; are = said.are; answered = refl; text = refl };
+      once = record { accepted = accepted; order = e.order; by_order = is; marking = m; marked = marked; tables = said.tables; are = said.are; ring = ring; barred = barred; answered = refl; text = refl };
       none = nat_eq (length said.pairs) 0;
       below = below;
       rounds = record { order = order; by_order = is_two; tables = said.of_two; are = said.are_two; pairs = said.pairs; told = said.told; answered = refl; text = refl };
@@ -81,7 +84,7 @@ module _ (e : EnforcedChart) (order : Table) (q : CheckOptions) (marks : Option 
 
   -- so it is told
   told_both : {W : Type 0} (contents : W → Option (List ℕ)) (r : Result Bool WriteFault) (old new : W)
-      → AnswersRounds e two (asked format q) m (texts_in format e.chart) (round_texts_in format e.chart) r (contents old) (contents new)
+      → AnswersRounds e two (asked format q) m (texts_in format (ring_steps ring) e.chart) (round_texts_in format e.chart) r (contents old) (contents new)
       → Tells contents (JudgesChart e.chart e.queues q marks true format) r old new
   told_both contents (Ok passed) old new said = (above said ++ below said, judged_unrolled said passed said.passed, said.written)
   told_both contents (Err writing.Memory) old new said =
@@ -89,14 +92,14 @@ module _ (e : EnforcedChart) (order : Table) (q : CheckOptions) (marks : Option 
   told_both contents (Err writing.Device) old new said = tt
 
 -- the same of any chart that is that of two rounds
-pub told_unrolled : {W : Type 0} (contents : W → Option (List ℕ)) (e two : EnforcedChart) (q : CheckOptions) (marks : Option (List Mark)) (m : Marking) (format : ChartFormat) (r : Result Bool WriteFault) (old new : W)
-    → IsAccepted e.chart → IsEnforced e → IsMarking e marks m → two.chart ≡ two_rounds e.chart → two.queues ≡ e.queues → IsEnforced two
-    → AnswersRounds e two (asked format q) m (texts_in format e.chart) (round_texts_in format e.chart) r (contents old) (contents new)
+pub told_unrolled : {W : Type 0} (contents : W → Option (List ℕ)) (e two : EnforcedChart) (q : CheckOptions) (marks : Option (List Mark)) (m : Marking) (format : ChartFormat) (ring : List ℕ) (r : Result Bool WriteFault) (old new : W)
+    → IsAccepted e.chart → IsEnforced e → IsMarking e marks m → IsRingIn format (wiring_of e) ring → two.chart ≡ two_rounds e.chart → two.queues ≡ e.queues → IsEnforced two
+    → AnswersRounds e two (asked format q) m (texts_in format (ring_steps ring) e.chart) (round_texts_in format e.chart) r (contents old) (contents new)
     → Tells contents (JudgesChart e.chart e.queues q marks true format) r old new
-told_unrolled contents e two q marks m format r old new accepted is marked chart_is queues_is is_two said =
+told_unrolled contents e two q marks m format ring r old new accepted is marked barred chart_is queues_is is_two said =
     let same : two ≡ enforced_chart (two_rounds e.chart) e.queues two.order = ap₂ (λ (c : Drawing) (a : Queues). enforced_chart c a two.order) chart_is queues_is in
-    told_both e two.order q marks m format accepted is (subst IsEnforced same is_two) marked contents r old new
-    (subst (λ (x : EnforcedChart). AnswersRounds e x (asked format q) m (texts_in format e.chart) (round_texts_in format e.chart) r (contents old) (contents new)) same said)
+    told_both e two.order q marks m format ring accepted is (subst IsEnforced same is_two) marked barred contents r old new
+    (subst (λ (x : EnforcedChart). AnswersRounds e x (asked format q) m (texts_in format (ring_steps ring) e.chart) (round_texts_in format e.chart) r (contents old) (contents new)) same said)
 
 -- what is told of a chart under an architecture is told of the chart that was asked for
 pub told_of_chart : {W : Type 0} (contents : W → Option (List ℕ)) (e : EnforcedChart) (d : Drawing) (queues : Queues) (q : CheckOptions) (marks : Option (List Mark)) (again : Bool) (format : ChartFormat) (r : Result Bool WriteFault) (old new : W)

@@ -1,3 +1,4 @@
+pub mod Barred
 pub mod Judged
 pub mod Readied
 pub mod BlockedPairLemmas

@@ -1,10 +1,12 @@
 -- What is asked of the races of a chart, in a format.
-use Rattle.std.specs.Prelude.{◌≡◌, ℕ, Bool, true, false, ◌&&◌, List, [], ◌++◌, Option, None, Some, MatchOption, length, nat_eq}
+use Rattle.std.specs.Prelude.{◌≡◌, ℕ, Bool, true, false, ◌&&◌, List, [], ◌∷◌, ◌++◌, Option, None, Some, MatchOption, length, nat_eq}
 use Rattle.std.specs.Borrow.{Bor}
 use Rattle.msc_chart.specs.declared.queue.Queues.{Queues}
 use Rattle.msc_chart.specs.Drawings.{Drawing, IsAccepted}
 use Rattle.msc_chart.specs.Lists.{Occurs}
+use Rattle.msc_chart.specs.Orders.{wired, WiredChart}
 use Rattle.msc_chart.specs.Rounds.{two_rounds}
+use Rattle.msc_follow.specs.Following.{CanHappen, IsLeastStepRing, NeverHappens}
 use Rattle.msc_mark.specs.Accepting.{acceptance, accepts_race, stale_events}
 use Rattle.msc_mark.specs.declared.mark.Mark.{Mark}
 use Rattle.msc_order.specs.Tables.{Table}
@@ -23,24 +25,41 @@ use Rattle.msc_judge.specs.declared.options.CheckOptions.{CheckOptions}
 use Rattle.msc_report.specs.Counts.{tally_line}
 use Rattle.msc_report.specs.Lines.{finding_text, heading_text}
 use Rattle.msc_report.specs.Editors.{editor_text}
+use Rattle.msc_report.specs.Following.{never_error, ring_steps}
 use Rattle.msc_report.specs.Rounds.{again_count, round_finding, round_run_text, round_warning}
 use Rattle.msc_report.specs.Stale.{stale_lines, stale_warnings}
 use Rattle.msc_report.specs.Styles.{run_text, event_positions_in}
 use Rattle.msc_text.specs.declared.judging.ChartFormat.{ChartFormat}
 use Rattle.msc_text.specs.declared.judging.ChartFormat.TheVariants.{Lines, Count, Editor}
 
--- the texts of each format, of a chart
-abbrev pub texts_in : ChartFormat → Drawing → Texts
-texts_in (Lines style) d = record {
+-- what keeps each run from the drawing: nothing, if some whole run keeps the drawn order, or a ring of
+-- steps
+abbrev pub IsBarred : WiredChart → List ℕ → Type 0
+IsBarred chart [] = CanHappen chart
+IsBarred chart (x ∷ ring) = IsLeastStepRing chart (x ∷ ring) × NeverHappens chart
+
+-- the same, if the format prints it: lines for editors do
+abbrev pub IsRingIn : ChartFormat → WiredChart → List ℕ → Type 0
+IsRingIn (Editor event_positions) chart ring = IsBarred chart ring
+IsRingIn (Lines style) chart ring = ring ≡ []
+IsRingIn (Count file) chart ring = ring ≡ []
+
+-- the texts of each format, of a chart and of the steps of such a ring
+abbrev pub texts_in : ChartFormat → List (ℕ × ℕ) → Drawing → Texts
+texts_in (Lines style) steps d = record {
   heading = heading_text d;
   run = run_text style.words d;
   finding = finding_text (event_positions_in style) d;
   end = stale_lines (event_positions_in style) d;
 }
-texts_in (Count file) d =
+texts_in (Count file) steps d =
     record { heading = tally_line file.now; run = λ run. []; finding = λ f line. []; end = λ stale. [] }
-texts_in (Editor event_positions) d =
-    record { heading = λ h. []; run = λ run. []; finding = λ f line. editor_text event_positions.now d f; end = stale_warnings event_positions.now d }
+texts_in (Editor event_positions) steps d = record {
+  heading = λ h. never_error event_positions.now d steps;
+  run = λ run. [];
+  finding = λ f line. editor_text event_positions.now d f;
+  end = stale_warnings event_positions.now d;
+}
 
 -- the texts of each format, of two rounds of a chart
 abbrev pub round_texts_in : ChartFormat → Drawing → Texts
@@ -70,7 +89,8 @@ IsMarking e (Some marks) m = (pairs : Bor PairTable) × (m.accepted ≡ Some pai
     × (m.stale.now ≡ stale_events (acceptance marks e.chart e.queues) (races_of e))
 
 -- What is printed of a chart, and whether no race counts and no mark accepts none: by the enforced
--- order, what its races lack, the runs that show them, and what marks say, where they are asked.
+-- order, what its races lack, the runs that show them, what keeps each run from the drawing, and what
+-- marks say, where they are asked.
 pub record JudgesOnce (d : Drawing) (queues : Queues) (q : CheckOptions) (marks : Option (List Mark)) (format : ChartFormat) (passed : Bool) (printed : List ℕ) : Type 0 where
   pub accepted : IsAccepted d
   pub order : Table
@@ -79,8 +99,11 @@ pub record JudgesOnce (d : Drawing) (queues : Queues) (q : CheckOptions) (marks 
   pub marked : IsMarking (enforced_chart d queues order) marks marking
   pub tables : Tables
   pub are : AreTables (enforced_chart d queues order) tables
+  pub ring : List ℕ
+  pub barred : IsRingIn format (wired queues d) ring
   pub answered : passed ≡ passes (enforced_chart d queues order) (asked format q) marking tables.causes
-  pub text : printed ≡ answer_text (texts_in format d) (enforced_chart d queues order) (asked format q) marking tables
+  pub text : printed
+      ≡ answer_text (texts_in format (ring_steps ring) d) (enforced_chart d queues order) (asked format q) marking tables
 
 -- What is printed of two rounds of a chart behind so many races that are listed, and whether no
 -- race is between the rounds: by the enforced order of the two, what their races lack, and the runs

@@ -1,6 +1,7 @@
 -- what is promised
 pub mod Judging
 pub mod Explaining
+pub mod Following
 pub mod Readying
 -- what the code keeps
 pub mod LeftRaces

@@ -6,14 +6,19 @@ ghost use Rattle.msc_judge.specs.Findings.{Answers};
 ghost use Rattle.msc_print.specs.Pages.{Tells};
 ghost use Rattle.msc_judge.specs.Rounds.{AnswersRounds};
 ghost use Rattle.msc_mark.specs.declared.mark.Mark.{Mark};
+ghost use Rattle.msc_race.specs.Views.{wiring_of};
 ghost use Rattle.msc_reason.specs.Counting.{counting};
 ghost use Rattle.msc_reason.specs.LeftOut.{of_kinds};
 ghost use Rattle.msc_reason.specs.Marked.{cause_in};
 ghost use Rattle.msc_reason.specs.Named.{AreEventsOf};
+ghost use Rattle.msc_report.specs.Following.{AreStepsOf};
 ghost use Rattle.msc_text.specs.Judging.{asked, left_out, round_texts_in, texts_in, AreItsRounds};
-ghost use Rattle.msc_text.specs.Judging.{IsMarking, JudgesChart, Passes, PassesOnce, PassesRounds};
+ghost use Rattle.msc_text.specs.Judging.{IsBarred, IsMarking, IsRingIn, JudgesChart, Passes};
+ghost use Rattle.msc_text.specs.Judging.{PassesOnce, PassesRounds};
 
-use msc_chart::{Chart, Queues, Unrolled};
+use msc_chart::{Chart, Event, Queues, Unrolled};
+use msc_follow::laws::a_pass_is_followed;
+use msc_follow::{Followed, follow};
 use msc_judge::{CheckOptions, Marking, RaceCheck, Rounds, Silent, judge, judge_rounds};
 use msc_mark::{Accepted, Marks};
 use msc_place::EventPositions;
@@ -21,7 +26,9 @@ use msc_print::WriteFault;
 use msc_race::Enforced;
 use msc_race::laws::{short_witnesses_show, the_witness_reverses};
 use msc_reason::{KindSet, LeftOut, Listing, none_counts};
-use msc_report::{Counts, EditorLines, Lines, RoundEditor, RoundLines, RoundNames, Style};
+use msc_report::{
+    Counts, EditorLines, Lines, RoundEditor, RoundLines, RoundNames, Style, ring_steps,
+};
 use std::alloc::{AllocError, Global};
 use std::io::Write;
 
@@ -33,8 +40,46 @@ pub enum ChartFormat<'f> {
     /// One line for the file of this name, with the number of races, and of the closest of those
     /// that count.
     Count(&'f [u8]),
-    /// The lines for editors of each race, with the places of the events in the text.
+    /// The lines for editors: that no run keeps the drawing, if none does, and each race, with the
+    /// places of the events in the text.
     Editor(&'f EventPositions<'f>),
+}
+
+/// A format, with the steps of the ring that lines for editors print.
+#[derive(Clone, Copy)]
+struct Rendering<'f, 'r> {
+    format: ChartFormat<'f>,
+    ring: &'r [(Event, Event)],
+}
+
+/// The ring of steps by which no run keeps the drawing; it is empty if some run does, which holds if
+/// there is no race.
+fn barring_ring(alloc: Global, enforced: &Enforced<'_>) -> Result<Vec<Event>, AllocError>
+    ensures { IfOk result (λ ring. IsBarred (wiring_of enforced.now) ring.items) }
+{
+    a_pass_is_followed();
+    enforced.facts();
+    if enforced.count_races() == 0 {
+        return Ok(Vec::new(alloc));
+    }
+    match follow(alloc, enforced.chart(), enforced.queues())? {
+        Followed::Follows(_) => Ok(Vec::new(alloc)),
+        Followed::Never(ring) => Ok(ring),
+    }
+}
+
+/// The ring that lines for editors print; other formats print none.
+fn ring_in(
+    alloc: Global,
+    enforced: &Enforced<'_>,
+    format: ChartFormat<'_>,
+) -> Result<Vec<Event>, AllocError>
+    ensures { IfOk result (λ ring. IsRingIn format.entry (wiring_of enforced.now) ring.items) }
+{
+    match format {
+        ChartFormat::Editor(_) => barring_ring(alloc, enforced),
+        ChartFormat::Lines(_) | ChartFormat::Count(_) => Ok(Vec::new(alloc)),
+    }
 }
 
 /// Writes the races of a chart in a format; returns whether none counts and each mark accepts a
@@ -44,19 +89,20 @@ fn judge_in<W: Write>(
     enforced: Enforced<'_>,
     options: CheckOptions,
     marking: Marking<'_>,
-    format: ChartFormat<'_>,
+    rendering: Rendering<'_, '_>,
     writer: &mut W,
 ) -> Result<bool, WriteFault>
-    requires { AreEventsOf enforced.chart marking.stale.now }
-    ensures { Answers enforced.entry (asked format.entry options) marking.entry
-        (texts_in format.entry enforced.entry.chart)
+    requires stale { AreEventsOf enforced.chart marking.stale.now }
+    requires ring { AreStepsOf enforced.chart rendering.ring.now }
+    ensures { Answers enforced.entry (asked rendering.entry.format options) marking.entry
+        (texts_in rendering.entry.format rendering.entry.ring.now enforced.entry.chart)
         result (W.contents writer.old) (W.contents writer.new) }
 {
     the_witness_reverses();
     short_witnesses_show();
     enforced.facts();
     let races = enforced.count_races();
-    match format {
+    match rendering.format {
         ChartFormat::Lines(style) => {
             let renderer = &Lines::of(alloc, enforced.chart(), races, style)?;
             let check = RaceCheck {
@@ -79,7 +125,8 @@ fn judge_in<W: Write>(
             judge(alloc, check, writer)
         }
         ChartFormat::Editor(event_positions) => {
-            let renderer = &EditorLines::of(alloc, enforced.chart(), races, event_positions)?;
+            let chart = enforced.chart();
+            let renderer = &EditorLines::of(alloc, chart, races, event_positions, rendering.ring)?;
             let check = RaceCheck {
                 enforced,
                 races,
@@ -100,16 +147,17 @@ fn judge_rounds_of<'j, W: Write>(
     options: CheckOptions,
     marking: Marking<'_>,
     rounds: Rounds<'j, 'j>,
-    format: ChartFormat<'j>,
+    rendering: Rendering<'j, '_>,
     writer: &mut W,
 ) -> Result<bool, WriteFault>
     requires stale { AreEventsOf enforced.chart marking.stale.now }
     requires one { rounds.numbers.now ≡ enforced.chart }
+    requires ring { AreStepsOf enforced.chart rendering.ring.now }
     requires kinds { rounds.listing.now.allowed ≡ of_kinds options.allowed }
     ensures { AnswersRounds enforced.entry rounds.entry.listing.now.judged
-        (asked format.entry options) marking.entry
-        (texts_in format.entry enforced.entry.chart)
-        (round_texts_in format.entry enforced.entry.chart)
+        (asked rendering.entry.format options) marking.entry
+        (texts_in rendering.entry.format rendering.entry.ring.now enforced.entry.chart)
+        (round_texts_in rendering.entry.format enforced.entry.chart)
         result (W.contents writer.old) (W.contents writer.new) }
 {
     the_witness_reverses();
@@ -118,7 +166,7 @@ fn judge_rounds_of<'j, W: Write>(
     rounds.listing.enforced().facts();
     let races = enforced.count_races();
     let (chart, numbers) = (enforced.chart(), rounds.numbers);
-    match format {
+    match rendering.format {
         ChartFormat::Lines(style) => {
             let renderer = &Lines::of(alloc, chart, races, style)?;
             let names = RoundNames {
@@ -146,7 +194,7 @@ fn judge_rounds_of<'j, W: Write>(
             judge_rounds(alloc, check, rounds, &Silent, writer)
         }
         ChartFormat::Editor(event_positions) => {
-            let renderer = &EditorLines::of(alloc, chart, races, event_positions)?;
+            let renderer = &EditorLines::of(alloc, chart, races, event_positions, rendering.ring)?;
             let names = RoundNames {
                 chart,
                 numbers,
@@ -191,8 +239,14 @@ fn judge_by<W: Write>(
         (is_some rounds.entry) format.entry) result writer.old writer.new }
 {
     enforced.facts();
+    let ring = ring_in(alloc, &enforced, format)?;
+    let steps = ring_steps(alloc, ring.as_slice())?;
+    let rendering = Rendering {
+        format,
+        ring: steps.as_slice(),
+    };
     let Some(unrolled) = rounds else {
-        return judge_in(alloc, enforced, options, marking, format, writer);
+        return judge_in(alloc, enforced, options, marking, rendering, writer);
     };
     let both = Enforced::of(alloc, unrolled.two(), enforced.queues())?;
     both.facts();
@@ -202,7 +256,7 @@ fn judge_by<W: Write>(
         listing: &listing,
         numbers: unrolled.numbers(),
     };
-    judge_rounds_of(alloc, enforced, options, marking, rounds, format, writer)
+    judge_rounds_of(alloc, enforced, options, marking, rounds, rendering, writer)
 }
 
 /// A chart under an architecture, with its marks and its two rounds.

@@ -1,5 +1,5 @@
 //! Answers in bytes: the canonical text of a draft, the races of a chart, the reason for a pair of
-//! its events, its blocked pairs and its list of events.
+//! its events, a run that keeps its drawing, its blocked pairs and its list of events.
 //!
 //! # Choices
 //!
@@ -18,6 +18,7 @@
 
 mod blocked_pairs;
 mod explaining;
+mod following;
 mod judging;
 mod left;
 mod listing;
@@ -26,6 +27,7 @@ mod sources;
 mod text;
 
 pub use explaining::explain_pair;
+pub use following::follow_drawing;
 pub use judging::{ChartFormat, CheckInput, judge_chart, passes_chart};
 pub use listing::list_chart;
 pub use readying::{ReadyQuery, write_ready};

@@ -8,7 +8,8 @@ from generators.check_options import some_options, words_of
 from harness import Answer, joined
 from models.chart import QUEUES, Chart
 from models.marks import fault_of, marks_for
-from models.races import listing, places_of, study
+from models.races import listing, study
+from models.shown import places_of
 
 NEEDS_PROGRAM = True
 OPTIONS = {"number": 150, "messages": 10}

@@ -11,8 +11,8 @@ from generators.charts import chart
 from harness import run
 from models.chart import QUEUES, Chart, is_enforced
 from models.explanations import Wrong, check, fault, name_of, with_places
-from models.races import places_of
 from models.short_runs import short_witness
+from models.shown import places_of
 
 NEEDS_PROGRAM = True
 OPTIONS = {"number": 24, "messages": 6}

@@ -82,6 +82,29 @@ def small_chart(pick, lines, messages):
     return text + " endmsc;"
 
 
+def crossed_chart(pick, lines, messages):
+    """A small chart in which each line sends all its messages and then takes those that it gets, of
+    each sender in their order; some are in coregions. Many rings are long under `mailbox`."""
+    count = pick.randint(2, lines)
+    sent, text = [[[] for _ in range(count)] for _ in range(count)], "msc t;"
+    drawn = [[] for _ in range(count)]
+    for number in range(pick.randint(2, messages)):
+        sender, receiver = pick.randrange(count), pick.randrange(count)
+        drawn[sender].append(f"out m{number} to p{receiver};")
+        sent[receiver][sender].append(f"in m{number} from p{sender};")
+    for i, (outputs, inputs) in enumerate(zip(drawn, sent)):
+        taken = []
+        while any(inputs):
+            taken.append(pick.choice([it for it in inputs if it]).pop(0))
+        text += f" instance p{i}; "
+        for part in (outputs, taken):
+            cut = pick.choice([0, 0, 0, pick.randint(0, len(part))])
+            shared = ["concurrent;", *part[:cut], "endconcurrent;"] if cut > 1 else part[:cut]
+            text += " ".join([*shared, *part[cut:]]) + " "
+        text += "endinstance;"
+    return text + " endmsc;"
+
+
 def mark(pick, faulty):
     """A comment: a mark most of the time, and a faulty one now and then where some may be."""
     head = "race ok"

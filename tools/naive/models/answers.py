@@ -1,12 +1,13 @@
 """What commands answer to a text, by all models: both streams and the status.
 
-The commands are `msc read -`, `msc check --queues QUEUES --show SHOW -`, `msc draw --queues QUEUES
--`, `msc ready --queues QUEUES -`, `check` and `ready` with `--again`, `msc import` and `msc check
---from`.
+The commands are `msc read -`, `msc check --queues QUEUES --show SHOW -`, `msc follow`, `msc draw`
+and `msc ready`, each with `--queues QUEUES -`, `check` and `ready` with `--again`, `msc import` and
+`msc check --from`.
 """
 from harness import Answer, joined
 from models import rounds
 from models.chart import Chart
+from models.following import answer as follow_lines
 from models.mermaid import answered
 from models.mermaid import options_of as import_options
 from models.picture import chart_picture
@@ -48,6 +49,14 @@ def check_answer(text, queues, show=ALL):
         return refusal(fault)
     chart = Chart(text.decode("latin-1"), queues)
     return lines_answer(chart.verdict(show), int(bool(chart.races())))
+
+
+def follow_answer(text, queues, words=False, file=None):
+    """Of `msc follow`, with `--places` if a file is named; without the notes of a fault."""
+    fault = fault_of(text)
+    if fault:
+        return refusal(fault)
+    return lines_answer(*follow_lines(text.decode("latin-1"), queues, words, file))
 
 
 def draw_answer(text, queues):

@@ -1,14 +1,14 @@
 """What `msc check` prints of races with its options, and what `msc list` prints.
 
 Which races are listed, their kinds and what they lack is made pair by pair from the enforced order
-of chart.py; marks.py says which are accepted, short_runs.py has the short runs, and places are
-those of the tokens of the text.
+of chart.py; marks.py says which are accepted, short_runs.py has the short runs, following.py says
+whether the drawing can happen, and places are those of the tokens of the text.
 """
 from models.chart import is_enforced
+from models.following import never_lines
 from models.marks import verdict_on
-from models.notes import place
-from models.reading import tokens
 from models.short_runs import short_witness
+from models.shown import named, pair_line, run_lines
 
 KINDS = ("early", "queues", "unordered", "overtaken")
 
@@ -45,18 +45,6 @@ def kind(drawn, e, f):
     return "overtaken" if is_enforced(drawn, drawn.partner[f], drawn.partner[e]) else "unordered"
 
 
-def places_of(text):
-    """The place of each event, in the order of the text."""
-    found = tokens(text)
-    return [place(text, it.at) for it in found if it.kind in ("out", "in", "action")]
-
-
-def named(drawn, e):
-    """An event behind the name of its instance."""
-    event = drawn.events[e]
-    return f"{drawn.names[event.line]} {event.text}"
-
-
 def race_words(drawn, e, f):
     """Which events race, on which line, and what both of them do."""
     first, second = drawn.events[e], drawn.events[f]
@@ -68,13 +56,6 @@ def editor_lines(drawn, places, e, f):
     level = "error" if is_enforced(drawn, f, e) else "warning"
     yield f"{places[e]}: {level}: {race_words(drawn, e, f)} [{kind(drawn, e, f)}]"
     yield f"{places[f]}: note: the event drawn below it"
-
-
-def run_lines(drawn, run, words):
-    """A run by the numbers of its events, or in words."""
-    if not words:
-        return [" ".join(map(str, ["run", *run]))]
-    return [f"steps {len(run)}", *(f"{e} {named(drawn, e)}" for e in run)]
 
 
 def listing(drawn, places, placed):
@@ -93,7 +74,7 @@ def why(drawn, e, f):
     output = drawn.partner[f]
     assert needed != output and not is_enforced(drawn, needed, output)
     always = " always" if is_enforced(drawn, f, e) else ""
-    told = f"needs {needed} {output}: {named(drawn, needed)}; {named(drawn, output)}"
+    told = pair_line(drawn, "needs", needed, output)
     return (needed, output), [f"kind {kind(drawn, e, f)}{always}", told]
 
 
@@ -138,7 +119,8 @@ def study(drawn, places, options, marks):
         return [f"{verdict} -"], status
     listed = closest if options["closest"] else left
     if options["format"] == "lines":
-        told = [editor_lines(drawn, places, e, f) for e, f in listed[:options["most"]]]
+        told = [never_lines(drawn, places)]
+        told += (editor_lines(drawn, places, e, f) for e, f in listed[:options["most"]])
         told.append(stale_lines(drawn, places, stale, options))
         return [line for lines in told for line in lines], status
     verdict = f"races {len(races)}" if races else "pass"

@@ -16,7 +16,7 @@ import sys
 
 from harness import Answer, joined, parser, put
 from models.chart import QUEUES, Chart
-from models.races import named, places_of, run_lines
+from models.shown import pair_line, places_of, run_lines
 
 ALL = 2 ** 32 - 1
 
@@ -217,7 +217,7 @@ def answer(text, queues, only=(), show=ALL, words=False, file=None):
         told.append(pair_words(drawn, "stick", e, f))
         at(e, f)
         first, second = drawn.partner[e], drawn.partner[f]
-        told.append(f"needs {first} {second}: {named(drawn, first)}; {named(drawn, second)}")
+        told.append(pair_line(drawn, "needs", first, second))
         at(first, second)
         if words:
             told.append(

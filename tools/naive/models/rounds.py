@@ -19,9 +19,9 @@ from harness import Answer, joined, parser, put
 from models import ready
 from models.chart import QUEUES, Chart, is_enforced, statements
 from models.marks import fault_of, marks_for
-from models.races import KINDS, chosen, closest_of, kind, named, places_of, share_queue, shown_run
-from models.races import study
+from models.races import KINDS, chosen, closest_of, kind, share_queue, shown_run, study
 from models.ready import ALL, Ready, pair_words, signal
+from models.shown import named, places_of
 
 # messages and actions of a chart, of which two rounds are a chart too
 MESSAGES, ACTIONS = 512, 512

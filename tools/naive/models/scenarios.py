@@ -20,8 +20,8 @@ from models.chart import QUEUES, Chart
 from models.courses import scenarios
 from models.diagrams import made
 from models.mermaid import fault_bytes, texts_of, words_on_diagrams
-from models.races import KINDS, closest_of, editor_lines, kind, race_words, run_lines, shown_run
-from models.races import why
+from models.races import KINDS, closest_of, editor_lines, kind, race_words, shown_run, why
+from models.shown import run_lines
 from models.source import Refused, Source, source_of
 
 STACKED = "pass, parallel branches drawn one below the other"

@@ -9,6 +9,7 @@ use Rattle.msc_chart.specs.Lists.{occurs}
 use Rattle.msc_chart.specs.Charts.{line, segment, before, IsInTextOrder}
 use Rattle.msc_chart.specs.Drawings.{Drawing, IsLine}
 use Rattle.msc_chart.proofs.Drawn.{before_from}
+use Rattle.msc_race.proofs.Making.LinkLemmas.{any_default}
 use Rattle.msc_ready.specs.Beginnings.{HasMarks, HasFronts, IsFront, IsNextFront}
 use Rattle.msc_ready.proofs.Shared.{by_test, clash, before_parts, occurs-left, occurs_other}
 
@@ -118,3 +119,11 @@ fronts_after d text run fronts done x g below on marks before next = record {
         (front_other d.events text run x below i (get_or fronts i 0) other (before.front i inside))
   ];
 }
+
+-- the front that is read is that of the line
+pub front_read : (d : Drawing) (run fronts : List ℕ) (i j f : ℕ) → HasFronts d run fronts → j < length d.instances → i ≡ j
+    → f ≡ get_or fronts i f → IsFront d.events run j f
+front_read d run fronts i j f held below same read =
+    let each = held.each in
+    subst (λ (g : ℕ). IsFront d.events run j g)
+    (sym (read ∙ any_default fronts i f 0 (omega (arith, each, below, same)) ∙ ap (λ (k : ℕ). get_or fronts k 0) same)) (held.front j below)

@@ -40,7 +40,7 @@ one_decided P unique found x =
     ]
 
 -- where at most one number comes next, two lists of steps to an end are one
-ends_alike : (May : List ℕ → ℕ → Type 0) → ((past : List ℕ) (x y : ℕ) → May past x → May past y → x ≡ y) → (past xs ys : List ℕ)
+pub ends_alike : (May : List ℕ → ℕ → Type 0) → ((past : List ℕ) (x y : ℕ) → May past x → May past y → x ≡ y) → (past xs ys : List ℕ)
     → Steps May past xs → Steps May past ys → ((x : ℕ) → May (past ++ xs) x → ⊥) → ((x : ℕ) → May (past ++ ys) x → ⊥) → xs ≡ ys
 ends_alike May unique past [] [] h k u v = refl
 ends_alike May unique past [] (y ∷ ys) h k u v = absurd (u y (rw append-nil k.0))

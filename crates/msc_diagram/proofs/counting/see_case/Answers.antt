@@ -1,5 +1,5 @@
 use Rattle.std.proofs.Common.{◌≡◌, sym, ap, ◌∙◌, subst}
-use Rattle.msc_reason.specs.Counting.{counting, listed}
+use Rattle.msc_reason.specs.Counting.{listed}
 use Rattle.msc_reason.specs.Marked.{cause_in}
 use Rattle.msc_reason.specs.Selected.{selected, Selected}
 use Rattle.msc_reason.specs.declared.left_out.LeftOut.{LeftOut}
@@ -13,8 +13,7 @@ returns c =
     let s = c.args.scenario.now in
     let old = c.args.answer.now in
     let all = c.in_ok-see_all.ensures s (subst (AreAllPlaces s) (sym c.as_slice.ensures.value) c.in_ok-places.ensures) in
-    let some = c.in_ok-see_counting.ensures s (subst (AreAllPlaces s) (sym c.as_slice-2.ensures.value) c.in_ok-places.ensures)
-    ∙ ap (λ (l : LeftOut). above_with s old.counting (counting e l (cause_in e))) c.of_kinds-left.ensures in
+    let some = c.in_ok-see_some.ensures s (subst (AreAllPlaces s) (sym c.as_slice-2.ensures.value) c.in_ok-places.ensures) in
     let asks = c.in_ok-listing.ensures ∙ ap (λ (l : LeftOut). selected e l c.args.options.closest) c.of_kinds-left.ensures in
     success_holds c.see_listed.result
     (λ few. case_seen c.args.queues c.args.options s e old _ c.in_ok-enforced.ensures.chart c.in_ok-enforced.ensures.queues

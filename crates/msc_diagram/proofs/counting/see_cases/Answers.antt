@@ -25,7 +25,7 @@ loop-i-preserved g c =
       cases = so_far.cases ++ k ∷ [];
       are = known_more queues q.short scenarios i so_far.cases k scenario so_far.are one.is within (one.scenario ∙ its);
       all = one.all ∙ ap₂ (joins (all_of queues)) so_far.all (sym one.scenario) ∙ sym (places_more (all_of queues) old.all so_far.cases k);
-      counting = one.counting ∙ ap₂ (joins (counting_of queues q.allowed)) so_far.counting (sym one.scenario)
+      counting = λ some. one.counting some ∙ ap₂ (joins (counting_of queues q.allowed)) (so_far.counting some) (sym one.scenario)
           ∙ sym (places_more (counting_of queues q.allowed) old.counting so_far.cases k);
       listed = one.listed ∙ ap₂ (joins (asked_of queues q)) so_far.listed (sym one.scenario) ∙ sym (places_more (asked_of queues q) old.listed so_far.cases k);
     }

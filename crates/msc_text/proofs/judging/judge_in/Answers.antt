@@ -20,4 +20,4 @@ returns-in_err-renderer-in-Editor g c =
 
 pub returns-in_ok-renderer-in-Editor : goal.returns-in_ok-renderer-in-Editor
 returns-in_ok-renderer-in-Editor g c =
-    rw (c.in-Editor.is, ← c.in_ok-renderer-in-Editor.ensures.event_positions, ← c.for_editors.ensures) c.judge-in-Editor.ensures
+    rw (c.in-Editor.is, ← c.in_ok-renderer-in-Editor.ensures.event_positions, ← c.in_ok-renderer-in-Editor.ensures.ring, ← c.for_editors.ensures) c.judge-in-Editor.ensures

@@ -1,4 +1,4 @@
-use Rattle.std.proofs.Common.{refl, subst}
+use Rattle.std.proofs.Common.{ℕ, List, refl, subst}
 use Rattle.std.proofs.lemmas.Result.{err_from_is_err_and}
 use Rattle.msc_chart.specs.Drawings.{Drawing, IsAccepted}
 use Rattle.msc_race.specs.Wired.{EnforcedChart, IsEnforced}
@@ -40,8 +40,8 @@ returns-in_ok-renderer-in-Lines g c =
     let before = g.W.Write.contents c.args.writer.now in
     let after = g.W.Write.contents c.judge_rounds.new.writer in
     let format = Lines c.in-Lines.style in
-    rw c.in-Lines.is (subst (λ (d : Drawing). AnswersRounds e two c.args.options c.args.marking (texts_in format e.chart) (round_texts_in format d) c.judge_rounds.result before after) c.chart-chart.ensures
-    (subst (λ (s : Style). AnswersRounds e two c.args.options c.args.marking (texts_in (Lines s) e.chart) (round_texts_in format c.chart-chart.result.now) c.judge_rounds.result before after)
+    rw c.in-Lines.is (subst (λ (d : Drawing). AnswersRounds e two c.args.options c.args.marking (texts_in format c.args.rendering.ring.now e.chart) (round_texts_in format d) c.judge_rounds.result before after) c.chart-chart.ensures
+    (subst (λ (s : Style). AnswersRounds e two c.args.options c.args.marking (texts_in (Lines s) c.args.rendering.ring.now e.chart) (round_texts_in format c.chart-chart.result.now) c.judge_rounds.result before after)
     c.in_ok-renderer-in-Lines.ensures.style c.judge_rounds.ensures))
 
 pub returns-in_err-renderer-in-Editor : goal.returns-in_err-renderer-in-Editor
@@ -70,8 +70,10 @@ returns-in_ok-renderer-in-Editor g c =
     let format = Editor c.in-Editor.event_positions in
     let before = g.W.Write.contents c.args.writer.now in
     let after = g.W.Write.contents c.judge_rounds-in-Editor.new.writer in
-    rw c.in-Editor.is (subst (λ (d : Drawing). AnswersRounds e two (asked format c.args.options) c.args.marking (texts_in format e.chart) (round_texts_in format d) c.judge_rounds-in-Editor.result before after) c.chart-chart.ensures
-    (subst (λ (q : CheckOptions). AnswersRounds e two q c.args.marking (texts_in format e.chart) (round_texts_in format c.chart-chart.result.now) c.judge_rounds-in-Editor.result before after)
+    rw c.in-Editor.is (subst (λ (d : Drawing). AnswersRounds e two (asked format c.args.options) c.args.marking (texts_in format c.args.rendering.ring.now e.chart) (round_texts_in format d) c.judge_rounds-in-Editor.result before after) c.chart-chart.ensures
+    (subst (λ (q : CheckOptions). AnswersRounds e two q c.args.marking (texts_in format c.args.rendering.ring.now e.chart) (round_texts_in format c.chart-chart.result.now) c.judge_rounds-in-Editor.result before after)
     c.for_editors.ensures
-    (subst (λ s. AnswersRounds e two c.for_editors.result c.args.marking (texts_in (Editor s) e.chart) (round_texts_in format c.chart-chart.result.now) c.judge_rounds-in-Editor.result before after)
-    c.in_ok-renderer-in-Editor.ensures.event_positions c.judge_rounds-in-Editor.ensures)))
+    (subst (λ s. AnswersRounds e two c.for_editors.result c.args.marking (texts_in (Editor s) c.args.rendering.ring.now e.chart) (round_texts_in format c.chart-chart.result.now) c.judge_rounds-in-Editor.result before after)
+    c.in_ok-renderer-in-Editor.ensures.event_positions
+    (subst (λ (steps : List (ℕ × ℕ)). AnswersRounds e two c.for_editors.result c.args.marking (texts_in (Editor c.in_ok-renderer-in-Editor.field-0.event_positions) steps e.chart) (round_texts_in format c.chart-chart.result.now) c.judge_rounds-in-Editor.result before after)
+    c.in_ok-renderer-in-Editor.ensures.ring c.judge_rounds-in-Editor.ensures))))

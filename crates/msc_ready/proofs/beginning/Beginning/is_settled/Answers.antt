@@ -2,19 +2,9 @@ use Rattle.std.proofs.Common.{◌≡◌, ℕ, ◌<◌, List, length, get_or, ref
 use Rattle.std.proofs.lemmas.Bool.{not-true, not_from_false, false_from_ne_true}
 use Rattle.msc_chart.specs.Charts.{line}
 use Rattle.msc_chart.specs.Drawings.{Drawing}
-use Rattle.msc_race.proofs.Making.LinkLemmas.{any_default}
-use Rattle.msc_ready.specs.Beginnings.{HasFronts, IsFront}
 use Rattle.msc_ready.proofs.Shared.{clash}
-use Rattle.msc_ready.proofs.Begun.Fronts.{front_not_before, settled_by}
+use Rattle.msc_ready.proofs.Begun.Fronts.{front_not_before, front_read, settled_by}
 use Rattle.msc_ready.proofs.beginning.Beginning.is_settled.Goals as goal
-
--- the front that is read is that of the line
-front_read : (d : Drawing) (run fronts : List ℕ) (i j f : ℕ) → HasFronts d run fronts → j < length d.instances → i ≡ j
-    → f ≡ get_or fronts i f → IsFront d.events run j f
-front_read d run fronts i j f held below same read =
-    let each = held.each in
-    subst (λ (g : ℕ). IsFront d.events run j g)
-    (sym (read ∙ any_default fronts i f 0 (omega (arith, each, below, same)) ∙ ap (λ (k : ℕ). get_or fronts k 0) same)) (held.front j below)
 
 pub returns-then-front-events : goal.returns-then-front-events
 returns-then-front-events c =

@@ -1,20 +1,21 @@
-use Rattle.std.proofs.Common.{below_more, arith}
-use Rattle.msc_ready.proofs.Shared.{clash}
+use Rattle.std.proofs.Common.{ℕ, List}
+use Rattle.std.specs.Prelude.{Option, None, Some, MatchOption}
+use Rattle.msc_chart.specs.Lists.{IsLeast}
+use Rattle.msc_ready.specs.declared.running.Among.TheVariants.{InTurn}
+use Rattle.msc_ready.specs.Finishing.{MayComeInTurn}
+use Rattle.msc_ready.specs.Held.{ReadyChart, wiring_of, ready_in}
+use Rattle.msc_ready.specs.Looking.{ComesAmong}
 use Rattle.msc_ready.proofs.beginning.Beginning.next_in_turn.Goals as goal
-use Rattle.msc_ready.proofs.beginning.Beginning.next_in_turn.Goals.{else-may_come-via-then-may_come+else-is_in_turn, else-may_come-via-else-may_come}
 
-pub returns-then-is_in_turn : goal.returns-then-is_in_turn
-returns-then-is_in_turn c = record { may = c.may_come.ensures.0 c.if-may_come.true; turn = c.is_in_turn.ensures.0 c.if-is_in_turn.true }
-
-pub loop-x-preserved : goal.loop-x-preserved
-loop-x-preserved c = below_more _ _ c.loop-x.invariant (λ comes. elim c.else-may_come.branch [
-  | else-may_come-via-then-may_come+else-is_in_turn w ↦ clash (w.is_in_turn.ensures.1 comes.turn) w.if-is_in_turn.false
-  | else-may_come-via-else-may_come w ↦ clash (c.may_come.ensures.1 comes.may) w.if-may_come.false
-])
+-- what comes among the events in turn is what may come in turn
+turned : (r : ReadyChart) (past : List ℕ) (found : Option ℕ)
+    → MatchOption found ((x : ℕ) → ComesAmong (wiring_of r) (ready_in r) InTurn past x → ⊥) (IsLeast (ComesAmong (wiring_of r) (ready_in r) InTurn past))
+    → MatchOption found ((x : ℕ) → MayComeInTurn (wiring_of r) (ready_in r) past x → ⊥) (IsLeast (MayComeInTurn (wiring_of r) (ready_in r) past))
+turned r past None none = λ x comes. none x (comes.turn, comes.may)
+turned r past (Some y) least = record {
+  itself = record { may = least.itself.1; turn = least.itself.0 };
+  none_below = λ x less comes. least.none_below x less (comes.turn, comes.may);
+}
 
 pub returns : goal.returns
-returns c = λ x comes.
-    let below = comes.may.may.event in
-    let last = c.loop-x-test.false in
-    let all = c.events-x-end.ensures in
-    c.loop-x.invariant x (omega (arith, below, last, all)) comes
+returns c = turned c.args.ready.now c.args.self.now.run.items c.least_next.result c.least_next.ensures

@@ -1,16 +1,16 @@
-use Rattle.std.proofs.Common.{[], length}
-use Rattle.msc_chart.specs.Lists.{Steps}
+use Rattle.std.proofs.Common.{ℕ, List, [], length}
+use Rattle.msc_chart.specs.Lists.{IsLeast, Steps}
 use Rattle.msc_ready.specs.Beginnings.{HoldsRun}
 use Rattle.msc_ready.specs.Finishing.{MayComeInTurn}
 use Rattle.msc_ready.specs.Held.{wiring_of, ready_in}
 use Rattle.msc_ready.proofs.Shared.{count_below, is_left}
 use Rattle.msc_ready.proofs.Runs.Growing.{everything}
-use Rattle.msc_ready.proofs.ready.Ready.may_finish.Given as goal
+use Rattle.msc_ready.proofs.ready.Ready.finishing_run.Given as goal
 
 abbrev pub invariant-loop-x : goal.invariant-loop-x
 invariant-loop-x l = record {
   held : HoldsRun l.self l.beginning;
-  turns : Steps (MayComeInTurn (wiring_of l.self) (ready_in l.self)) [] l.beginning.run.items;
+  least : Steps (λ (past : List ℕ). IsLeast (MayComeInTurn (wiring_of l.self) (ready_in l.self) past)) [] l.beginning.run.items;
 }
 
 abbrev pub decreases-loop-x : goal.decreases-loop-x

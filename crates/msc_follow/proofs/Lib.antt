@@ -1,0 +1,10 @@
+pub mod Shared
+pub mod Steps
+pub mod Stepping
+pub mod Chains
+pub mod Gaining
+pub mod Joining
+pub mod InTurn
+pub mod Drawings
+pub mod Rings
+pub mod AllLines

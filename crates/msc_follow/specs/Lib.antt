@@ -1,0 +1,7 @@
+-- what is promised
+pub mod Steps
+pub mod Following
+pub mod Laws
+-- what the code keeps
+pub mod Paths
+pub mod Tables

@@ -1,0 +1,97 @@
+"""What is stored of `msc follow`, and of lines for editors, in the transcripts of charts/.
+
+Both streams and the status have to be what the models print. With --write what differs is stored.
+"""
+import pathlib
+import shlex
+import sys
+
+from harness import Answer, joined
+from models import notes
+from models.answers import fault_of, follow_answer
+from models.chart import Chart
+from models.marks import fault_of as fault_of_marks
+from models.marks import marks_for
+from models.races import study
+from models.rounds import arguments, check_answer
+from models.shown import places_of
+
+TOP = pathlib.Path(__file__).resolve().parents[3]
+sys.path.append(str(TOP / "tools"))
+import transcripts
+
+NEEDS_PROGRAM = False
+OPTIONS = {"write": False}
+# the options of `follow`, and those of `check` that its model has
+ON_DRAWINGS = ([], ["--words"], ["--places"], ["--plain"], ["--words", "--places"])
+ON_LINES = {"--format", "--closest", "--most", "--allow", "--accept", "--again", "--plain", "-q"}
+
+
+def read(words):
+    """The name of the file that these words end with, and its text."""
+    is_input = words[-1].startswith("<")
+    path = TOP / words[-1].removeprefix("<")
+    return "-" if is_input else words[-1], path.read_bytes() if path.is_file() else None
+
+
+def options_of(words):
+    """The words before the file, and the architecture."""
+    options = words[: -2 if words[-1].startswith("<") else -1]
+    at = options.index("--queues")
+    return [*options[:at], *options[at + 2:]], options[at + 1]
+
+
+def follow_wanted(words):
+    """What `follow` has to print, or None if no model says it."""
+    file, text = read(words)
+    options, queues = options_of(words) if text is not None else (None, None)
+    if options not in ON_DRAWINGS:
+        return None
+    placed = file if "--places" in options else None
+    if fault_of(text) and placed:
+        told = notes.in_file(notes.answer(text, is_check=False), file)
+        return Answer(b"", joined(told), 2)
+    return follow_answer(text, queues, "--words" in options, placed)
+
+
+def lines_wanted(words):
+    """What `check --format lines` has to print of a chart, or None if no model says it."""
+    file, text = read(words)
+    options, queues = options_of(words)
+    if text is None or {it for it in options if it[0] == "-"} - ON_LINES or fault_of(text):
+        return None
+    again, told = "--again" in options, text.decode("latin-1")
+    if "--accept" in options and fault_of_marks(told):
+        return None
+    options = [it for it in options if it not in ("--again", "--plain")]
+    given, marks = vars(arguments(__doc__, ["check", *options, queues])), marks_for(told, queues)
+    if again:
+        lines, status = check_answer(told, queues, given, marks)
+    else:
+        lines, status = study(Chart(told, queues), places_of(text), given, marks)
+    return Answer(joined(notes.in_file(lines, file)), b"", status)
+
+
+def wanted_of(command):
+    """What a command has to print, or None if no model says it."""
+    program, *words = shlex.split(command)
+    if program != "msc" or not words or "|" in words or "--queues" not in words:
+        return None
+    if words[0] == "follow":
+        return follow_wanted(words[1:])
+    is_lines = words[0] == "check" and "--format lines" in " ".join(words)
+    return lines_wanted(words[1:]) if is_lines else None
+
+
+def compare(trial):
+    for file in sorted((TOP / "charts").rglob("*.cases")):
+        head, cases = transcripts.cases_of(file)
+        answered = [(case, wanted_of(case.command)) for case in cases]
+        if trial.options.write and any(wanted for _, wanted in answered):
+            transcripts.write(file, head, answered)
+        for case, wanted in answered:
+            if wanted:
+                is_stored = trial.options.write or case.is_answered(wanted)
+                if not is_stored:
+                    transcripts.show(file, case, wanted)
+                trial.add(is_stored)
