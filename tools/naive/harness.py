@@ -49,6 +49,16 @@ def put(answer):
     return answer.status
 
 
+class Wrong(Exception):
+    """What is not as it has to be."""
+
+
+def want(holds, what):
+    """Raises `Wrong` with these words, unless it holds."""
+    if not holds:
+        raise Wrong(what)
+
+
 class Enough(Exception):
     """So much failed that the comparison ends."""
 

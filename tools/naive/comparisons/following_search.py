@@ -16,6 +16,7 @@ tried too: no arrow of a diagram rises, so all can happen.
 """
 from generators.charts import crossed_chart, small_chart
 from generators.diagram_checks import diagram
+from harness import Wrong, want
 from models.chart import QUEUES, Chart, is_enforced
 from models.courses import scenarios
 from models.explanations import is_whole_run
@@ -28,15 +29,6 @@ from models.source import Refused, source_of
 
 NEEDS_PROGRAM = False
 OPTIONS = {"number": 400, "messages": 5, "lines": 4}
-
-
-class Wrong(Exception):
-    """What is not as it has to be."""
-
-
-def want(holds, what):
-    if not holds:
-        raise Wrong(what)
 
 
 def kept_states(drawn):

@@ -10,20 +10,12 @@ a chart that passes never sticks.
 import itertools
 
 from generators.charts import small_chart
+from harness import Wrong, want
 from models.chart import QUEUES, Chart
 from models.ready import Ready
 
 NEEDS_PROGRAM = False
 OPTIONS = {"number": 60, "messages": 5, "lines": 4}
-
-
-class Wrong(Exception):
-    """What is not as it has to be."""
-
-
-def want(holds, what):
-    if not holds:
-        raise Wrong(what)
 
 
 def examine(trial, drawn, ready):

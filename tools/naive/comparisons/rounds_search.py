@@ -8,8 +8,9 @@ rounds have few events, all states of runs are searched too, as in ready_search.
 """
 import itertools
 
-from comparisons.ready_search import Wrong, examine, want
+from comparisons.ready_search import examine
 from generators.charts import small_chart
+from harness import Wrong, want
 from models.chart import QUEUES
 from models.ready import Ready
 from models.rounds import Several
