@@ -3,7 +3,8 @@
 use Rattle.std.proofs.Common.{◌≡◌, ℕ, zero, suc, ◌<◌, Bool, true, false, not, ◌&&◌, ◌||◌, List, [], ◌∷◌, length, Some, eqb, ltb, refl, sym, ap, subst, ◌∙◌}
 use Rattle.std.specs.List.{list_any}
 use Rattle.std.proofs.lemmas.Bool.{ltb-true, eqb-true, eq-eqb, and_parts, and_from, or_parts, not_from_false}
-use Rattle.msc_chart.specs.declared.queue.Queues.TheVariants.{Mailbox}
+use Rattle.msc_chart.specs.declared.queue.Queues.TheVariants.{Uniform}
+use Rattle.msc_chart.specs.declared.queue.LinkKind.TheVariants.{Mailbox}
 use Rattle.msc_chart.specs.Charts.{line, segment, kind, partner, message, is_output, is_controlled, before}
 use Rattle.msc_chart.specs.Events.{events_of, acts_of, instances_of}
 use Rattle.msc_chart.specs.Drawings.{chart_events, chart_of}
@@ -93,22 +94,22 @@ occurs_from pairs n e f h =
     (r.0, r.2 ∙ ap Some same)
 
 -- the enforced order of two_mailboxes under Mailbox
-pub two_mailboxes_enforced : AreEnforcedPairs (wired Mailbox (chart_of two_mailboxes)) two_mailboxes_pairs
+pub two_mailboxes_enforced : AreEnforcedPairs (wired (Uniform Mailbox) (chart_of two_mailboxes)) two_mailboxes_pairs
 unfolding chart_events events_of acts_of instances_of is_output is_controlled before line segment kind partner message queue queue_number sender_at receiver_at
 two_mailboxes_enforced e f = (
-  λ h. occurs_from two_mailboxes_pairs 8 e f (enforced_in (wired Mailbox (chart_of two_mailboxes)) two_mailboxes_pairs 8 refl refl refl h),
-  enforced_from (wired Mailbox (chart_of two_mailboxes)) two_mailboxes_pairs
+  λ h. occurs_from two_mailboxes_pairs 8 e f (enforced_in (wired (Uniform Mailbox) (chart_of two_mailboxes)) two_mailboxes_pairs 8 refl refl refl h),
+  enforced_from (wired (Uniform Mailbox) (chart_of two_mailboxes)) two_mailboxes_pairs
       (drawn refl refl, (sent refl refl, (joined {y = 1} (drawn refl refl) (sent refl refl), (sent refl refl, (drawn refl refl, (joined {y = 3} (drawn refl refl) (sent refl refl), (sent refl refl, (sent refl refl, tt))))))))
       e f,
 )
 
 -- the enforced order of the chart with actions under Mailbox: what is drawn before an action is
 -- enforced, and what precedes it
-pub actions_enforced : AreEnforcedPairs (wired Mailbox (chart_of actions)) actions_pairs
+pub actions_enforced : AreEnforcedPairs (wired (Uniform Mailbox) (chart_of actions)) actions_pairs
 unfolding chart_events events_of acts_of instances_of is_output is_controlled before line segment kind partner message queue queue_number sender_at receiver_at
 actions_enforced e f = (
-  λ h. occurs_from actions_pairs 4 e f (enforced_in (wired Mailbox (chart_of actions)) actions_pairs 4 refl refl refl h),
-  enforced_from (wired Mailbox (chart_of actions)) actions_pairs
+  λ h. occurs_from actions_pairs 4 e f (enforced_in (wired (Uniform Mailbox) (chart_of actions)) actions_pairs 4 refl refl refl h),
+  enforced_from (wired (Uniform Mailbox) (chart_of actions)) actions_pairs
       (drawn refl refl, (joined {y = 1} (drawn refl refl) (sent refl refl), (joined {y = 1} (drawn refl refl) (joined {y = 2} (sent refl refl) (drawn refl refl)), (sent refl refl, (joined {y = 2} (sent refl refl) (drawn refl refl), (drawn refl refl, tt))))))
       e f,
 )

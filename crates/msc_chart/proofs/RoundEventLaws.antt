@@ -7,7 +7,8 @@ use Rattle.std.proofs.lemmas.Nat.{div-mul-add, mod-mul-add}
 use Rattle.std.proofs.lemmas.List.{get_or-map}
 use Rattle.std.proofs.lemmas.List.FromFn.{length-map-range_with_len, get_or-map-range_with_len, take-map-range_with_len}
 use Rattle.std.proofs.lemmas.List.Sums.{sum_by-cons}
-use Rattle.msc_chart.specs.declared.queue.Queues.TheVariants.{Single}
+use Rattle.msc_chart.specs.declared.queue.LinkKind.TheVariants.{Single}
+use Rattle.msc_chart.specs.declared.queue.Queues.TheVariants.{Uniform}
 use Rattle.msc_chart.specs.Charts.{line, kind, partner, message, action, acts, is_local}
 use Rattle.msc_chart.specs.Drawings.{Drawing, label_of, message_at, no_message}
 use Rattle.msc_chart.specs.Rounds.{number_of, event_of, round_of, events_below, locals_below, count_below, message_in, repeated_message, repeated}
@@ -64,7 +65,7 @@ label_at n d k within acting =
 
 -- each event of n rounds is in one round
 pub in_one_round : EachEventIsInOneRound
-in_one_round n d k accepted within = event_round Single d accepted n k within
+in_one_round n d k accepted within = event_round (Uniform Single) d accepted n k within
 
 -- and each event of the chart in each round
 pub in_each_round : EachEventIsInEachRound
@@ -72,7 +73,7 @@ in_each_round n d e r accepted is = (number_here d accepted n e r is, event_here
 
 -- lines are done round by round
 pub round_by_round : LinesAreDoneRoundByRound
-round_by_round n d e r f q accepted a b = (above_here Single d accepted n e r f q a b, drawn_here Single d accepted n e r f q a b)
+round_by_round n d e r f q accepted a b = (above_here (Uniform Single) d accepted n e r f q a b, drawn_here (Uniform Single) d accepted n e r f q a b)
 
 -- events stay as they are
 pub stay_as_they_are : EventsStayAsTheyAre

@@ -2,7 +2,8 @@
 use Rattle.std.proofs.Common.{◌≡◌, ◌↔◌, ℕ, zero, suc, ◌+◌, ◌-◌, ◌<◌, ◌≤◌, ◌⊎◌, Bool, true, false, length, inl, inr, refl, sym, subst, ◌∙◌, arith}
 use Rattle.std.proofs.lemmas.Bool.{cases_lt}
 use Rattle.msc_chart.specs.declared.queue.Queues.{Queues}
-use Rattle.msc_chart.specs.declared.queue.Queues.TheVariants.{Single}
+use Rattle.msc_chart.specs.declared.queue.LinkKind.TheVariants.{Single}
+use Rattle.msc_chart.specs.declared.queue.Queues.TheVariants.{Uniform}
 use Rattle.msc_chart.specs.Charts.{line, before, Visual}
 use Rattle.msc_chart.specs.Drawings.{Drawing, IsAccepted}
 use Rattle.msc_chart.specs.Orders.{wired, Enforced, IsRace}
@@ -31,7 +32,7 @@ no_way_back queues n d e r f q accepted a b h =
 -- nor in the visual order, in which the architecture takes no part
 pub no_visual_way_back : NoVisualWayBack
 no_visual_way_back n d e r f q accepted a b h =
-    order_back Single n d accepted all_ready false e r f q a b ((all_ready_is_visual (wired Single (repeated n d)) false (in_round n d e r) (in_round n d f q)).1 h)
+    order_back (Uniform Single) n d accepted all_ready false e r f q a b ((all_ready_is_visual (wired (Uniform Single) (repeated n d)) false (in_round n d e r) (in_round n d f q)).1 h)
 
 -- order within a round is that of the chart alone
 pub order_within_a_round : OrderWithinARound
@@ -43,10 +44,10 @@ order_of_some_rounds queues n m s d e r f q accepted fits a b = over_rounds queu
 
 -- and so is the visual order
 pub visual_order_within_a_round : VisualOrderWithinARound
-visual_order_within_a_round n d e f r accepted a b = within_round Single d accepted (λ chart. Visual chart.events) (visual_moved Single d) n e f r a b
+visual_order_within_a_round n d e f r accepted a b = within_round (Uniform Single) d accepted (λ chart. Visual chart.events) (visual_moved (Uniform Single) d) n e f r a b
 
 pub visual_order_of_some_rounds : VisualOrderOfSomeRounds
-visual_order_of_some_rounds n m s d e r f q accepted fits a b = over_rounds Single d accepted (λ chart. Visual chart.events) (visual_moved Single d) n m s e r f q fits a b
+visual_order_of_some_rounds n m s d e r f q accepted fits a b = over_rounds (Uniform Single) d accepted (λ chart. Visual chart.events) (visual_moved (Uniform Single) d) n m s e r f q fits a b
 
 module _ (queues : Queues) (d : Drawing) (accepted : IsAccepted d) where
   -- x and y are not kept from being enforced

@@ -4,7 +4,8 @@ use Rattle.std.proofs.Common.{◌≡◌, ℕ, ◌*◌, ◌<◌, true, false, eqb
 use Rattle.std.proofs.Math.Bool.{or-false}
 use Rattle.std.proofs.lemmas.Bool.{cases_lt, or_cases, eqb-true}
 use Rattle.std.proofs.lemmas.List.{append-nil, map-append}
-use Rattle.msc_chart.specs.declared.queue.Queues.TheVariants.{Single}
+use Rattle.msc_chart.specs.declared.queue.LinkKind.TheVariants.{Single}
+use Rattle.msc_chart.specs.declared.queue.Queues.TheVariants.{Uniform}
 use Rattle.msc_chart.specs.Lists.{occurs, Steps}
 use Rattle.msc_chart.specs.Charts.{Visual, Follows, IsLinearOrder}
 use Rattle.msc_chart.specs.Drawings.{Drawing, IsAccepted}
@@ -71,8 +72,8 @@ module _ (n : ℕ) (d : Drawing) (accepted : IsAccepted d) (r : ℕ) (round : r 
             ])
             (λ new. new);
         precedes = λ x v.
-            let rounds = rounds_of Single d accepted n in
-            let on = precedes_on rounds all_ready false x (number e) ((all_ready_is_visual (wired Single (repeated n d)) false x (number e)).1 v) in
+            let rounds = rounds_of (Uniform Single) d accepted n in
+            let on = precedes_on rounds all_ready false x (number e) ((all_ready_is_visual (wired (Uniform Single) (repeated n d)) false x (number e)).1 v) in
             let low = on.2 in
             let from = events_in n (length d.messages) d.events x on.0 in
             elim (cases_lt (round_of n d.events x) r) [
@@ -80,7 +81,7 @@ module _ (n : ℕ) (d : Drawing) (accepted : IsAccepted d) (r : ℕ) (round : r 
               | inr now ↦
                   let same : round_of n d.events x ≡ r = omega (arith, low, is_round, now) in
                   let is : number (event_of n d.events x) ≡ x = ap (λ (q : ℕ). number_of n d.events (event_of n d.events x) q) (sym same) ∙ number_event d.events accepted.in_text_order n x from in
-                  let first = (within_round Single d accepted (λ chart. Visual chart.events) (visual_moved Single d) n (event_of n d.events x) e r (event_in d.events accepted.in_text_order n x from, round) (e-in, round)).0
+                  let first = (within_round (Uniform Single) d accepted (λ chart. Visual chart.events) (visual_moved (Uniform Single) d) n (event_of n d.events x) e r (event_in d.events accepted.in_text_order n x from, round) (e-in, round)).0
                   (subst (λ (y : ℕ). Visual (repeated n d).events y (number e)) (sym is) v) in
                   let stands = occurs_map number past (event_of n d.events x) (follows.precedes (event_of n d.events x) first) in
                   occurs-right done (map number past) x (subst (λ (y : ℕ). occurs (map number past) y ≡ true) is stands)

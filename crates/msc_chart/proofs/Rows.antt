@@ -1,7 +1,8 @@
 -- What the definitions say of the small charts, by computing.
 use Rattle.std.proofs.Common.{◌≡◌, [], ◌∷◌, refl}
 use Rattle.msc_chart.specs.declared.event.EventKind.TheVariants as kinds
-use Rattle.msc_chart.specs.declared.queue.Queues.TheVariants.{Pair, Mailbox, Single}
+use Rattle.msc_chart.specs.declared.queue.Queues.TheVariants.{Uniform}
+use Rattle.msc_chart.specs.declared.queue.LinkKind.TheVariants.{Pair, Mailbox, Single}
 use Rattle.msc_chart.specs.Events.{events_of, acts_of, instances_of}
 use Rattle.msc_chart.specs.Charts.{line, segment, partner, before}
 use Rattle.msc_chart.specs.Drawings.{chart_events, chart_of, output_of, input_of, sender_of, receiver_of}
@@ -50,26 +51,26 @@ unfolding chart_events events_of acts_of before line segment pairs_of pairs_to
 relay_drawn = refl
 
 -- under Pair, from instances 0 and 2 to instance 1 of 3: 0 * 3 + 1, and 2 * 3 + 1
-pub two_senders_pair : queue_numbers Pair (chart_of two_senders) ≡ 1 ∷ 7 ∷ []
+pub two_senders_pair : queue_numbers (Uniform Pair) (chart_of two_senders) ≡ 1 ∷ 7 ∷ []
 unfolding chart_events events_of acts_of instances_of line partner output_of input_of sender_of receiver_of queue_number queue_of
 two_senders_pair = refl
 
 -- under Mailbox both messages go to the queue of instance 1
-pub coregion_mailbox : queue_numbers Mailbox (chart_of coregion) ≡ 1 ∷ 1 ∷ []
+pub coregion_mailbox : queue_numbers (Uniform Mailbox) (chart_of coregion) ≡ 1 ∷ 1 ∷ []
 unfolding chart_events events_of acts_of instances_of line partner output_of input_of sender_of receiver_of queue_number queue_of
 coregion_mailbox = refl
 
 -- under Pair: 0 to 1, 0 to 2, and 2 to 1, of 3 instances
-pub relay_pair : queue_numbers Pair (chart_of relay) ≡ 1 ∷ 2 ∷ 7 ∷ []
+pub relay_pair : queue_numbers (Uniform Pair) (chart_of relay) ≡ 1 ∷ 2 ∷ 7 ∷ []
 unfolding chart_events events_of acts_of instances_of line partner output_of input_of sender_of receiver_of queue_number queue_of
 relay_pair = refl
 
 -- under Mailbox: the queues of instances 1, 2 and 1
-pub relay_mailbox : queue_numbers Mailbox (chart_of relay) ≡ 1 ∷ 2 ∷ 1 ∷ []
+pub relay_mailbox : queue_numbers (Uniform Mailbox) (chart_of relay) ≡ 1 ∷ 2 ∷ 1 ∷ []
 unfolding chart_events events_of acts_of instances_of line partner output_of input_of sender_of receiver_of queue_number queue_of
 relay_mailbox = refl
 
 -- under Single: the queue of each message
-pub relay_single : queue_numbers Single (chart_of relay) ≡ 0 ∷ 1 ∷ 2 ∷ []
+pub relay_single : queue_numbers (Uniform Single) (chart_of relay) ≡ 0 ∷ 1 ∷ 2 ∷ []
 unfolding chart_events events_of acts_of instances_of line partner output_of input_of sender_of receiver_of queue_number queue_of
 relay_single = refl

@@ -1,12 +1,16 @@
 -- Charts whose events are those of one chart in several rounds.
 use Rattle.std.proofs.Common.{◌≡◌, ℕ, ◌+◌, ◌*◌, ◌<◌, ◌≤◌, ◌⊎◌, true, length, inl, inr, sym, ap, subst, ◌∙◌, arith}
 use Rattle.msc_chart.specs.declared.queue.Queues.{Queues}
-use Rattle.msc_chart.specs.declared.queue.Queues.TheVariants.{Pair, Mailbox, Single}
+use Rattle.msc_chart.specs.declared.queue.Queues.TheVariants.{Uniform, Mixed}
+use Rattle.msc_chart.specs.declared.queue.LinkKind.{LinkKind}
+use Rattle.msc_chart.specs.declared.queue.LinkKind.TheVariants.{Pair, Mailbox, Single}
+use Rattle.msc_chart.specs.Architectures.{link_kind}
 use Rattle.msc_chart.specs.Charts.{line, partner, message, is_output, is_input, is_controlled, before}
 use Rattle.msc_chart.specs.Drawings.{Drawing, IsAccepted}
-use Rattle.msc_chart.specs.Orders.{WiredChart, IsWired, queue, queue_number, sender_at, receiver_at}
+use Rattle.msc_chart.specs.Orders.{WiredChart, IsWired, number_among, queue, queue_number, sender_at, receiver_at}
 use Rattle.msc_chart.proofs.Drawn.{before_parts, output_parts, output_not_local}
 use Rattle.msc_chart.proofs.EventCounts.{parts_same}
+use Rattle.msc_chart.proofs.QueueLemmas.{ends_in, pair_bounded}
 
 -- the queue of the message of event e, in round r, where a message of its own has a queue of its own
 unfoldable pub queue_in : Queues → Drawing → ℕ → ℕ → ℕ
@@ -39,17 +43,45 @@ pub record HasRounds (queues : Queues) (d : Drawing) (n : ℕ) (chart : WiredCha
   pub drawn_so : (x y : ℕ) → x < length chart.events → y < length chart.events → IsAbove d (event_at x) (round_at x) (event_at y) (round_at y) → before chart.events x y ≡ true
   pub queue_is : (k : ℕ) → is_output chart.events k ≡ true → queue chart k ≡ queue_in queues d (event_at k) (round_at k)
 
--- where two messages share a queue, they do so as many rounds later
-pub queue_shifted : (queues : Queues) (d : Drawing) (e f r q s t : ℕ) → message d.events e < length d.messages → message d.events f < length d.messages
-    → queue_in queues d e (s + r) ≡ queue_in queues d f (s + q) → queue_in queues d e (t + r) ≡ queue_in queues d f (t + q)
-unfolding queue_in queue_number
-queue_shifted Pair d e f r q s t p k same = same
-queue_shifted Mailbox d e f r q s t p k same = same
-queue_shifted Single d e f r q s t p k same =
+-- messages of the links of a kind that share a queue do so as many rounds later
+single_shifted : (d : Drawing) (e f r q s t : ℕ) → message d.events e < length d.messages → message d.events f < length d.messages
+    → (s + r) * length d.messages + message d.events e ≡ (s + q) * length d.messages + message d.events f
+    → (t + r) * length d.messages + message d.events e ≡ (t + q) * length d.messages + message d.events f
+single_shifted d e f r q s t p k same =
     let parts = parts_same (s + r) (s + q) (message d.events e) (message d.events f) (length d.messages) p k same in
     let round : t + r ≡ t + q = (let h = parts.0 in omega arith) in
     ap (λ (x : ℕ). x * length d.messages + message d.events e) round
     ∙ ap (λ (x : ℕ). (t + q) * length d.messages + x) parts.1
+
+-- two events of an accepted chart, in rounds r and q, and these rounds once s and once t later
+module _ (d : Drawing) (accepted : IsAccepted d) (e f r q s t : ℕ) (e_in : e < length d.events) (f_in : f < length d.events) where
+  -- if links may differ, messages with one number are of links of one kind
+  among_shifted : message d.events e < length d.messages → message d.events f < length d.messages → (kind other : LinkKind)
+      → number_among kind (length d.instances) (sender_at d.events e) (receiver_at d.events e) ((s + r) * length d.messages + message d.events e)
+      ≡ number_among other (length d.instances) (sender_at d.events f) (receiver_at d.events f) ((s + q) * length d.messages + message d.events f)
+      → number_among kind (length d.instances) (sender_at d.events e) (receiver_at d.events e) ((t + r) * length d.messages + message d.events e)
+      ≡ number_among other (length d.instances) (sender_at d.events f) (receiver_at d.events f) ((t + q) * length d.messages + message d.events f)
+  among_shifted p k Pair Pair same = same
+  among_shifted p k Pair Mailbox same = let below = pair_bounded d e accepted e_in in absurd (omega (arith, below, same))
+  among_shifted p k Pair Single same = let below = pair_bounded d e accepted e_in in absurd (omega (arith, below, same))
+  among_shifted p k Mailbox Pair same = let below = pair_bounded d f accepted f_in in absurd (omega (arith, below, same))
+  among_shifted p k Mailbox Mailbox same = same
+  among_shifted p k Mailbox Single same = let below = (ends_in d accepted e e_in).1 in absurd (omega (arith, below, same))
+  among_shifted p k Single Pair same = let below = pair_bounded d f accepted f_in in absurd (omega (arith, below, same))
+  among_shifted p k Single Mailbox same = let below = (ends_in d accepted f f_in).1 in absurd (omega (arith, below, same))
+  among_shifted p k Single Single same =
+      ap (λ (x : ℕ). length d.instances * length d.instances + length d.instances + x)
+      (single_shifted d e f r q s t p k (omega (arith, same)))
+
+  -- where two messages share a queue, they do so as many rounds later
+  pub queue_shifted : (queues : Queues) → message d.events e < length d.messages → message d.events f < length d.messages
+      → queue_in queues d e (s + r) ≡ queue_in queues d f (s + q) → queue_in queues d e (t + r) ≡ queue_in queues d f (t + q)
+  unfolding queue_in queue_number
+  queue_shifted (Uniform Pair) p k same = same
+  queue_shifted (Uniform Mailbox) p k same = same
+  queue_shifted (Uniform Single) p k same = single_shifted d e f r q s t p k same
+  queue_shifted (Mixed links) p k same =
+      among_shifted p k (link_kind links (sender_at d.events e) (receiver_at d.events e)) (link_kind links (sender_at d.events f) (receiver_at d.events f)) same
 
 module _ {queues : Queues} {d : Drawing} {n : ℕ} {chart : WiredChart} (a : HasRounds queues d n chart) where
   -- both are events, the second in no earlier round

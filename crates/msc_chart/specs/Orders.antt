@@ -1,23 +1,44 @@
 -- The queues of a chart under an architecture, the enforced order, and races.
 use Rattle.std.specs.Prelude.{◌≡◌, ℕ, ◌+◌, ◌*◌, ◌<◌, Bool, cond, List, length, IsTrue}
+use Rattle.msc_chart.specs.declared.queue.LinkKind.{LinkKind}
+use Rattle.msc_chart.specs.declared.queue.LinkKind.TheVariants.{Pair, Mailbox, Single}
 use Rattle.msc_chart.specs.declared.queue.Queues.{Queues}
-use Rattle.msc_chart.specs.declared.queue.Queues.TheVariants.{Pair, Mailbox, Single}
+use Rattle.msc_chart.specs.declared.queue.Queues.TheVariants.{Uniform, Mixed}
 use Rattle.msc_chart.specs.declared.event.ChartEvent.{ChartEvent}
+use Rattle.msc_chart.specs.Architectures.{link_kind}
 use Rattle.msc_chart.specs.Charts.{line, partner, message, is_output, is_controlled, before, Visual, IsMatched}
 use Rattle.msc_chart.specs.Drawings.{Drawing, sender_of, receiver_of}
 
--- the number of the queue of a message from a sender to a receiver, of so many instances: under Pair
--- each sender and receiver have one, under Mailbox each receiver, under Single each message
+-- the number of the queue of a message from a sender to a receiver, of this number of instances, if
+-- all links are of one kind: with Pair each link has a queue, with Mailbox each receiver, with Single
+-- each message
+abbrev pub number_alone : LinkKind → ℕ → ℕ → ℕ → ℕ → ℕ
+number_alone Pair instances sender receiver m = sender * instances + receiver
+number_alone Mailbox instances sender receiver m = receiver
+number_alone Single instances sender receiver m = m
+
+-- the same if links may differ: first the queues of links, then the mailboxes, then those of messages
+abbrev pub number_among : LinkKind → ℕ → ℕ → ℕ → ℕ → ℕ
+number_among Pair instances sender receiver m = sender * instances + receiver
+number_among Mailbox instances sender receiver m = instances * instances + receiver
+number_among Single instances sender receiver m = instances * instances + instances + m
+
+-- the number of the queue of a message under an architecture
 unfoldable pub queue_number : Queues → ℕ → ℕ → ℕ → ℕ → ℕ
-queue_number Pair instances sender receiver m = sender * instances + receiver
-queue_number Mailbox instances sender receiver m = receiver
-queue_number Single instances sender receiver m = m
+queue_number (Uniform kind) instances sender receiver m = number_alone kind instances sender receiver m
+queue_number (Mixed links) instances sender receiver m =
+    number_among (link_kind links sender receiver) instances sender receiver m
+
+-- a number past all queue numbers of a chart whose links are of one kind
+abbrev pub bound_alone : LinkKind → Drawing → ℕ
+bound_alone Pair d = length d.instances * length d.instances
+bound_alone Mailbox d = length d.instances
+bound_alone Single d = length d.messages
 
 -- a number past all queue numbers of a chart
 unfoldable pub queue_bound : Queues → Drawing → ℕ
-queue_bound Pair d = length d.instances * length d.instances
-queue_bound Mailbox d = length d.instances
-queue_bound Single d = length d.messages
+queue_bound (Uniform kind) d = bound_alone kind d
+queue_bound (Mixed links) d = length d.instances * length d.instances + length d.instances + length d.messages
 
 -- the queue of message m
 unfoldable pub queue_of : Queues → Drawing → ℕ → ℕ

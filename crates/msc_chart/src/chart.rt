@@ -378,14 +378,18 @@ impl Chart {
         }
     }
 
-    /// The number of the queue of message `m`. With `n` instances it is `sender * n + receiver` for
-    /// `Pair`, `receiver` for `Mailbox`, and `m` for `Single`. It takes no memory.
+    /// The number of the queue of message `m`. It takes no memory.
+    ///
+    /// If all links are of one kind, the number is `sender * n + receiver` for `Pair` with `n`
+    /// instances, `receiver` for `Mailbox`, and `m` for `Single`. Otherwise mailboxes are numbered
+    /// from `n * n` on, and the queues of messages from `n * n + n` on.
     pub fn queue(&self, m: u32, queues: Queues) -> u32
         requires { m < length self.now.messages }
         ensures { result ≡ queue_of queues self.now m }
     {
+        self.facts();
         queue_number(
-            queues,
+            &queues,
             self.instances(),
             self.sender(m),
             self.receiver(m),

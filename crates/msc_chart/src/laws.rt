@@ -2,13 +2,16 @@
 //! law calls its function.
 
 ghost use Rattle.std.specs.Prelude.{◌≡◌, ◌∷◌, [], map};
-ghost use Rattle.msc_chart.specs.declared.queue.Queues.TheVariants.{Pair, Mailbox, Single};
+ghost use Rattle.msc_chart.specs.declared.queue.LinkKind.TheVariants.{Pair, Mailbox, Single};
+ghost use Rattle.msc_chart.specs.declared.queue.Queues.TheVariants.{Uniform};
 ghost use Rattle.msc_chart.specs.declared.event.EventKind.TheVariants.{Output, Input, Local};
 ghost use Rattle.msc_chart.specs.Drawings.{chart_events, chart_of};
 ghost use Rattle.msc_chart.specs.Items.{EachHasAnEvent, ItemsAreDrawnInOrder};
 ghost use Rattle.msc_chart.specs.Orders.{wired};
-ghost use Rattle.msc_chart.specs.Laws.{EndsShareQueues, EventsHaveQueues, InputsShareLines};
-ghost use Rattle.msc_chart.specs.Laws.{LinesAreRanges, LinesAreWithin, PairsHaveQueuesOfTheirOwn};
+ghost use Rattle.msc_chart.specs.Laws.{CoarserQueuesEnforceMore, EndsShareQueues};
+ghost use Rattle.msc_chart.specs.Laws.{EventsHaveQueues, InputsShareLines, LinesAreRanges};
+ghost use Rattle.msc_chart.specs.Laws.{LinesAreWithin, LinksDecideOnQueues, OneKindIsTheOldRule};
+ghost use Rattle.msc_chart.specs.Laws.{PairsHaveQueuesOfTheirOwn, SingleEnforcesLeast};
 ghost use Rattle.msc_chart.specs.Laws.{QueueBoundsAreSmall, QueueNumbersAreBounded};
 ghost use Rattle.msc_chart.specs.Laws.{QueuesAreBounded, SegmentsRise};
 ghost use Rattle.msc_chart.specs.Precedence.{AllReadyIsVisual, NoneReadyIsEnforced};
@@ -27,7 +30,7 @@ ghost use Rattle.msc_chart.specs.Samples.{queue_numbers, relay, two_mailboxes, t
 ghost use Rattle.msc_chart.specs.Samples.{two_senders};
 
 use crate::{
-    ACTION_LIMIT, EVENT_LIMIT, INSTANCE_LIMIT, MESSAGE_LIMIT, ROUND_ACTION_LIMIT,
+    ACTION_LIMIT, EVENT_LIMIT, INSTANCE_LIMIT, MESSAGE_LIMIT, QUEUE_LIMIT, ROUND_ACTION_LIMIT,
     ROUND_MESSAGE_LIMIT,
 };
 
@@ -47,13 +50,33 @@ pub fn events_have_queues()
     ensures { EventsHaveQueues }
 {}
 
-/// Under `Pair` the messages of a queue have one sender and one receiver.
+/// Two messages share a queue if and only if their links are of one kind and the messages have in
+/// common what this kind asks for: the link for `Pair`, the receiver for `Mailbox`; for `Single`
+/// they are one message.
+pub fn links_decide_on_queues()
+    ensures { LinksDecideOnQueues }
+{}
+
+/// With one kind for all links, two messages share a queue exactly as under the architecture that
+/// is this kind alone.
+pub fn one_kind_is_the_old_rule()
+    ensures { OneKindIsTheOldRule }
+{}
+
+/// If messages that share a queue in one architecture also share one in another, the other one
+/// enforces whatever the first one enforces. So every architecture enforces what `Single` does.
+pub fn coarser_queues_enforce_more()
+    ensures coarser { CoarserQueuesEnforceMore }
+    ensures single { SingleEnforcesLeast }
+{}
+
+/// If all links are of the kind `Pair`, the messages of a queue have one sender and one receiver.
 pub fn pairs_have_queues_of_their_own()
     ensures { PairsHaveQueuesOfTheirOwn }
 {}
 
-/// The number of the queue of each output and input is below a bound, which is at most the square
-/// of the greatest number of instances.
+/// The number of the queue of each output and input is below a bound, which is at most
+/// [`QUEUE_LIMIT`].
 pub fn queue_numbers_are_bounded()
     ensures numbers { QueueNumbersAreBounded }
     ensures few { QueueBoundsAreSmall }
@@ -143,14 +166,14 @@ pub fn worked_charts()
         ∷ event 1 0 Input 1 0 ∷ event 1 1 Local 3 1 ∷ [] }
     ensures texts { (chart_of actions).actions ≡ go ∷ done ∷ [] }
     ensures action { drawn_pairs (chart_of actions) ≡ (0, 1) ∷ (2, 3) ∷ [] }
-    ensures pair { queue_numbers Pair (chart_of relay) ≡ 1 ∷ 2 ∷ 7 ∷ [] }
-    ensures mailbox { queue_numbers Mailbox (chart_of relay) ≡ 1 ∷ 2 ∷ 1 ∷ [] }
-    ensures single { queue_numbers Single (chart_of relay) ≡ 0 ∷ 1 ∷ 2 ∷ [] }
-    ensures senders { queue_numbers Pair (chart_of two_senders) ≡ 1 ∷ 7 ∷ [] }
-    ensures one { queue_numbers Mailbox (chart_of coregion) ≡ 1 ∷ 1 ∷ [] }
-    ensures enforced { AreEnforcedPairs (wired Mailbox (chart_of two_mailboxes))
+    ensures pair { queue_numbers (Uniform Pair) (chart_of relay) ≡ 1 ∷ 2 ∷ 7 ∷ [] }
+    ensures mailbox { queue_numbers (Uniform Mailbox) (chart_of relay) ≡ 1 ∷ 2 ∷ 1 ∷ [] }
+    ensures single { queue_numbers (Uniform Single) (chart_of relay) ≡ 0 ∷ 1 ∷ 2 ∷ [] }
+    ensures senders { queue_numbers (Uniform Pair) (chart_of two_senders) ≡ 1 ∷ 7 ∷ [] }
+    ensures one { queue_numbers (Uniform Mailbox) (chart_of coregion) ≡ 1 ∷ 1 ∷ [] }
+    ensures enforced { AreEnforcedPairs (wired (Uniform Mailbox) (chart_of two_mailboxes))
         two_mailboxes_pairs }
-    ensures controlled { AreEnforcedPairs (wired Mailbox (chart_of actions)) actions_pairs }
+    ensures controlled { AreEnforcedPairs (wired (Uniform Mailbox) (chart_of actions)) actions_pairs }
 {}
 
 /// The definitions applied to two rounds of small charts: the events, the texts of the actions, and
@@ -165,13 +188,15 @@ pub fn worked_rounds()
         ≡ (0, 1) ∷ (2, 4) ∷ (2, 5) ∷ (3, 4) ∷ (3, 5) ∷ (6, 7) ∷ [] }
 {}
 
-/// The limits of a chart: the numbers of its instances, messages and actions, and so of its events.
+/// The limits of a chart: the numbers of its instances, messages and actions, and so of its events
+/// and queues.
 /// Also the limits of a chart whose two rounds are a chart.
 pub fn limits_of_charts()
     ensures instances { INSTANCE_LIMIT ≡ 32 }
     ensures messages { MESSAGE_LIMIT ≡ 1024 }
     ensures actions { ACTION_LIMIT ≡ 1024 }
     ensures events { EVENT_LIMIT ≡ 3072 }
+    ensures queues { QUEUE_LIMIT ≡ 2080 }
     ensures round_messages { ROUND_MESSAGE_LIMIT ≡ 512 }
     ensures round_actions { ROUND_ACTION_LIMIT ≡ 512 }
 {}

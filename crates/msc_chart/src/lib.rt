@@ -23,8 +23,10 @@
 //!   `Hash` took a quarter of the time for a chart with long names.
 //! - Code and definition count segments in the same way. The law `items_are_drawn_in_order` states
 //!   what segments mean, so its proof would fail for a mistake that both share.
-//! - Queues are numbered up to a bound of the architecture (`queue_bound`): 32 under `mailbox`, not
-//!   1,024.
+//! - Queues are numbered up to a bound of the architecture (`queue_bound`): 32 if all links are of
+//!   the kind `Mailbox`, not 2,080. Tables over queues are the largest that the crates above make.
+//! - An architecture is either one kind for all links or a table of kinds ([`Links`]). A table that
+//!   has one kind is another value, whose queues are the same (`one_kind_is_the_old_rule`).
 //! - Definitions and laws are about n rounds, and [`Chart::two_rounds`] makes two. Message m of the
 //!   second round has the name of message m, and a number that follows those of the first round; so
 //!   a caller that prints an event of two rounds takes its names from the chart
@@ -54,7 +56,7 @@ mod wiring;
 pub use chart::Chart;
 pub use event::{Event, EventKind};
 pub use fault::{ChartFault, UnrollFault};
-pub use queue::Queues;
+pub use queue::{LinkKind, Links, Queues};
 pub use round_numbers::RoundNumbers;
 pub use unrolled::Unrolled;
 pub use wiring::Wiring;
@@ -70,6 +72,9 @@ pub const ACTION_LIMIT: u32 = 1_024;
 
 /// The greatest number of events of a chart: two for each message, and one for each action.
 pub const EVENT_LIMIT: u32 = 2 * MESSAGE_LIMIT + ACTION_LIMIT;
+
+/// The limit of the numbers of queues.
+pub const QUEUE_LIMIT: u32 = INSTANCE_LIMIT * INSTANCE_LIMIT + INSTANCE_LIMIT + MESSAGE_LIMIT;
 
 /// The greatest number of messages of a chart whose two rounds are a chart.
 pub const ROUND_MESSAGE_LIMIT: u32 = MESSAGE_LIMIT / 2;

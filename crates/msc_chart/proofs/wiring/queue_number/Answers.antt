@@ -1,22 +1,15 @@
-use Rattle.std.proofs.Common.{rules, arith}
-use Rattle.msc_chart.specs.Orders.{queue_number}
-use Rattle.msc_chart.proofs.Readers.{small_queue}
+use Rattle.std.proofs.Common.{◌≡◌, ℕ, ap, ◌∙◌}
+use Rattle.msc_chart.specs.declared.queue.LinkKind.{LinkKind}
+use Rattle.msc_chart.specs.Orders.{number_among, queue_number}
 use Rattle.msc_chart.proofs.wiring.queue_number.Goals as goal
 
-pub overflow_mul-result : goal.overflow_mul-result
-overflow_mul-result c = omega (arith, small_queue c.args.sender c.args.instances 0 (omega arith) (omega arith) (omega arith))
-
-pub overflow_add-result : goal.overflow_add-result
-overflow_add-result c = omega (arith, small_queue c.args.sender c.args.instances c.args.receiver (omega arith) (omega arith) (omega arith))
-
-pub returns-in-Pair : goal.returns-in-Pair
+pub returns-in-Uniform : goal.returns-in-Uniform
 unfolding queue_number
-returns-in-Pair c = search rules
+returns-in-Uniform c = rw c.in-Uniform.is c.number_alone.ensures
 
-pub returns-in-Mailbox : goal.returns-in-Mailbox
+pub returns-in-Mixed : goal.returns-in-Mixed
 unfolding queue_number
-returns-in-Mailbox c = search rules
-
-pub returns-in-Single : goal.returns-in-Single
-unfolding queue_number
-returns-in-Single c = search rules
+returns-in-Mixed c =
+    rw c.in-Mixed.is
+    (c.number_among.ensures
+    ∙ ap (λ (kind : LinkKind). number_among kind c.args.instances c.args.sender c.args.receiver c.args.m) c.kind-kind.ensures)
