@@ -5,7 +5,7 @@ use Rattle.msc_chart.specs.declared.queue.Queues.{Queues}
 use Rattle.msc_chart.specs.Charts.{line, partner, is_output, is_input, is_controlled, before}
 use Rattle.msc_chart.specs.Drawings.{Drawing}
 use Rattle.msc_chart.specs.Orders.{WiredChart, queue}
-use Rattle.msc_chart.proofs.Drawn.{output_parts, partner_of_input}
+use Rattle.msc_chart.proofs.Drawn.{partner_of_input}
 use Rattle.msc_chart.proofs.UnrolledCharts.{HasRounds, GoesOn, known, partner_is, partner_on, queue_in, queue_shifted}
 
 module _ {queues : Queues} {d : Drawing} where
@@ -114,7 +114,7 @@ module _ {queues : Queues} {d : Drawing} where
         (let rx : s + (a.round_at x - s) ≡ a.round_at x = omega arith in
         let ry : s + (a.round_at y - s) ≡ a.round_at y = omega arith in
         ap (queue_in queues d (a.event_at x)) rx ∙ sym (a.queue_is x ox) ∙ same ∙ a.queue_is y oy ∙ sym (ap (queue_in queues d (a.event_at y)) ry)) in
-        let shifted = queue_shifted d a.accepted (a.event_at x) (a.event_at y) (a.round_at x - s) (a.round_at y - s) s t (a.event_in x (output_parts chart.events x ox).0) (a.event_in y (output_parts chart.events y oy).0) queues (known a x ox) (known a y oy) here in
+        let shifted = queue_shifted queues d a.accepted (a.event_at x) (a.event_at y) (a.round_at x - s) (a.round_at y - s) s t (a.event_in x p.within) (a.event_in y q.within) (known a x ox) (known a y oy) here in
         b.queue_is (there x) (to_output x p ox)
         ∙ ap (λ (e : ℕ). queue_in queues d e (b.round_at (there x))) u.1
         ∙ ap (queue_in queues d (a.event_at x)) u.2

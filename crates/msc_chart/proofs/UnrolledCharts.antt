@@ -1,5 +1,5 @@
 -- Charts whose events are those of one chart in several rounds.
-use Rattle.std.proofs.Common.{◌≡◌, ℕ, ◌+◌, ◌*◌, ◌<◌, ◌≤◌, ◌⊎◌, true, length, inl, inr, sym, ap, subst, ◌∙◌, arith}
+use Rattle.std.proofs.Common.{◌≡◌, ℕ, ◌+◌, ◌*◌, ◌<◌, ◌≤◌, ◌⊎◌, true, length, inl, inr, refl, sym, ap, subst, ◌∙◌, arith}
 use Rattle.msc_chart.specs.declared.queue.Queues.{Queues}
 use Rattle.msc_chart.specs.declared.queue.Queues.TheVariants.{Uniform, Mixed}
 use Rattle.msc_chart.specs.declared.queue.LinkKind.{LinkKind}
@@ -7,7 +7,7 @@ use Rattle.msc_chart.specs.declared.queue.LinkKind.TheVariants.{Pair, Mailbox, S
 use Rattle.msc_chart.specs.Architectures.{link_kind}
 use Rattle.msc_chart.specs.Charts.{line, partner, message, is_output, is_input, is_controlled, before}
 use Rattle.msc_chart.specs.Drawings.{Drawing, IsAccepted}
-use Rattle.msc_chart.specs.Orders.{WiredChart, IsWired, number_among, queue, queue_number, sender_at, receiver_at}
+use Rattle.msc_chart.specs.Orders.{WiredChart, IsWired, number_alone, number_among, queue, queue_number, sender_at, receiver_at}
 use Rattle.msc_chart.proofs.Drawn.{before_parts, output_parts, output_not_local}
 use Rattle.msc_chart.proofs.EventCounts.{parts_same}
 use Rattle.msc_chart.proofs.QueueLemmas.{ends_in, pair_bounded}
@@ -43,45 +43,65 @@ pub record HasRounds (queues : Queues) (d : Drawing) (n : ℕ) (chart : WiredCha
   pub drawn_so : (x y : ℕ) → x < length chart.events → y < length chart.events → IsAbove d (event_at x) (round_at x) (event_at y) (round_at y) → before chart.events x y ≡ true
   pub queue_is : (k : ℕ) → is_output chart.events k ≡ true → queue chart k ≡ queue_in queues d (event_at k) (round_at k)
 
--- messages of the links of a kind that share a queue do so as many rounds later
-single_shifted : (d : Drawing) (e f r q s t : ℕ) → message d.events e < length d.messages → message d.events f < length d.messages
-    → (s + r) * length d.messages + message d.events e ≡ (s + q) * length d.messages + message d.events f
-    → (t + r) * length d.messages + message d.events e ≡ (t + q) * length d.messages + message d.events f
-single_shifted d e f r q s t p k same =
-    let parts = parts_same (s + r) (s + q) (message d.events e) (message d.events f) (length d.messages) p k same in
-    let round : t + r ≡ t + q = (let h = parts.0 in omega arith) in
-    ap (λ (x : ℕ). x * length d.messages + message d.events e) round
-    ∙ ap (λ (x : ℕ). (t + q) * length d.messages + x) parts.1
+-- two messages share a queue in rounds i and j: so they do in whatever rounds they are, or the rounds
+-- are one, and they do in each
+abbrev pub ShareInRounds : (ℕ → ℕ) → (ℕ → ℕ) → ℕ → ℕ → Type 0
+ShareInRounds one other i j =
+    ((k l : ℕ) → (one k ≡ other l) × (one k ≡ one l)) ⊎ ((i ≡ j) × ((k : ℕ) → one k ≡ other k))
 
--- two events of an accepted chart, in rounds r and q, and these rounds once s and once t later
-module _ (d : Drawing) (accepted : IsAccepted d) (e f r q s t : ℕ) (e_in : e < length d.events) (f_in : f < length d.events) where
-  -- if links may differ, messages with one number are of links of one kind
-  among_shifted : message d.events e < length d.messages → message d.events f < length d.messages → (kind other : LinkKind)
-      → number_among kind (length d.instances) (sender_at d.events e) (receiver_at d.events e) ((s + r) * length d.messages + message d.events e)
-      ≡ number_among other (length d.instances) (sender_at d.events f) (receiver_at d.events f) ((s + q) * length d.messages + message d.events f)
-      → number_among kind (length d.instances) (sender_at d.events e) (receiver_at d.events e) ((t + r) * length d.messages + message d.events e)
-      ≡ number_among other (length d.instances) (sender_at d.events f) (receiver_at d.events f) ((t + q) * length d.messages + message d.events f)
-  among_shifted p k Pair Pair same = same
-  among_shifted p k Pair Mailbox same = let below = pair_bounded d e accepted e_in in absurd (omega (arith, below, same))
-  among_shifted p k Pair Single same = let below = pair_bounded d e accepted e_in in absurd (omega (arith, below, same))
-  among_shifted p k Mailbox Pair same = let below = pair_bounded d f accepted f_in in absurd (omega (arith, below, same))
-  among_shifted p k Mailbox Mailbox same = same
-  among_shifted p k Mailbox Single same = let below = (ends_in d accepted e e_in).1 in absurd (omega (arith, below, same))
-  among_shifted p k Single Pair same = let below = pair_bounded d f accepted f_in in absurd (omega (arith, below, same))
-  among_shifted p k Single Mailbox same = let below = (ends_in d accepted f f_in).1 in absurd (omega (arith, below, same))
-  among_shifted p k Single Single same =
-      ap (λ (x : ℕ). length d.instances * length d.instances + length d.instances + x)
-      (single_shifted d e f r q s t p k (omega (arith, same)))
+-- messages with one number are of one round, and have one number in each round
+numbers_in_rounds : (length e f i j : ℕ) → e < length → f < length → i * length + e ≡ j * length + f
+    → (i ≡ j) × ((k : ℕ) → k * length + e ≡ k * length + f)
+numbers_in_rounds length e f i j e_in f_in same =
+    let parts = parts_same i j e f length e_in f_in same in
+    (parts.0, λ k. ap (λ (x : ℕ). k * length + x) parts.1)
 
-  -- where two messages share a queue, they do so as many rounds later
-  pub queue_shifted : (queues : Queues) → message d.events e < length d.messages → message d.events f < length d.messages
-      → queue_in queues d e (s + r) ≡ queue_in queues d f (s + q) → queue_in queues d e (t + r) ≡ queue_in queues d f (t + q)
+-- two events of an accepted chart that have messages, in rounds i and j
+module _ (d : Drawing) (accepted : IsAccepted d) (e f i j : ℕ) (e_in : e < length d.events) (f_in : f < length d.events) (e_known : message d.events e < length d.messages) (f_known : message d.events f < length d.messages) where
+  -- the number of an event's queue in a round, if all links are of one kind
+  abbrev alone_in : LinkKind → ℕ → ℕ → ℕ
+  alone_in kind x r = number_alone kind (length d.instances) (sender_at d.events x) (receiver_at d.events x) (r * length d.messages + message d.events x)
+
+  alone_rounds : (kind : LinkKind) → alone_in kind e i ≡ alone_in kind f j → ShareInRounds (alone_in kind e) (alone_in kind f) i j
+  alone_rounds Pair same = inl (λ k l. (same, refl))
+  alone_rounds Mailbox same = inl (λ k l. (same, refl))
+  alone_rounds Single same = inr (numbers_in_rounds (length d.messages) (message d.events e) (message d.events f) i j e_known f_known same)
+
+  -- and if links may differ
+  abbrev among_in : LinkKind → ℕ → ℕ → ℕ
+  among_in kind x r = number_among kind (length d.instances) (sender_at d.events x) (receiver_at d.events x) (r * length d.messages + message d.events x)
+
+  among_rounds : (kind other : LinkKind) → among_in kind e i ≡ among_in other f j → ShareInRounds (among_in kind e) (among_in other f) i j
+  among_rounds Pair Pair same = inl (λ k l. (same, refl))
+  among_rounds Pair Mailbox same = let below = pair_bounded d e accepted e_in in absurd (omega (arith, below, same))
+  among_rounds Pair Single same = let below = pair_bounded d e accepted e_in in absurd (omega (arith, below, same))
+  among_rounds Mailbox Pair same = let below = pair_bounded d f accepted f_in in absurd (omega (arith, below, same))
+  among_rounds Mailbox Mailbox same = inl (λ k l. (same, refl))
+  among_rounds Mailbox Single same = let below = (ends_in d accepted e e_in).1 in absurd (omega (arith, below, same))
+  among_rounds Single Pair same = let below = pair_bounded d f accepted f_in in absurd (omega (arith, below, same))
+  among_rounds Single Mailbox same = let below = (ends_in d accepted f f_in).1 in absurd (omega (arith, below, same))
+  among_rounds Single Single same =
+      let parts = numbers_in_rounds (length d.messages) (message d.events e) (message d.events f) i j e_known f_known (omega (arith, same)) in
+      inr (parts.0, λ k. ap (λ (x : ℕ). length d.instances * length d.instances + length d.instances + x) (parts.1 k))
+
+  -- where two messages share a queue in two rounds, they do so in others
+  pub queue_in_rounds : (queues : Queues) → queue_in queues d e i ≡ queue_in queues d f j → ShareInRounds (queue_in queues d e) (queue_in queues d f) i j
   unfolding queue_in queue_number
-  queue_shifted (Uniform Pair) p k same = same
-  queue_shifted (Uniform Mailbox) p k same = same
-  queue_shifted (Uniform Single) p k same = single_shifted d e f r q s t p k same
-  queue_shifted (Mixed links) p k same =
-      among_shifted p k (link_kind links (sender_at d.events e) (receiver_at d.events e)) (link_kind links (sender_at d.events f) (receiver_at d.events f)) same
+  queue_in_rounds (Uniform kind) same = alone_rounds kind same
+  queue_in_rounds (Mixed links) same =
+      among_rounds (link_kind links (sender_at d.events e) (receiver_at d.events e)) (link_kind links (sender_at d.events f) (receiver_at d.events f)) same
+
+-- where two messages share a queue, they do so as many rounds later
+pub queue_shifted : (queues : Queues) (d : Drawing) → IsAccepted d → (e f r q s t : ℕ) → e < length d.events → f < length d.events
+    → message d.events e < length d.messages → message d.events f < length d.messages
+    → queue_in queues d e (s + r) ≡ queue_in queues d f (s + q) → queue_in queues d e (t + r) ≡ queue_in queues d f (t + q)
+queue_shifted queues d accepted e f r q s t e_in f_in e_known f_known same =
+    elim (queue_in_rounds d accepted e f (s + r) (s + q) e_in f_in e_known f_known queues same) [
+      | inl any ↦ (any (t + r) (t + q)).0
+      | inr one ↦
+          let rounds : t + r ≡ t + q = (let h = one.0 in omega arith) in
+          one.1 (t + r) ∙ ap (queue_in queues d f) rounds
+    ]
 
 module _ {queues : Queues} {d : Drawing} {n : ℕ} {chart : WiredChart} (a : HasRounds queues d n chart) where
   -- both are events, the second in no earlier round

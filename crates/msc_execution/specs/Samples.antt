@@ -2,7 +2,8 @@
 -- sends a message to itself, instance 1 acts and sends one to it; the second is put first, and is
 -- taken before the first.
 use Rattle.std.specs.Prelude.{◌≡◌, ℕ, true, List, [], ◌∷◌, None, map}
-use Rattle.msc_chart.specs.declared.queue.Queues.TheVariants.{Mailbox}
+use Rattle.msc_chart.specs.declared.queue.LinkKind.TheVariants.{Mailbox}
+use Rattle.msc_chart.specs.declared.queue.Queues.TheVariants.{Uniform}
 use Rattle.msc_chart.specs.declared.event.EventKind.TheVariants.{Output, Input, Local}
 use Rattle.msc_chart.specs.Samples.{a, b, m1, m2, go, event, own_message}
 use Rattle.msc_chart.specs.Drawings.{Drawing, chart_of}
@@ -60,9 +61,9 @@ sample s = record {
 -- the sample is an execution, whichever queue it is
 abbrev pub TheSampleIsAnExecution : Type 0
 TheSampleIsAnExecution =
-    (id : QueueId) (s : Settled) → IsSampled s → IsExecution Mailbox own_chart true 1 (sample s)
+    (id : QueueId) (s : Settled) → IsSampled s → IsExecution (Uniform Mailbox) own_chart true 1 (sample s)
 
 -- sorted, its events begin with the action, and the second message is put first
 abbrev pub TheSampleIsSorted : Type 0
 TheSampleIsSorted =
-    (s : Settled) → IsSampled s → trace_in Mailbox own_chart (sample s) ≡ 3 ∷ 4 ∷ 0 ∷ 2 ∷ 1 ∷ []
+    (s : Settled) → IsSampled s → trace_in (Uniform Mailbox) own_chart (sample s) ≡ 3 ∷ 4 ∷ 0 ∷ 2 ∷ 1 ∷ []

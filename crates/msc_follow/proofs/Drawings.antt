@@ -2,7 +2,8 @@
 use Rattle.std.proofs.Common.{◌≡◌, ℕ, ◌<◌, true, false, inl, inr, List, [], length, sym, ap, ◌∙◌}
 use Rattle.std.proofs.lemmas.Bool.{false_from_ne_true}
 use Rattle.msc_chart.specs.declared.queue.Queues.{Queues}
-use Rattle.msc_chart.specs.declared.queue.Queues.TheVariants.{Single}
+use Rattle.msc_chart.specs.declared.queue.LinkKind.TheVariants.{Single}
+use Rattle.msc_chart.specs.declared.queue.Queues.TheVariants.{Uniform}
 use Rattle.msc_chart.specs.Charts.{partner, is_output, Visual}
 use Rattle.msc_chart.specs.Charts.Visual.{seen, passed, linked}
 use Rattle.msc_chart.specs.Drawings.{Drawing, IsAccepted, output_of}
@@ -50,22 +51,22 @@ module _ (keep : AllReadyRunsKeepTheDrawnOrder) (queues : Queues) (d : Drawing) 
 
 module _ (d : Drawing) (accepted : IsAccepted d) where
   -- under Single two outputs of one queue are one
-  single_output : (x y : ℕ) → is_output d.events x ≡ true → is_output d.events y ≡ true → queue (wired Single d) x ≡ queue (wired Single d) y → x ≡ y
+  single_output : (x y : ℕ) → is_output d.events x ≡ true → is_output d.events y ≡ true → queue (wired (Uniform Single) d) x ≡ queue (wired (Uniform Single) d) y → x ≡ y
   unfolding queue queue_number
   single_output x y ox oy same =
       sym (accepted.has_messages.back x ox) ∙ ap (λ (m : ℕ). output_of d m) same ∙ accepted.has_messages.back y oy
 
   -- so none has to be ahead of another
-  pub none_ahead : (x y : ℕ) → is_ahead (wired Single d) x y ≡ false
+  pub none_ahead : (x y : ℕ) → is_ahead (wired (Uniform Single) d) x y ≡ false
   none_ahead x y = false_from_ne_true _ (λ h.
-      let p = ahead_parts (wired Single d) x y h in
+      let p = ahead_parts (wired (Uniform Single) d) x y h in
       let same = single_output x y p.first p.second p.one_queue in
       before_differs d.events _ _ p.inputs (ap (λ (z : ℕ). partner d.events z) same))
 
   -- a path is in the visual order
-  visual_of : (x y : ℕ) → Path (leads (wired Single d)) x y → Visual d.events x y
-  visual_of x y (Path.step h) = elim (leads_cases (wired Single d) x y h) [
-    | inl s ↦ let p = sent_parts (wired Single d) x y s in passed p.0 p.1
+  visual_of : (x y : ℕ) → Path (leads (wired (Uniform Single) d)) x y → Visual d.events x y
+  visual_of x y (Path.step h) = elim (leads_cases (wired (Uniform Single) d) x y h) [
+    | inl s ↦ let p = sent_parts (wired (Uniform Single) d) x y s in passed p.0 p.1
     | inr other ↦ elim other [
       | inl b ↦ seen b
       | inr a ↦ clash a (none_ahead x y)
@@ -74,12 +75,12 @@ module _ (d : Drawing) (accepted : IsAccepted d) where
   visual_of x y (Path.joined {y = m} h k) = linked (visual_of x m h) (visual_of m y k)
 
   -- the ends of a path are events of the chart
-  starts_below : (is_wired : IsWired (wired Single d)) (x y : ℕ) → Path (leads (wired Single d)) x y → x < length d.events
-  starts_below is_wired x y (Path.step h) = (leads_below (wired Single d) is_wired x y h).0
+  starts_below : (is_wired : IsWired (wired (Uniform Single) d)) (x y : ℕ) → Path (leads (wired (Uniform Single) d)) x y → x < length d.events
+  starts_below is_wired x y (Path.step h) = (leads_below (wired (Uniform Single) d) is_wired x y h).0
   starts_below is_wired x y (Path.joined {y = m} h k) = starts_below is_wired x m h
 
   -- so no path leads back
-  pub none_closed : IsWired (wired Single d) → HasNoClosedPath (leads (wired Single d))
+  pub none_closed : IsWired (wired (Uniform Single) d) → HasNoClosedPath (leads (wired (Uniform Single) d))
   none_closed is_wired e path = accepted.acyclic e (starts_below is_wired e e path) (visual_of e e path)
 
 -- after a whole run no event may follow

@@ -1,7 +1,8 @@
 -- Laws of steps and of the drawings that can happen, for each accepted chart under each architecture.
 use Rattle.std.specs.Prelude.{◌≡◌, ℕ, false, List, length}
 use Rattle.msc_chart.specs.declared.queue.Queues.{Queues}
-use Rattle.msc_chart.specs.declared.queue.Queues.TheVariants.{Single}
+use Rattle.msc_chart.specs.declared.queue.LinkKind.TheVariants.{Single}
+use Rattle.msc_chart.specs.declared.queue.Queues.TheVariants.{Uniform}
 use Rattle.msc_chart.specs.Drawings.{Drawing, IsAccepted}
 use Rattle.msc_chart.specs.Orders.{WiredChart, wired}
 use Rattle.msc_follow.specs.Following.{CanHappen, NeverHappens, IsFollowingRun}
@@ -29,11 +30,11 @@ APassIsFollowed =
 -- if each message has a queue of its own, no output has to be ahead of another
 abbrev pub NoStepIsAheadUnderSingle : Type 0
 NoStepIsAheadUnderSingle =
-    (d : Drawing) → IsAccepted d → (x y : ℕ) → is_ahead (wired Single d) x y ≡ false
+    (d : Drawing) → IsAccepted d → (x y : ℕ) → is_ahead (wired (Uniform Single) d) x y ≡ false
 
 -- and some whole run keeps the drawn order
 abbrev pub EveryDrawingIsFollowedUnderSingle : Type 0
-EveryDrawingIsFollowedUnderSingle = (d : Drawing) → IsAccepted d → CanHappen (wired Single d)
+EveryDrawingIsFollowedUnderSingle = (d : Drawing) → IsAccepted d → CanHappen (wired (Uniform Single) d)
 
 -- a chart has at most one following run
 abbrev pub FollowingRunsAreUnique : Type 0

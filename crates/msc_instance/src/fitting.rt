@@ -8,17 +8,17 @@ ghost use Rattle.msc_instance.specs.Views.{ends_of};
 
 use crate::ends::InstanceEnds;
 use msc_chart::laws::{events_have_queues, queue_numbers_are_bounded};
-use msc_chart::{Chart, INSTANCE_LIMIT, Queues, Wiring};
+use msc_chart::{Chart, QUEUE_LIMIT, Queues, Wiring};
 use msc_fifo::Outlet;
 
-/// The greatest number past all queue numbers of a chart.
-const QUEUE_LIMIT: usize = INSTANCE_LIMIT as usize * INSTANCE_LIMIT as usize;
+/// The length of a table over the queues of any chart.
+const TABLE_LENGTH: usize = QUEUE_LIMIT as usize;
 
 /// A table with no message.
-fn no_counts() -> [u32; QUEUE_LIMIT]
+fn no_counts() -> [u32; TABLE_LENGTH]
     ensures { (q : ℕ) → get_or result q 0 ≡ 0 }
 {
-    [0; QUEUE_LIMIT]
+    [0; TABLE_LENGTH]
 }
 
 /// Counts the messages that instance `i` sends to each queue, and the messages that it takes from

@@ -1,5 +1,6 @@
 -- The past of an event, as the code holds it, and which outputs of it wait.
 use Rattle.std.specs.Prelude.{◌≡◌, ℕ, ◌<◌, ◌≤◌, ◌↔◌, ◌⊎◌, List, length, get_or, IsTrue}
+use Rattle.msc_chart.specs.declared.TheConstants.{QUEUE_LIMIT}
 use Rattle.msc_chart.specs.Charts.{is_output}
 use Rattle.msc_chart.specs.Orders.{WiredChart, queue}
 use Rattle.msc_race.specs.declared.choosing.Choice.{Choice}
@@ -36,7 +37,7 @@ pub record IsNextTaken (chart : WiredChart) (f : ℕ) (left : List ℕ) (q y : �
 -- Below k the outputs of each queue stand from its first one up to its end; where it has none, these
 -- are the number of events, and 0.
 pub record AreSpans (chart : WiredChart) (firsts ends : List ℕ) (k : ℕ) : Type 0 where
-  pub few : length firsts ≤ 1024
+  pub few : length firsts ≤ QUEUE_LIMIT
   pub both : length ends ≡ length firsts
   pub queues : (t : ℕ) → IsTrue (is_output chart.events t) → queue chart t < length firsts
   pub from : (t : ℕ) → t < k → IsTrue (is_output chart.events t) → get_or firsts (queue chart t) 0 ≤ t

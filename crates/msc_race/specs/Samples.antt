@@ -1,7 +1,8 @@
 -- Small charts, and what the definitions say of their races and runs.
 use Rattle.std.specs.Prelude.{ℕ, List, [], ◌∷◌}
-use Rattle.msc_chart.specs.declared.queue.Queues.{Queues}
-use Rattle.msc_chart.specs.declared.queue.Queues.TheVariants.{Mailbox}
+use Rattle.msc_chart.specs.declared.queue.LinkKind.{LinkKind}
+use Rattle.msc_chart.specs.declared.queue.LinkKind.TheVariants.{Mailbox}
+use Rattle.msc_chart.specs.declared.queue.Queues.TheVariants.{Uniform}
 use Rattle.msc_parser.specs.declared.tree.Item.TheVariants.{Single}
 use Rattle.msc_parser.specs.Grammar.{Tree}
 use Rattle.msc_chart.specs.Drawings.{chart_of}
@@ -25,29 +26,29 @@ crossing =
     draft_of (instance_of a (Single (out_to p b) ∷ Single (in_from q b) ∷ [])
     ∷ instance_of b (Single (out_to q a) ∷ Single (in_from p a) ∷ []) ∷ [])
 
--- the charts under an architecture
-abbrev pub senders : Queues → WiredChart
-senders queues = wired queues (chart_of two_senders)
+-- the charts, with one kind for all links
+abbrev pub senders : LinkKind → WiredChart
+senders kind = wired (Uniform kind) (chart_of two_senders)
 
 -- two inputs in a coregion
-abbrev pub unordered : Queues → WiredChart
-unordered queues = wired queues (chart_of coregion)
+abbrev pub unordered : LinkKind → WiredChart
+unordered kind = wired (Uniform kind) (chart_of coregion)
 
 -- a relay
-abbrev pub relayed : Queues → WiredChart
-relayed queues = wired queues (chart_of relay)
+abbrev pub relayed : LinkKind → WiredChart
+relayed kind = wired (Uniform kind) (chart_of relay)
 
 -- one message overtakes another
-abbrev pub overtaken : Queues → WiredChart
-overtaken queues = wired queues (chart_of overtaking)
+abbrev pub overtaken : LinkKind → WiredChart
+overtaken kind = wired (Uniform kind) (chart_of overtaking)
 
 -- two messages cross
-abbrev pub crossed : Queues → WiredChart
-crossed queues = wired queues (chart_of crossing)
+abbrev pub crossed : LinkKind → WiredChart
+crossed kind = wired (Uniform kind) (chart_of crossing)
 
 -- two mailboxes
 abbrev pub mailboxes : WiredChart
-mailboxes = wired Mailbox (chart_of two_mailboxes)
+mailboxes = wired (Uniform Mailbox) (chart_of two_mailboxes)
 
 -- a whole run that reverses (e, f)
 pub record IsReversal (chart : WiredChart) (events : List ℕ) (e f : ℕ) : Type 0 where

@@ -3,8 +3,8 @@
 //! architecture.
 
 ghost use Rattle.std.specs.Prelude.{[], ◌∷◌};
-ghost use Rattle.msc_chart.specs.declared.queue.Queues.{Queues};
-ghost use Rattle.msc_chart.specs.declared.queue.Queues.TheVariants.{Mailbox, Pair, Single};
+ghost use Rattle.msc_chart.specs.declared.queue.LinkKind.{LinkKind};
+ghost use Rattle.msc_chart.specs.declared.queue.LinkKind.TheVariants.{Mailbox, Pair, Single};
 ghost use Rattle.msc_chart.specs.Orders.{Enforced};
 ghost use Rattle.msc_chart.specs.Runs.{Run};
 ghost use Rattle.msc_race.specs.Laws.{AWitnessExists, WitnessesAreUnique, WitnessesAreWhole};
@@ -138,14 +138,14 @@ pub fn short_witnesses_show()
 pub fn worked_races()
     ensures two_senders_pair { AreRaces (senders Pair) ((1, 2) ∷ []) }
     ensures two_senders_mailbox { AreRaces (senders Mailbox) ((1, 2) ∷ []) }
-    ensures coregion { (queues : Queues) → AreRaces (unordered queues) [] }
+    ensures coregion { (kind : LinkKind) → AreRaces (unordered kind) [] }
     ensures relay_pair { AreRaces (relayed Pair) ((2, 3) ∷ []) }
     ensures relay_single { AreRaces (relayed Single) ((2, 3) ∷ []) }
     ensures relay_mailbox { AreRaces (relayed Mailbox) [] }
     ensures relay_enforced { Enforced (relayed Mailbox) 2 3 }
-    ensures overtaking { (queues : Queues) → AreRaces (overtaken queues) ((2, 3) ∷ []) }
+    ensures overtaking { (kind : LinkKind) → AreRaces (overtaken kind) ((2, 3) ∷ []) }
     ensures overtaking_enforced { Enforced (overtaken Pair) 3 2 × Enforced (overtaken Mailbox) 3 2 }
-    ensures crossing { (queues : Queues) → AreRaces (crossed queues) ((0, 1) ∷ (2, 3) ∷ []) }
+    ensures crossing { (kind : LinkKind) → AreRaces (crossed kind) ((0, 1) ∷ (2, 3) ∷ []) }
     ensures mailboxes { AreRaces mailboxes ((4, 5) ∷ (6, 7) ∷ []) }
 {}
 
@@ -156,10 +156,10 @@ pub fn worked_runs()
     ensures two_senders_mailbox { IsReversal (senders Mailbox) (3 ∷ 0 ∷ 2 ∷ 1 ∷ []) 1 2 }
     ensures no_run { Run (senders Mailbox) (0 ∷ 3 ∷ 2 ∷ 1 ∷ []) → ⊥ }
     ensures relay_pair { IsReversal (relayed Pair) (0 ∷ 1 ∷ 4 ∷ 5 ∷ 3 ∷ 2 ∷ []) 2 3 }
-    ensures overtaken { (queues : Queues) → IsReversal (overtaken queues) (0 ∷ 1 ∷ 3 ∷ 2 ∷ []) 2 3 }
-    ensures crossing_a { (queues : Queues) → IsReversal (crossed queues) (2 ∷ 1 ∷ 0 ∷ 3 ∷ []) 0 1 }
-    ensures crossing_b { (queues : Queues) → IsReversal (crossed queues) (0 ∷ 3 ∷ 2 ∷ 1 ∷ []) 2 3 }
-    ensures crossing_one { (queues : Queues) → NoRunReversesBoth (crossed queues) (0, 1) (2, 3) }
+    ensures overtaken { (kind : LinkKind) → IsReversal (overtaken kind) (0 ∷ 1 ∷ 3 ∷ 2 ∷ []) 2 3 }
+    ensures crossing_a { (kind : LinkKind) → IsReversal (crossed kind) (2 ∷ 1 ∷ 0 ∷ 3 ∷ []) 0 1 }
+    ensures crossing_b { (kind : LinkKind) → IsReversal (crossed kind) (0 ∷ 3 ∷ 2 ∷ 1 ∷ []) 2 3 }
+    ensures crossing_one { (kind : LinkKind) → NoRunReversesBoth (crossed kind) (0, 1) (2, 3) }
     ensures mailboxes_q { IsReversal mailboxes (2 ∷ 3 ∷ 0 ∷ 1 ∷ 5 ∷ 6 ∷ 7 ∷ 4 ∷ []) 4 5 }
     ensures mailboxes_z { IsReversal mailboxes (0 ∷ 1 ∷ 2 ∷ 3 ∷ 4 ∷ 5 ∷ 7 ∷ 6 ∷ []) 6 7 }
     ensures mailboxes_one { NoRunReversesBoth mailboxes (4, 5) (6, 7) }

@@ -2,7 +2,8 @@
 use Rattle.std.proofs.Common.{◌≡◌, ◌≢◌, ℕ, true, ◌⊎◌, inl, inr, refl, sym, ap, ◌∙◌}
 use Rattle.std.proofs.lemmas.Bool.{cases_eq}
 use Rattle.msc_chart.specs.Charts.{partner, is_input, is_controlled}
-use Rattle.msc_chart.specs.declared.queue.Queues.TheVariants.{Single}
+use Rattle.msc_chart.specs.declared.queue.LinkKind.TheVariants.{Single}
+use Rattle.msc_chart.specs.declared.queue.Queues.TheVariants.{Uniform}
 use Rattle.msc_chart.specs.Drawings.{Drawing, IsAccepted, output_of}
 use Rattle.msc_chart.specs.Orders.{WiredChart, IsWired, queue, queue_number, wired, Enforced, IsRace}
 use Rattle.msc_chart.proofs.Drawn.{before_parts, controlled_no_input, controlled_or_input, input_parts, partner_of_input}
@@ -75,21 +76,21 @@ module _ (chart : WiredChart) where
         queued_before chart is_wired f e (share_from chart f e p.1 p.0 (sym p.2)) h.1
 
 -- where each message has its own queue, an input of a queue has no other beside it
-single_apart : (d : Drawing) → IsAccepted d → IsWired (wired Single d) → (e f : ℕ) → IsRace (wired Single d) e f → share_queue (wired Single d) e f ≡ true → ⊥
+single_apart : (d : Drawing) → IsAccepted d → IsWired (wired (Uniform Single) d) → (e f : ℕ) → IsRace (wired (Uniform Single) d) e f → share_queue (wired (Uniform Single) d) e f ≡ true → ⊥
 unfolding queue queue_number
 single_apart d accepted is_wired e f race share =
-    let p = share_parts (wired Single d) e f share in
+    let p = share_parts (wired (Uniform Single) d) e f share in
     let messages = accepted.has_messages in
     let output_e = messages.back (partner d.events e) (partner_of_input d.events accepted.matched e p.0) in
     let output_f = messages.back (partner d.events f) (partner_of_input d.events accepted.matched f p.1) in
     let one_e = messages.shared e (input_parts d.events e p.0).0 in
     let one_f = messages.shared f (input_parts d.events f p.1).0 in
-    inputs_differ (wired Single d) is_wired e f race.0
+    inputs_differ (wired (Uniform Single) d) is_wired e f race.0
     (sym output_e ∙ ap (output_of d) (one_e ∙ p.2 ∙ sym one_f) ∙ output_f)
 
 -- so its races are early or of two queues
-pub single_kinds : (d : Drawing) → IsAccepted d → IsWired (wired Single d) → (e f : ℕ) → IsRace (wired Single d) e f
-    → (kind : RaceKind) → IsKindOf (wired Single d) e f kind → (kind ≡ Early) ⊎ (kind ≡ Queues)
+pub single_kinds : (d : Drawing) → IsAccepted d → IsWired (wired (Uniform Single) d) → (e f : ℕ) → IsRace (wired (Uniform Single) d) e f
+    → (kind : RaceKind) → IsKindOf (wired (Uniform Single) d) e f kind → (kind ≡ Early) ⊎ (kind ≡ Queues)
 single_kinds d accepted is_wired e f race Early h = inl refl
 single_kinds d accepted is_wired e f race Queues h = inr refl
 single_kinds d accepted is_wired e f race Unordered h = absurd (single_apart d accepted is_wired e f race h.0)

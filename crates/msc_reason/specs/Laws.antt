@@ -1,7 +1,8 @@
 -- Laws of closest races and of what races lack, of accepted charts under each architecture.
 use Rattle.std.specs.Prelude.{◌≡◌, ℕ, ◌+◌, ◌⊎◌, ◌↔◌, IsTrue}
 use Rattle.msc_chart.specs.declared.queue.Queues.{Queues}
-use Rattle.msc_chart.specs.declared.queue.Queues.TheVariants.{Single}
+use Rattle.msc_chart.specs.declared.queue.LinkKind.TheVariants.{Single}
+use Rattle.msc_chart.specs.declared.queue.Queues.TheVariants.{Uniform}
 use Rattle.msc_chart.specs.Charts.{before, partner, is_input}
 use Rattle.msc_chart.specs.Drawings.{Drawing, IsAccepted}
 use Rattle.msc_chart.specs.Orders.{wired, Enforced, IsRace}
@@ -62,8 +63,8 @@ EachRaceHasOneKind =
 -- where each message has a queue of its own, a race is early or of two queues
 abbrev pub SingleRacesAreOfTwoKinds : Type 0
 SingleRacesAreOfTwoKinds =
-    (d : Drawing) → IsAccepted d → (e f : ℕ) → IsRace (wired Single d) e f
-    → (kind : RaceKind) → IsKindOf (wired Single d) e f kind → (kind ≡ Early) ⊎ (kind ≡ RaceKind.Queues)
+    (d : Drawing) → IsAccepted d → (e f : ℕ) → IsRace (wired (Uniform Single) d) e f
+    → (kind : RaceKind) → IsKindOf (wired (Uniform Single) d) e f kind → (kind ≡ Early) ⊎ (kind ≡ RaceKind.Queues)
 
 -- an overtaken race is reversed always: its second event is enforced before its first
 abbrev pub WhatIsOvertakenIsAlwaysReversed : Type 0

@@ -1,7 +1,8 @@
 -- Both instances of the sample ran.
 use Rattle.std.proofs.Common.{◌≡◌, ℕ, zero, suc, ◌<◌, true, List, [], ◌∷◌, map, refl, sym, subst, arith}
 use Rattle.std.specs.List.{AllZip}
-use Rattle.msc_chart.specs.declared.queue.Queues.TheVariants.{Mailbox}
+use Rattle.msc_chart.specs.declared.queue.LinkKind.TheVariants.{Mailbox}
+use Rattle.msc_chart.specs.declared.queue.Queues.TheVariants.{Uniform}
 use Rattle.msc_chart.specs.Lists.{occurs, until}
 use Rattle.msc_chart.specs.Charts.{line, segment, kind, message, partner, is_output, is_input, is_controlled, before}
 use Rattle.msc_chart.specs.Drawings.{output_of, input_of, sender_of, receiver_of}
@@ -23,37 +24,37 @@ use Rattle.msc_execution.proofs.Sample.Accepted.{five}
 use Rattle.msc_execution.proofs.Sample.Back.{own_outlet, other_outlet, mailbox, both_back}
 
 -- the one queue, to which both send and from which instance 0 takes
-pub queues_are : queues_in Mailbox own_chart ≡ 0 ∷ []
+pub queues_are : queues_in (Uniform Mailbox) own_chart ≡ 0 ∷ []
 unfolding queues_below queue_bound messages_in queue_of queue_number sender_of receiver_of output_of
     input_of line partner
 queues_are = refl
 
 -- instance 0 sends to it
-pub own_sends : sent_queues (role Mailbox own_chart 0) ≡ 0 ∷ []
+pub own_sends : sent_queues (role (Uniform Mailbox) own_chart 0) ≡ 0 ∷ []
 unfolding sent_queues queues_below queue_bound messages_in sends_to queue_of queue_number sender_of
     receiver_of output_of input_of line partner
 own_sends = refl
 
 -- and so does instance 1
-pub other_sends : sent_queues (role Mailbox own_chart 1) ≡ 0 ∷ []
+pub other_sends : sent_queues (role (Uniform Mailbox) own_chart 1) ≡ 0 ∷ []
 unfolding sent_queues queues_below queue_bound messages_in sends_to queue_of queue_number sender_of
     receiver_of output_of input_of line partner
 other_sends = refl
 
 -- instance 0 takes from it
-pub own_takes : taken_queues (role Mailbox own_chart 0) ≡ 0 ∷ []
+pub own_takes : taken_queues (role (Uniform Mailbox) own_chart 0) ≡ 0 ∷ []
 unfolding taken_queues queues_below queue_bound messages_in takes_from queue_of queue_number
     sender_of receiver_of output_of input_of line partner
 own_takes = refl
 
 -- instance 1 takes from none
-pub other_takes : taken_queues (role Mailbox own_chart 1) ≡ []
+pub other_takes : taken_queues (role (Uniform Mailbox) own_chart 1) ≡ []
 unfolding taken_queues queues_below queue_bound messages_in takes_from queue_of queue_number
     sender_of receiver_of output_of input_of line partner
 other_takes = refl
 
 -- its senders
-pub both_send : senders_in Mailbox own_chart 0 ≡ 0 ∷ 1 ∷ []
+pub both_send : senders_in (Uniform Mailbox) own_chart 0 ≡ 0 ∷ 1 ∷ []
 unfolding senders_in sends_to messages_in queue_of queue_number sender_of receiver_of output_of
     input_of line partner
 both_send = refl
@@ -130,39 +131,39 @@ module _ (id : QueueId) where
 
   -- what an instance put that sends to the one queue
   put_by : (i : ℕ) (log : List ℕ) (reading : Reading) (o : OutletState)
-      → sent_queues (role Mailbox own_chart i) ≡ 0 ∷ []
-      → IsLeftBy (role Mailbox own_chart i) log reading (fresh_outlet ids (role Mailbox own_chart i) 0) (0, o)
-      → AllZip (IsLeftBy (role Mailbox own_chart i) log reading)
-      (wired_ends ids (role Mailbox own_chart i)).outlets ((0, o) ∷ [])
+      → sent_queues (role (Uniform Mailbox) own_chart i) ≡ 0 ∷ []
+      → IsLeftBy (role (Uniform Mailbox) own_chart i) log reading (fresh_outlet ids (role (Uniform Mailbox) own_chart i) 0) (0, o)
+      → AllZip (IsLeftBy (role (Uniform Mailbox) own_chart i) log reading)
+      (wired_ends ids (role (Uniform Mailbox) own_chart i)).outlets ((0, o) ∷ [])
   put_by i log reading o sends left =
-      subst (λ (l : List ℕ). AllZip (IsLeftBy (role Mailbox own_chart i) log reading)
-      (map (fresh_outlet ids (role Mailbox own_chart i)) l) ((0, o) ∷ [])) (sym sends) (left, tt)
+      subst (λ (l : List ℕ). AllZip (IsLeftBy (role (Uniform Mailbox) own_chart i) log reading)
+      (map (fresh_outlet ids (role (Uniform Mailbox) own_chart i)) l) ((0, o) ∷ [])) (sym sends) (left, tt)
 
   -- what instance 0 put
-  own_put : AllZip (IsLeftBy (role Mailbox own_chart 0) (0 ∷ 2 ∷ 1 ∷ []) (read_at_place 1))
-      (wired_ends ids (role Mailbox own_chart 0)).outlets ((0, own_outlet id) ∷ [])
+  own_put : AllZip (IsLeftBy (role (Uniform Mailbox) own_chart 0) (0 ∷ 2 ∷ 1 ∷ []) (read_at_place 1))
+      (wired_ends ids (role (Uniform Mailbox) own_chart 0)).outlets ((0, own_outlet id) ∷ [])
   unfolding rank_of quota_of messages_in sends_to queue_of queue_number sender_of receiver_of
       output_of input_of line partner message kind is_output is_input along_from clock_next until
   own_put = put_by 0 (0 ∷ 2 ∷ 1 ∷ []) (read_at_place 1) (own_outlet id) own_sends
       (record { number = refl; same = (refl, refl, refl); put = refl; closed = refl; claims = λ open'. (3, refl) })
 
   -- what instance 1 put
-  other_put : AllZip (IsLeftBy (role Mailbox own_chart 1) (3 ∷ 4 ∷ []) (read_at_place 0))
-      (wired_ends ids (role Mailbox own_chart 1)).outlets ((0, other_outlet id) ∷ [])
+  other_put : AllZip (IsLeftBy (role (Uniform Mailbox) own_chart 1) (3 ∷ 4 ∷ []) (read_at_place 0))
+      (wired_ends ids (role (Uniform Mailbox) own_chart 1)).outlets ((0, other_outlet id) ∷ [])
   unfolding rank_of quota_of messages_in sends_to queue_of queue_number sender_of receiver_of
       output_of input_of line partner message kind is_output is_input along_from clock_next until
   other_put = put_by 1 (3 ∷ 4 ∷ []) (read_at_place 0) (other_outlet id) other_sends
       (record { number = refl; same = (refl, refl, refl); put = refl; closed = refl; claims = λ open'. (2, refl) })
 
   -- what instance 0 got
-  own_got : AllZip (HasTaken (role Mailbox own_chart 0) (0 ∷ 2 ∷ 1 ∷ []) (read_at_place 1) (λ q. []))
-      (wired_ends ids (role Mailbox own_chart 0)).inlets ((0, mailbox id) ∷ [])
+  own_got : AllZip (HasTaken (role (Uniform Mailbox) own_chart 0) (0 ∷ 2 ∷ 1 ∷ []) (read_at_place 1) (λ q. []))
+      (wired_ends ids (role (Uniform Mailbox) own_chart 0)).inlets ((0, mailbox id) ∷ [])
   unfolding senders_in messages_in sends_to queue_of queue_number sender_of receiver_of output_of
       input_of line partner message kind is_input
   own_got =
       subst (λ (l : List ℕ). AllZip
-      (HasTaken (role Mailbox own_chart 0) (0 ∷ 2 ∷ 1 ∷ []) (read_at_place 1) (λ q. []))
-      (map (fresh_inlet ids (role Mailbox own_chart 0)) l) ((0, mailbox id) ∷ []))
+      (HasTaken (role (Uniform Mailbox) own_chart 0) (0 ∷ 2 ∷ 1 ∷ []) (read_at_place 1) (λ q. []))
+      (map (fresh_inlet ids (role (Uniform Mailbox) own_chart 0)) l) ((0, mailbox id) ∷ []))
       (sym own_takes) (
         record {
           number = refl;
@@ -175,17 +176,17 @@ module _ (id : QueueId) where
       )
 
   -- instance 1 got nothing
-  other_got : AllZip (HasTaken (role Mailbox own_chart 1) (3 ∷ 4 ∷ []) (read_at_place 0) (λ q. []))
-      (wired_ends ids (role Mailbox own_chart 1)).inlets []
+  other_got : AllZip (HasTaken (role (Uniform Mailbox) own_chart 1) (3 ∷ 4 ∷ []) (read_at_place 0) (λ q. []))
+      (wired_ends ids (role (Uniform Mailbox) own_chart 1)).inlets []
   other_got =
       subst (λ (l : List ℕ). AllZip
-      (HasTaken (role Mailbox own_chart 1) (3 ∷ 4 ∷ []) (read_at_place 0) (λ q. []))
-      (map (fresh_inlet ids (role Mailbox own_chart 1)) l) [])
+      (HasTaken (role (Uniform Mailbox) own_chart 1) (3 ∷ 4 ∷ []) (read_at_place 0) (λ q. []))
+      (map (fresh_inlet ids (role (Uniform Mailbox) own_chart 1)) l) [])
       (sym other_takes) tt
 
   -- both ran
   pub runs : (s : Settled) (i : ℕ) → i < 2
-      → HasRun (role Mailbox own_chart i) true 1 (wired_ends ids (role Mailbox own_chart i))
+      → HasRun (role (Uniform Mailbox) own_chart i) true 1 (wired_ends ids (role (Uniform Mailbox) own_chart i))
       (record { log = log_at (sample s) i; ends = both_back id i; end = end_at (sample s) i })
   runs s zero below = record {
     reading = read_at_place 1;

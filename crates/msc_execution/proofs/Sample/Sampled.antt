@@ -2,7 +2,8 @@
 use Rattle.std.proofs.Common.{◌≡◌, ◌≢◌, ℕ, zero, suc, ◌<◌, true, cond, List, [], ◌∷◌, map, length, Some, slice_get, refl, sym, ap, ◌∙◌, subst, arith}
 use Rattle.std.specs.Prelude.{nat_eq}
 use Rattle.std.proofs.lemmas.Bool.{eqb-true}
-use Rattle.msc_chart.specs.declared.queue.Queues.TheVariants.{Mailbox}
+use Rattle.msc_chart.specs.declared.queue.LinkKind.TheVariants.{Mailbox}
+use Rattle.msc_chart.specs.declared.queue.Queues.TheVariants.{Uniform}
 use Rattle.msc_chart.specs.Lists.{occurs, until, Occurs}
 use Rattle.msc_chart.specs.Charts.{line, kind, message, partner, is_output, is_input}
 use Rattle.msc_chart.specs.Drawings.{output_of, input_of, sender_of, receiver_of}
@@ -60,7 +61,7 @@ module _ (id : QueueId) where
         )
 
     -- instance 0 alone takes from it
-    taker : (r : ℕ) → takes_from Mailbox own_chart 0 r ≡ true → 0 ≡ r
+    taker : (r : ℕ) → takes_from (Uniform Mailbox) own_chart 0 r ≡ true → 0 ≡ r
     unfolding takes_from messages_in queue_of queue_number receiver_of sender_of input_of output_of
         line partner
     taker r h =
@@ -69,18 +70,18 @@ module _ (id : QueueId) where
         ∙ eqb-true (receiver_of own_chart m) r is
 
     -- what it took of instance i
-    taken_by : (i r : ℕ) → takes_from Mailbox own_chart 0 r ≡ true
-        → i ∷ [] ≡ received_from Mailbox own_chart 0 i (0 ∷ 2 ∷ 1 ∷ [])
-        → i ∷ [] ≡ received_from Mailbox own_chart 0 i (log_at (sample s) r)
+    taken_by : (i r : ℕ) → takes_from (Uniform Mailbox) own_chart 0 r ≡ true
+        → i ∷ [] ≡ received_from (Uniform Mailbox) own_chart 0 i (0 ∷ 2 ∷ 1 ∷ [])
+        → i ∷ [] ≡ received_from (Uniform Mailbox) own_chart 0 i (log_at (sample s) r)
     taken_by i r takes here =
-        subst (λ (j : ℕ). i ∷ [] ≡ received_from Mailbox own_chart 0 i (log_at (sample s) j))
+        subst (λ (j : ℕ). i ∷ [] ≡ received_from (Uniform Mailbox) own_chart 0 i (log_at (sample s) j))
         (taker r takes) here
 
     -- the account of each is its traffic
     abbrev HasTraffic : ℕ → ℕ → Type 0
     HasTraffic k i =
         (a : Account) × (slice_get s.senders.items k ≡ Some a)
-        × IsTrafficOf Mailbox own_chart (sample s) 0 i a
+        × IsTrafficOf (Uniform Mailbox) own_chart (sample s) 0 i a
 
     -- so it does for each sender
     traffic : (k i : ℕ) → slice_get (0 ∷ 1 ∷ []) k ≡ Some i → HasTraffic k i
@@ -115,7 +116,7 @@ module _ (id : QueueId) where
     traffic (suc (suc k)) i at = cc
 
     -- so they are the accounts of both
-    accounts : AreAccounts Mailbox own_chart (sample s) 0 s
+    accounts : AreAccounts (Uniform Mailbox) own_chart (sample s) 0 s
     unfolding queue_of queue_number receiver_of sender_of input_of output_of line partner message
         kind is_output is_input
     accounts = record {
@@ -124,7 +125,7 @@ module _ (id : QueueId) where
           ∙ ap (λ (l : List ℕ). length l) (sym both_send);
       each = λ k i at. traffic k i (ap (λ (l : List ℕ). slice_get l k) (sym both_send) ∙ at);
       first = λ r takes.
-          subst (λ (j : ℕ). Begins (received Mailbox own_chart 0 (log_at (sample s) j))
+          subst (λ (j : ℕ). Begins (received (Uniform Mailbox) own_chart 0 (log_at (sample s) j))
           (placed_messages s.places.items)) (taker r takes)
           ([], ap (λ (l : List Place). placed_messages l) sampled.places);
     }
@@ -139,7 +140,7 @@ module _ (id : QueueId) where
     the_one q t there = among_single (pair 0 s) (pair q t) there.0 there.1
 
     -- so the sample is an execution
-    pub is_execution : IsExecution Mailbox own_chart true 1 (sample s)
+    pub is_execution : IsExecution (Uniform Mailbox) own_chart true 1 (sample s)
     is_execution = record {
       logs = refl;
       ends = refl;
@@ -148,7 +149,7 @@ module _ (id : QueueId) where
       runs = runs id s;
       numbers = sym queues_are;
       accounts =
-          λ q t there. subst (λ (p : ℕ × Settled). AreAccounts Mailbox own_chart (sample s) p.0 p.1)
+          λ q t there. subst (λ (p : ℕ × Settled). AreAccounts (Uniform Mailbox) own_chart (sample s) p.0 p.1)
           (the_one q t there) accounts;
       places =
           λ q t there. subst (λ (p : ℕ × Settled).
@@ -164,11 +165,11 @@ module _ (id : QueueId) where
 
 -- sorted, its events begin with the action, and the second message is put first
 pub trace_is : (s : Settled) → IsSampled s
-    → trace_in Mailbox own_chart (sample s) ≡ 3 ∷ 4 ∷ 0 ∷ 2 ∷ 1 ∷ []
+    → trace_in (Uniform Mailbox) own_chart (sample s) ≡ 3 ∷ 4 ∷ 0 ∷ 2 ∷ 1 ∷ []
 unfolding trace_of sorted put_in is_below key_of clock_step clock_from greatest_offer place_clock
     place_number messages queue queue_number sender_at receiver_at output_of line partner message
     is_output is_input kind until occurs
 trace_is s sampled =
     ap (λ (l : List Place).
-    trace_of (wired Mailbox own_chart) (sample s).logs
+    trace_of (wired (Uniform Mailbox) own_chart) (sample s).logs
     (λ q. map (as_place own_chart) (cond (nat_eq 0 q) l []))) sampled.places

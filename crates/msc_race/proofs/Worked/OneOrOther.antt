@@ -1,8 +1,8 @@
 -- Two races that no run reverses together.
 use Rattle.std.proofs.Common.{◌≡◌, ◌≢◌, ℕ, true, List, refl, sym, ◌∙◌, subst}
 use Rattle.std.proofs.lemmas.Bool.{eqb-false, false_from_ne_true}
-use Rattle.msc_chart.specs.declared.queue.Queues.{Queues}
-use Rattle.msc_chart.specs.declared.queue.Queues.TheVariants.{Pair, Mailbox, Single}
+use Rattle.msc_chart.specs.declared.queue.LinkKind.{LinkKind}
+use Rattle.msc_chart.specs.declared.queue.LinkKind.TheVariants.{Pair, Mailbox, Single}
 use Rattle.msc_chart.specs.Lists.{occurs, until, IsFirst}
 use Rattle.msc_chart.specs.Events.{events_of, acts_of, instances_of}
 use Rattle.msc_chart.specs.Charts.{line, segment, kind, partner, message, is_output, is_input, is_local, is_controlled, before}
@@ -55,16 +55,16 @@ module _ (chart : WiredChart) (is_wired : IsWired chart) (events : List ℕ) (ru
       )
 
 -- two messages that cross are not both taken before the other is sent
-pub crossing_one : (queues : Queues) → NoRunReversesBoth (crossed queues) (0, 1) (2, 3)
+pub crossing_one : (kind : LinkKind) → NoRunReversesBoth (crossed kind) (0, 1) (2, 3)
 unfolding is_output is_input is_local is_controlled before line segment kind partner message queue queue_number sender_at receiver_at chart_events events_of acts_of instances_of
-crossing_one queues events run first second =
-    let is_wired : IsWired (crossed queues) = crossing_wired queues in
+crossing_one kind events run first second =
+    let is_wired : IsWired (crossed kind) = crossing_wired kind in
     no_ring events 0 1 2 3 (eqb-false 1 0 refl) (eqb-false 3 2 refl) first second
-    (kept (crossed queues) is_wired events run 2 1 (sent refl refl) first.0)
-    (kept (crossed queues) is_wired events run 0 3 (sent refl refl) second.0)
+    (kept (crossed kind) is_wired events run 2 1 (sent refl refl) first.0)
+    (kept (crossed kind) is_wired events run 0 3 (sent refl refl) second.0)
   where
-    -- the chart is wired under each architecture
-    crossing_wired : (queues : Queues) → IsWired (crossed queues)
+    -- the chart is wired with each kind
+    crossing_wired : (kind : LinkKind) → IsWired (crossed kind)
     crossing_wired Pair = wired_from _ refl
     crossing_wired Mailbox = wired_from _ refl
     crossing_wired Single = wired_from _ refl

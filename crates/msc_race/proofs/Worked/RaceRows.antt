@@ -1,8 +1,8 @@
 -- The races of the small charts and runs that reverse them, by computing.
 use Rattle.std.proofs.Common.{[], ◌∷◌, refl}
 use Rattle.std.proofs.lemmas.Bool.{eqb-false}
-use Rattle.msc_chart.specs.declared.queue.Queues.{Queues}
-use Rattle.msc_chart.specs.declared.queue.Queues.TheVariants.{Pair, Mailbox, Single}
+use Rattle.msc_chart.specs.declared.queue.LinkKind.{LinkKind}
+use Rattle.msc_chart.specs.declared.queue.LinkKind.TheVariants.{Pair, Mailbox, Single}
 use Rattle.msc_chart.specs.Lists.{occurs, until}
 use Rattle.msc_chart.specs.Events.{events_of, acts_of, instances_of}
 use Rattle.msc_chart.specs.Charts.{line, segment, kind, partner, message, is_output, is_input, is_local, is_controlled, before}
@@ -43,7 +43,7 @@ unfolding occurs until is_waiting is_output is_input is_local is_controlled befo
 two_senders_no_run run = eqb-false 0 3 refl (run.1.1.0.input refl)
 
 -- a coregion has no race, since its events are not drawn in an order
-pub coregion_none : (queues : Queues) → AreRaces (unordered queues) []
+pub coregion_none : (kind : LinkKind) → AreRaces (unordered kind) []
 unfolding occurs until is_waiting is_output is_input is_local is_controlled before line segment kind partner message queue queue_number sender_at receiver_at chart_events events_of acts_of instances_of
 coregion_none Pair = races_from _ (wired_from _ refl) [] [] tt tt refl
 coregion_none Mailbox = races_from _ (wired_from _ refl) [] [] tt tt refl
@@ -92,14 +92,14 @@ overtaking_enforced = (
 )
 
 -- so a run has them against the drawn order
-pub overtaking_run : (queues : Queues) → IsReversal (overtaken queues) (0 ∷ 1 ∷ 3 ∷ 2 ∷ []) 2 3
+pub overtaking_run : (kind : LinkKind) → IsReversal (overtaken kind) (0 ∷ 1 ∷ 3 ∷ 2 ∷ []) 2 3
 unfolding occurs until is_waiting is_output is_input is_local is_controlled before line segment kind partner message queue queue_number sender_at receiver_at chart_events events_of acts_of instances_of
 overtaking_run Pair = reversal_from _ _ 2 3 refl refl refl refl
 overtaking_run Mailbox = reversal_from _ _ 2 3 refl refl refl refl
 overtaking_run Single = reversal_from _ _ 2 3 refl refl refl refl
 
 -- and this is the only race
-pub overtaking_races : (queues : Queues) → AreRaces (overtaken queues) ((2, 3) ∷ [])
+pub overtaking_races : (kind : LinkKind) → AreRaces (overtaken kind) ((2, 3) ∷ [])
 unfolding occurs until is_waiting is_output is_input is_local is_controlled before line segment kind partner message queue queue_number sender_at receiver_at chart_events events_of acts_of instances_of
 overtaking_races Pair =
     races_from _ (wired_from _ refl) ((2, 3) ∷ []) ((0, 1) ∷ [])
@@ -112,21 +112,21 @@ overtaking_races Single =
     ((refl, (_, overtaking_run Single)), tt) (drawn refl refl, tt) refl
 
 -- of two messages that cross, the first may be taken before the other is sent
-pub crossing_a : (queues : Queues) → IsReversal (crossed queues) (2 ∷ 1 ∷ 0 ∷ 3 ∷ []) 0 1
+pub crossing_a : (kind : LinkKind) → IsReversal (crossed kind) (2 ∷ 1 ∷ 0 ∷ 3 ∷ []) 0 1
 unfolding occurs until is_waiting is_output is_input is_local is_controlled before line segment kind partner message queue queue_number sender_at receiver_at chart_events events_of acts_of instances_of
 crossing_a Pair = reversal_from _ _ 0 1 refl refl refl refl
 crossing_a Mailbox = reversal_from _ _ 0 1 refl refl refl refl
 crossing_a Single = reversal_from _ _ 0 1 refl refl refl refl
 
 -- and the other way round
-pub crossing_b : (queues : Queues) → IsReversal (crossed queues) (0 ∷ 3 ∷ 2 ∷ 1 ∷ []) 2 3
+pub crossing_b : (kind : LinkKind) → IsReversal (crossed kind) (0 ∷ 3 ∷ 2 ∷ 1 ∷ []) 2 3
 unfolding occurs until is_waiting is_output is_input is_local is_controlled before line segment kind partner message queue queue_number sender_at receiver_at chart_events events_of acts_of instances_of
 crossing_b Pair = reversal_from _ _ 2 3 refl refl refl refl
 crossing_b Mailbox = reversal_from _ _ 2 3 refl refl refl refl
 crossing_b Single = reversal_from _ _ 2 3 refl refl refl refl
 
 -- there is no third race
-pub crossing_races : (queues : Queues) → AreRaces (crossed queues) ((0, 1) ∷ (2, 3) ∷ [])
+pub crossing_races : (kind : LinkKind) → AreRaces (crossed kind) ((0, 1) ∷ (2, 3) ∷ [])
 unfolding occurs until is_waiting is_output is_input is_local is_controlled before line segment kind partner message queue queue_number sender_at receiver_at chart_events events_of acts_of instances_of
 crossing_races Pair =
     races_from _ (wired_from _ refl) ((0, 1) ∷ (2, 3) ∷ []) []

@@ -11,7 +11,7 @@ use Rattle.msc_chart.proofs.Moves.{IsMoved, moved_both, partner_here, to, to_dra
 use Rattle.msc_chart.proofs.UnrolledCharts.{HasRounds, queue_in}
 use Rattle.msc_chart.proofs.Unrolling.{order_moved}
 use Rattle.msc_ready.specs.BlockedPairs.{IsBlockedPair, HasNoBlockedPair}
-use Rattle.msc_ready.proofs.Repeating.UnrolledCharts.{input_at, message_known, output_of, queue_apart}
+use Rattle.msc_ready.proofs.Repeating.UnrolledCharts.{input_at, message_known, output_in, output_of, queue_apart}
 
 module _ {queues : Queues} {d : Drawing} (ready : ℕ → Bool) where
   -- a blocked pair is moved to a blocked pair
@@ -75,8 +75,8 @@ module _ {queues : Queues} {d : Drawing} (ready : ℕ → Bool) where
         let qx = (output_of a x ix).1 in
         let qy = (output_of a y iy).1 in
         let qz = (output_of a (next x) iz).1 ∙ ap (λ (e : ℕ). queue_in queues d (partner d.events e) (a.round_at (next x))) z.event in
-        let apart = queue_apart d queues (partner d.events (a.event_at x)) (partner d.events (a.event_at y)) (a.round_at x) (a.round_at y)
-        (message_known a x ix) (message_known a y iy) (omega (arith, far)) (sym qx ∙ blocked_pair.one_queue ∙ qy) in
+        let apart = queue_apart queues d a.accepted (partner d.events (a.event_at x)) (partner d.events (a.event_at y)) (a.round_at x) (a.round_at y)
+        (output_in a x ix) (output_in a y iy) (message_known a x ix) (message_known a y iy) (sym qx ∙ blocked_pair.one_queue ∙ qy) (omega (arith, far)) in
         record {
           after = a.drawn_so x (next x) p.0 z.within (sym (ap (line d.events) z.event), inl (omega (arith, step)));
           above = a.drawn_so (next x) y z.within p.1 (ap (line d.events) z.event ∙ up.0, inl (omega (arith, step, far)));
