@@ -325,9 +325,9 @@ fn sent(chart: &Chart, m: u32) -> Option<Sent> {
         return None;
     }
     let ends = (chart.output_of(m), chart.input_of(m));
-    let pair = chart.queue(m, Queues::Pair);
-    let mailbox = chart.queue(m, Queues::Mailbox);
-    let queues = [pair, mailbox, chart.queue(m, Queues::Single)];
+    let pair = chart.queue(m, Queues::PAIR);
+    let mailbox = chart.queue(m, Queues::MAILBOX);
+    let queues = [pair, mailbox, chart.queue(m, Queues::SINGLE)];
     Some(((ends.0, ends.1, chart.sender(m), chart.receiver(m)), queues))
 }
 

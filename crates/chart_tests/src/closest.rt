@@ -19,21 +19,21 @@ instance c; in k from b; endinstance; endmsc;";
 
 /// Charts, architectures, and the closest races.
 const CLOSEST: &[(&[u8], Queues, &[(Event, Event)])] = &[
-    (TWO_SENDERS, Queues::Pair, &[(1, 2)]),
-    (RELAY, Queues::Mailbox, &[]),
-    (OVERTAKING, Queues::Single, &[(2, 3)]),
-    (CROSSING, Queues::Pair, &[(0, 1), (2, 3)]),
-    (WAITS, Queues::Pair, &[(1, 2)]),
-    (TWO_MAILBOXES, Queues::Mailbox, &[(4, 5), (6, 7)]),
+    (TWO_SENDERS, Queues::PAIR, &[(1, 2)]),
+    (RELAY, Queues::MAILBOX, &[]),
+    (OVERTAKING, Queues::SINGLE, &[(2, 3)]),
+    (CROSSING, Queues::PAIR, &[(0, 1), (2, 3)]),
+    (WAITS, Queues::PAIR, &[(1, 2)]),
+    (TWO_MAILBOXES, Queues::MAILBOX, &[(4, 5), (6, 7)]),
     // The events of a coregion are adjacent to the events drawn above it and below it.
     (
         BELOW_COREGION,
-        Queues::Pair,
+        Queues::PAIR,
         &[(1, 2), (1, 3), (2, 4), (3, 4)],
     ),
     // The race (2, 4) spans (3, 4).
-    (OUTPUT_BETWEEN, Queues::Pair, &[(3, 4)]),
-    (OUTPUT_BETWEEN, Queues::Single, &[(3, 4)]),
+    (OUTPUT_BETWEEN, Queues::PAIR, &[(3, 4)]),
+    (OUTPUT_BETWEEN, Queues::SINGLE, &[(3, 4)]),
 ];
 
 /// The races of a listing, event by event.
@@ -110,7 +110,7 @@ type Counted = (u32, usize, Option<(Event, Event)>);
 
 /// The number of races and of closest races of a chart, and the first of these.
 fn counted(rt: &impl Host, chart: &Chart) -> Counted {
-    let enforced = Enforced::of(rt.alloc(), chart, Queues::Pair).expect(rt, "an order");
+    let enforced = Enforced::of(rt.alloc(), chart, Queues::PAIR).expect(rt, "an order");
     let all = enforced.count_races();
     let near = near_of(rt, enforced);
     (all, near.len(), near.first().copied())
@@ -140,7 +140,7 @@ fn one_accepted(rt: &impl Host) -> Pairs {
 /// The closest races of that chart without the accepted one.
 fn beside_the_accepted(rt: &impl Host) -> Vec<(Event, Event)> {
     let chart = chart_of(rt, OUTPUT_BETWEEN);
-    let enforced = Enforced::of(rt.alloc(), &chart, Queues::Pair).expect(rt, "an order");
+    let enforced = Enforced::of(rt.alloc(), &chart, Queues::PAIR).expect(rt, "an order");
     let pairs = one_accepted(rt);
     let left_out = LeftOut {
         kinds: KindSet::NONE,

@@ -37,25 +37,25 @@ instance b; in m3 from a; in m2 from a; in m1 from a; endinstance; endmsc;";
 
 /// Charts that can happen under these architectures, and their following runs.
 const FOLLOWED: &[(&[u8], Queues, &[Event])] = &[
-    (EMPTY, Queues::Mailbox, &[]),
-    (CROSSING, Queues::Pair, &[0, 2, 1, 3]),
-    (CROSSING, Queues::Mailbox, &[0, 2, 1, 3]),
-    (CROSSING, Queues::Single, &[0, 2, 1, 3]),
-    (TWO_SENDERS, Queues::Pair, &[0, 1, 3, 2]),
-    (TWO_SENDERS, Queues::Mailbox, &[0, 1, 3, 2]),
-    (RELAY, Queues::Mailbox, &[0, 1, 2, 4, 5, 3]),
-    (WAITS, Queues::Pair, &[0, 1, 2]),
-    (OVERTAKING, Queues::Single, &[0, 1, 2, 3]),
-    (TAKEN_TOGETHER, Queues::Pair, &[0, 1, 3, 2]),
-    (TAKEN_TOGETHER, Queues::Single, &[0, 1, 2, 3]),
-    (OWN_MESSAGE, Queues::Mailbox, &[0, 1, 3, 4, 2]),
-    (TWO_MAILBOXES, Queues::Mailbox, &[0, 2, 1, 3, 4, 5, 6, 7]),
-    (SECOND_BEFORE_FIRST, Queues::Pair, &[0, 1, 2, 3, 4, 5, 6, 7]),
-    (TWO_RINGS, Queues::Single, &[0, 1, 2, 3, 4, 5, 6, 7, 8]),
-    (REVERSED, Queues::Single, &[0, 1, 2, 3, 4, 5]),
+    (EMPTY, Queues::MAILBOX, &[]),
+    (CROSSING, Queues::PAIR, &[0, 2, 1, 3]),
+    (CROSSING, Queues::MAILBOX, &[0, 2, 1, 3]),
+    (CROSSING, Queues::SINGLE, &[0, 2, 1, 3]),
+    (TWO_SENDERS, Queues::PAIR, &[0, 1, 3, 2]),
+    (TWO_SENDERS, Queues::MAILBOX, &[0, 1, 3, 2]),
+    (RELAY, Queues::MAILBOX, &[0, 1, 2, 4, 5, 3]),
+    (WAITS, Queues::PAIR, &[0, 1, 2]),
+    (OVERTAKING, Queues::SINGLE, &[0, 1, 2, 3]),
+    (TAKEN_TOGETHER, Queues::PAIR, &[0, 1, 3, 2]),
+    (TAKEN_TOGETHER, Queues::SINGLE, &[0, 1, 2, 3]),
+    (OWN_MESSAGE, Queues::MAILBOX, &[0, 1, 3, 4, 2]),
+    (TWO_MAILBOXES, Queues::MAILBOX, &[0, 2, 1, 3, 4, 5, 6, 7]),
+    (SECOND_BEFORE_FIRST, Queues::PAIR, &[0, 1, 2, 3, 4, 5, 6, 7]),
+    (TWO_RINGS, Queues::SINGLE, &[0, 1, 2, 3, 4, 5, 6, 7, 8]),
+    (REVERSED, Queues::SINGLE, &[0, 1, 2, 3, 4, 5]),
     (
         ISDN_CALL,
-        Queues::Mailbox,
+        Queues::MAILBOX,
         &[
             0, 8, 9, 1, 10, 23, 24, 11, 12, 2, 25, 13, 14, 15, 3, 4, 5, 16, 17, 18, 6, 7, 19, 20,
             26, 27, 28, 21, 22, 29,
@@ -65,11 +65,11 @@ const FOLLOWED: &[(&[u8], Queues, &[Event])] = &[
 
 /// Charts that cannot happen under these architectures, and their rings.
 const NEVER: &[(&[u8], Queues, &[Event])] = &[
-    (OVERTAKING, Queues::Pair, &[0, 1]),
-    (OVERTAKING, Queues::Mailbox, &[0, 1]),
-    (SECOND_BEFORE_FIRST, Queues::Mailbox, &[0, 1, 2, 3]),
-    (TWO_RINGS, Queues::Pair, &[1, 2]),
-    (REVERSED, Queues::Mailbox, &[0, 1]),
+    (OVERTAKING, Queues::PAIR, &[0, 1]),
+    (OVERTAKING, Queues::MAILBOX, &[0, 1]),
+    (SECOND_BEFORE_FIRST, Queues::MAILBOX, &[0, 1, 2, 3]),
+    (TWO_RINGS, Queues::PAIR, &[1, 2]),
+    (REVERSED, Queues::MAILBOX, &[0, 1]),
 ];
 
 #[test]

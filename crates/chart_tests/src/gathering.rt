@@ -10,48 +10,48 @@ use msc_gather::{GatherFault, gather};
 const GATHERED: &[(&[u8], Queues, &[&[Event]], &[Event])] = &[
     (
         TWO_SENDERS,
-        Queues::Pair,
+        Queues::PAIR,
         &[&[0], &[1, 2], &[3]],
         &[0, 1, 3, 2],
     ),
     (
         TWO_SENDERS,
-        Queues::Pair,
+        Queues::PAIR,
         &[&[0], &[2, 1], &[3]],
         &[0, 3, 2, 1],
     ),
     (
         TWO_SENDERS,
-        Queues::Mailbox,
+        Queues::MAILBOX,
         &[&[0], &[2, 1], &[3]],
         &[3, 0, 2, 1],
     ),
     (
         TWO_SENDERS,
-        Queues::Mailbox,
+        Queues::MAILBOX,
         &[&[0], &[2], &[3]],
         &[3, 0, 2],
     ),
     (
         TWO_SENDERS,
-        Queues::Single,
+        Queues::SINGLE,
         &[&[0], &[2, 1], &[3]],
         &[0, 3, 2, 1],
     ),
-    (CROSSING, Queues::Pair, &[&[0, 1], &[2, 3]], &[0, 2, 1, 3]),
-    (CROSSING, Queues::Pair, &[&[1, 0], &[2, 3]], &[2, 1, 0, 3]),
-    (CROSSING, Queues::Pair, &[&[], &[]], &[]),
-    (RELAY, Queues::Mailbox, &[&[], &[], &[]], &[]),
-    (RELAY, Queues::Mailbox, &[&[0], &[2], &[]], &[0, 2]),
+    (CROSSING, Queues::PAIR, &[&[0, 1], &[2, 3]], &[0, 2, 1, 3]),
+    (CROSSING, Queues::PAIR, &[&[1, 0], &[2, 3]], &[2, 1, 0, 3]),
+    (CROSSING, Queues::PAIR, &[&[], &[]], &[]),
+    (RELAY, Queues::MAILBOX, &[&[], &[], &[]], &[]),
+    (RELAY, Queues::MAILBOX, &[&[0], &[2], &[]], &[0, 2]),
     (
         RELAY,
-        Queues::Mailbox,
+        Queues::MAILBOX,
         &[&[0, 1], &[2], &[4, 5]],
         &[0, 1, 2, 4, 5],
     ),
     (
         RELAY,
-        Queues::Mailbox,
+        Queues::MAILBOX,
         &[&[0, 1], &[2], &[4]],
         &[0, 1, 2, 4],
     ),
@@ -123,7 +123,7 @@ fn logs_of_runs(rt: HostRuntime) {
 #[test]
 fn logs_of_no_run(rt: HostRuntime) {
     for &logs in OF_NO_RUN {
-        let is = is_gathered(&rt, CROSSING, Queues::Pair, logs, None);
+        let is = is_gathered(&rt, CROSSING, Queues::PAIR, logs, None);
         assert!(rt; is, "{}", logs.len());
     }
 }

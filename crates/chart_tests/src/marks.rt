@@ -120,27 +120,27 @@ fn marks_of_texts(rt: HostRuntime) {
 /// The race of the handover is (4, 5). Comments of event 5, architectures, whether the race is
 /// accepted, and the events whose marks are stale.
 const ACCEPTED: &[(&[u8], Queues, bool, &[Event])] = &[
-    (b"'race ok with END_MARKER, 2: x'", Queues::Pair, true, &[]),
-    (b"'race ok with END_MARKER: x'", Queues::Pair, false, &[5]),
+    (b"'race ok with END_MARKER, 2: x'", Queues::PAIR, true, &[]),
+    (b"'race ok with END_MARKER: x'", Queues::PAIR, false, &[5]),
     (
         b"'race ok with A; END_MARKER, 2: x'",
-        Queues::Pair,
+        Queues::PAIR,
         true,
         &[],
     ),
     (
         b"'race ok with END_MARKER, 3: x'",
-        Queues::Pair,
+        Queues::PAIR,
         false,
         &[5],
     ),
-    (b"'race ok with 2: x'", Queues::Pair, false, &[5]),
-    (b"'race ok with DL_DATA: x'", Queues::Pair, false, &[5]),
-    (b"'race ok: x'", Queues::Mailbox, true, &[]),
-    (b"'race ok in mailbox: x'", Queues::Mailbox, true, &[]),
-    (b"'race ok in mailbox: x'", Queues::Pair, false, &[]),
-    (b"'race ok in single, pair: x'", Queues::Pair, true, &[]),
-    (b"'END_MARKER, 2'", Queues::Pair, false, &[]),
+    (b"'race ok with 2: x'", Queues::PAIR, false, &[5]),
+    (b"'race ok with DL_DATA: x'", Queues::PAIR, false, &[5]),
+    (b"'race ok: x'", Queues::MAILBOX, true, &[]),
+    (b"'race ok in mailbox: x'", Queues::MAILBOX, true, &[]),
+    (b"'race ok in mailbox: x'", Queues::PAIR, false, &[]),
+    (b"'race ok in single, pair: x'", Queues::PAIR, true, &[]),
+    (b"'END_MARKER, 2'", Queues::PAIR, false, &[]),
 ];
 
 /// Whether marks accept the race (4, 5) of a text, and which of them are stale.
@@ -176,19 +176,19 @@ const STALE: &[(&[u8], Queues, &[Event])] = &[
     (
         b"msc t; instance a; action 'x' comment 'race ok with m: y'; in m from b; endinstance; \
 instance b; out m to a comment 'race ok: z'; endinstance; endmsc;",
-        Queues::Pair,
+        Queues::PAIR,
         &[2],
     ),
     (
         b"msc t; instance a; action 'x'; in m from b comment 'race ok with action: y'; \
 endinstance; instance b; out m to a; endinstance; endmsc;",
-        Queues::Pair,
+        Queues::PAIR,
         &[],
     ),
     (
         b"msc t; instance a; action 'x'; in m from b comment 'race ok with m: y'; endinstance; \
 instance b; out m to a; endinstance; endmsc;",
-        Queues::Pair,
+        Queues::PAIR,
         &[1],
     ),
 ];

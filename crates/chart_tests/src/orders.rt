@@ -58,14 +58,14 @@ fn what_is_drawn_is_in_the_visual_order(rt: HostRuntime) {
 
 /// Texts, architectures, two events, and how the enforced order holds them.
 const ENFORCED: &[(&[u8], Queues, Event, Event, Held)] = &[
-    (OVERTAKING, Queues::Pair, 2, 3, (4, false, true)),
-    (OVERTAKING, Queues::Mailbox, 2, 3, (4, false, true)),
-    (OVERTAKING, Queues::Single, 2, 3, (4, false, false)),
-    (RELAY, Queues::Pair, 2, 3, (6, false, false)),
-    (RELAY, Queues::Mailbox, 2, 3, (6, true, false)),
-    (RELAY, Queues::Single, 2, 3, (6, false, false)),
-    (WAITS, Queues::Mailbox, 1, 2, (3, false, false)),
-    (LOCAL_EVENTS, Queues::Single, 2, 3, (4, true, false)),
+    (OVERTAKING, Queues::PAIR, 2, 3, (4, false, true)),
+    (OVERTAKING, Queues::MAILBOX, 2, 3, (4, false, true)),
+    (OVERTAKING, Queues::SINGLE, 2, 3, (4, false, false)),
+    (RELAY, Queues::PAIR, 2, 3, (6, false, false)),
+    (RELAY, Queues::MAILBOX, 2, 3, (6, true, false)),
+    (RELAY, Queues::SINGLE, 2, 3, (6, false, false)),
+    (WAITS, Queues::MAILBOX, 1, 2, (3, false, false)),
+    (LOCAL_EVENTS, Queues::SINGLE, 2, 3, (4, true, false)),
 ];
 
 #[test]
@@ -134,7 +134,7 @@ const ENFORCED_BY_MAILBOXES: &[(Event, Event)] = &[
 
 #[test]
 fn the_enforced_pairs_of_two_mailboxes(rt: HostRuntime) {
-    let queues = Queues::Mailbox;
+    let queues = Queues::MAILBOX;
     assert!(rt; are_enforced(&rt, TWO_MAILBOXES, queues, ENFORCED_BY_MAILBOXES));
 }
 
@@ -148,7 +148,7 @@ fn has_row(order: &Order, events: u32, e: Event, wanted: u64) -> bool
 /// Whether this word is an event's row of the enforced order of a text's chart under `Pair`.
 fn is_row(rt: &impl Host, text: &[u8], e: Event, wanted: u64) -> bool {
     let chart = chart_of(rt, text);
-    let order = Order::enforced(rt.alloc(), &chart, Queues::Pair).expect(rt, "an order");
+    let order = Order::enforced(rt.alloc(), &chart, Queues::PAIR).expect(rt, "an order");
     has_row(&order, chart.events(), e, wanted)
 }
 

@@ -30,7 +30,7 @@ fn are_races(rt: &impl Host, text: &[u8], queues: Queues, wanted: &[(Event, Even
 
 #[test]
 fn what_follows_the_queue_rule_is_enforced(rt: HostRuntime) {
-    assert!(rt; are_races(&rt, REPLY, Queues::Pair, &[(2, 4), (3, 4)]));
+    assert!(rt; are_races(&rt, REPLY, Queues::PAIR, &[(2, 4), (3, 4)]));
 }
 
 /// `count` messages from a to b, with the inputs in the same order or in reverse.
@@ -81,33 +81,33 @@ const MANY: &[(u32, bool, Queues, Summary)] = &[
     (
         32,
         true,
-        Queues::Pair,
+        Queues::PAIR,
         (496, Some((32, 33)), Some((62, 63))),
     ),
     (
         32,
         true,
-        Queues::Mailbox,
+        Queues::MAILBOX,
         (496, Some((32, 33)), Some((62, 63))),
     ),
     (
         33,
         true,
-        Queues::Pair,
+        Queues::PAIR,
         (528, Some((33, 34)), Some((64, 65))),
     ),
     (
         33,
         true,
-        Queues::Mailbox,
+        Queues::MAILBOX,
         (528, Some((33, 34)), Some((64, 65))),
     ),
-    (1_024, false, Queues::Pair, (0, None, None)),
-    (1_024, false, Queues::Mailbox, (0, None, None)),
+    (1_024, false, Queues::PAIR, (0, None, None)),
+    (1_024, false, Queues::MAILBOX, (0, None, None)),
     (
         1_024,
         false,
-        Queues::Single,
+        Queues::SINGLE,
         (523_776, Some((1_024, 1_025)), Some((2_046, 2_047))),
     ),
 ];

@@ -37,24 +37,24 @@ type Said<'a> = ((Event, Event), Option<(Event, Event)>, &'a [Event]);
 
 /// Charts, architectures, whether some run is whole, and their blocked pairs.
 const STICKS: &[(&[u8], Queues, bool, &[Said])] = &[
-    (EMPTY, Queues::Mailbox, true, &[]),
-    (TWO_SENDERS, Queues::Pair, true, &[]),
+    (EMPTY, Queues::MAILBOX, true, &[]),
+    (TWO_SENDERS, Queues::PAIR, true, &[]),
     (
         TWO_SENDERS,
-        Queues::Mailbox,
+        Queues::MAILBOX,
         true,
         &[((1, 2), None, &[3, 0])],
     ),
-    (COREGION, Queues::Mailbox, true, &[]),
-    (RELAY, Queues::Mailbox, true, &[]),
-    (CROSSING, Queues::Mailbox, true, &[]),
-    (NUMBERED, Queues::Pair, true, &[]),
-    (WAITS, Queues::Mailbox, true, &[]),
+    (COREGION, Queues::MAILBOX, true, &[]),
+    (RELAY, Queues::MAILBOX, true, &[]),
+    (CROSSING, Queues::MAILBOX, true, &[]),
+    (NUMBERED, Queues::PAIR, true, &[]),
+    (WAITS, Queues::MAILBOX, true, &[]),
     // The message that was sent first is drawn below the other: no run is whole.
-    (OVERTAKING, Queues::Pair, false, &[((2, 3), None, &[0, 1])]),
+    (OVERTAKING, Queues::PAIR, false, &[((2, 3), None, &[0, 1])]),
     (
         TWO_MAILBOXES,
-        Queues::Mailbox,
+        Queues::MAILBOX,
         true,
         &[
             ((4, 5), None, &[2, 3, 0, 1, 6, 7]),
@@ -63,14 +63,14 @@ const STICKS: &[(&[u8], Queues, bool, &[Said])] = &[
     ),
     (
         CANCEL_OVERTAKES,
-        Queues::Mailbox,
+        Queues::MAILBOX,
         true,
         &[((5, 6), None, &[0, 1, 3, 4])],
     ),
-    (CANCEL_OVERTAKES, Queues::Pair, true, &[]),
+    (CANCEL_OVERTAKES, Queues::PAIR, true, &[]),
     (
         TWO_PHASE_COMMIT,
-        Queues::Mailbox,
+        Queues::MAILBOX,
         true,
         &[
             ((2, 3), None, &[0, 1, 12, 13, 8, 9]),
@@ -79,7 +79,7 @@ const STICKS: &[(&[u8], Queues, bool, &[Said])] = &[
     ),
     (
         OWN_MESSAGE,
-        Queues::Mailbox,
+        Queues::MAILBOX,
         true,
         &[((1, 2), None, &[3, 4, 0])],
     ),
@@ -150,8 +150,8 @@ fn blocked_pairs_and_their_runs(rt: HostRuntime) {
 #[test]
 fn single_never_sticks(rt: HostRuntime) {
     for &(text, _, _, _) in STICKS {
-        let are = are_blocked_pairs(&rt, &chart_of(&rt, text), Queues::Single, true, &[]);
-        assert!(rt; are, "{:?}", Queues::Single);
+        let are = are_blocked_pairs(&rt, &chart_of(&rt, text), Queues::SINGLE, true, &[]);
+        assert!(rt; are, "{:?}", Queues::SINGLE);
     }
 }
 
@@ -189,7 +189,7 @@ fn are_some(
     lines: &[bool],
     wanted: (&[(Event, Event)], &[(Event, Event)]),
 ) -> bool {
-    let ready = Ready::some(rt.alloc(), chart, Queues::Mailbox, list_of(rt, lines));
+    let ready = Ready::some(rt.alloc(), chart, Queues::MAILBOX, list_of(rt, lines));
     let blocked_pairs = BlockedPairs::of(rt.alloc(), ready.expect(rt, "an order")).expect(
         rt, "memory",
     );
@@ -219,7 +219,7 @@ const STREAMS: &[Part] = &[
 /// The number of blocked pairs of a chart of mailboxes, whether another blocked pair is ahead of
 /// the last one, and the length of the run of the first.
 fn summary(rt: &impl Host, chart: &Chart) -> (u32, Option<(Event, Event)>, usize) {
-    let ready = Ready::all(rt.alloc(), chart, Queues::Mailbox).expect(rt, "an order");
+    let ready = Ready::all(rt.alloc(), chart, Queues::MAILBOX).expect(rt, "an order");
     let blocked_pairs = BlockedPairs::of(rt.alloc(), ready).expect(rt, "memory");
     if blocked_pairs.ready().events() != 2_048 || !blocked_pairs.is_first(512, 1_024) {
         return (0, None, 0);

@@ -14,19 +14,19 @@ endinstance; instance b; action 'go'; out m2 to a; endinstance; endmsc;";
 /// Charts, architectures, and the blocked pairs from the first round of two to the second, by the
 /// events of the chart.
 const BETWEEN: &[(&[u8], Queues, &[(Event, Event)])] = &[
-    (EMPTY, Queues::Mailbox, &[]),
-    (TWO_SENDERS, Queues::Pair, &[]),
-    (TWO_SENDERS, Queues::Mailbox, &[(1, 2), (2, 1)]),
-    (COREGION, Queues::Mailbox, &[(1, 2), (2, 1)]),
-    (RELAY, Queues::Mailbox, &[(3, 2)]),
-    (CROSSING, Queues::Mailbox, &[]),
-    (OVERTAKING, Queues::Pair, &[]),
+    (EMPTY, Queues::MAILBOX, &[]),
+    (TWO_SENDERS, Queues::PAIR, &[]),
+    (TWO_SENDERS, Queues::MAILBOX, &[(1, 2), (2, 1)]),
+    (COREGION, Queues::MAILBOX, &[(1, 2), (2, 1)]),
+    (RELAY, Queues::MAILBOX, &[(3, 2)]),
+    (CROSSING, Queues::MAILBOX, &[]),
+    (OVERTAKING, Queues::PAIR, &[]),
     (
         TWO_MAILBOXES,
-        Queues::Mailbox,
+        Queues::MAILBOX,
         &[(4, 5), (5, 4), (6, 7), (7, 6)],
     ),
-    (OWN_MESSAGE, Queues::Mailbox, &[(1, 2)]),
+    (OWN_MESSAGE, Queues::MAILBOX, &[(1, 2)]),
 ];
 
 /// Whether a pair of events of two rounds consists of these events of the chart, the first in the
@@ -77,7 +77,7 @@ fn blocked_pairs_between_two_rounds(rt: HostRuntime) {
 #[test]
 fn single_never_sticks_between_rounds(rt: HostRuntime) {
     for &(text, _, _) in BETWEEN {
-        let (all, count) = between(&rt, &chart_of(&rt, text), Queues::Single);
+        let (all, count) = between(&rt, &chart_of(&rt, text), Queues::SINGLE);
         assert!(rt; all.is_empty() && count == 0, "{text:?}");
     }
 }

@@ -9,15 +9,15 @@ use msc_race::Enforced;
 
 /// Texts, architectures, two events of the chart, and the run that reverses them, if there is one.
 const REVERSED: &[(&[u8], Queues, Event, Event, Option<&[Event]>)] = &[
-    (TWO_SENDERS, Queues::Pair, 3, 0, Some(&[0, 1, 3, 2])),
-    (TWO_SENDERS, Queues::Mailbox, 3, 0, Some(&[0, 1, 3, 2])),
-    (COREGION, Queues::Pair, 1, 2, Some(&[0, 3, 2, 1])),
-    (COREGION, Queues::Pair, 2, 1, Some(&[0, 1, 3, 2])),
-    (COREGION, Queues::Mailbox, 1, 2, Some(&[3, 0, 2, 1])),
-    (COREGION, Queues::Mailbox, 2, 1, Some(&[0, 1, 3, 2])),
+    (TWO_SENDERS, Queues::PAIR, 3, 0, Some(&[0, 1, 3, 2])),
+    (TWO_SENDERS, Queues::MAILBOX, 3, 0, Some(&[0, 1, 3, 2])),
+    (COREGION, Queues::PAIR, 1, 2, Some(&[0, 3, 2, 1])),
+    (COREGION, Queues::PAIR, 2, 1, Some(&[0, 1, 3, 2])),
+    (COREGION, Queues::MAILBOX, 1, 2, Some(&[3, 0, 2, 1])),
+    (COREGION, Queues::MAILBOX, 2, 1, Some(&[0, 1, 3, 2])),
     // A message goes from 0 to 1, and no event comes before itself.
-    (TWO_SENDERS, Queues::Pair, 0, 1, None),
-    (TWO_SENDERS, Queues::Pair, 2, 2, None),
+    (TWO_SENDERS, Queues::PAIR, 0, 1, None),
+    (TWO_SENDERS, Queues::PAIR, 2, 2, None),
 ];
 
 /// Whether the chart has both events, and this is the run that reverses them, if there is one.

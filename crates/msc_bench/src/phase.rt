@@ -30,10 +30,10 @@ pub fn phase_of(word: &str) -> Option<Phase> {
         "parse" => Some(Phase::Parse),
         "build" => Some(Phase::Build),
         "visual" => Some(Phase::FromChart(Step::Visual)),
-        "enforced-pair" => Some(Phase::FromChart(Step::Enforced(Queues::Pair))),
-        "enforced-mailbox" => Some(Phase::FromChart(Step::Enforced(Queues::Mailbox))),
-        "races-pair" => Some(Phase::FromChart(Step::Races(Queues::Pair))),
-        "races-mailbox" => Some(Phase::FromChart(Step::Races(Queues::Mailbox))),
+        "enforced-pair" => Some(Phase::FromChart(Step::Enforced(Queues::PAIR))),
+        "enforced-mailbox" => Some(Phase::FromChart(Step::Enforced(Queues::MAILBOX))),
+        "races-pair" => Some(Phase::FromChart(Step::Races(Queues::PAIR))),
+        "races-mailbox" => Some(Phase::FromChart(Step::Races(Queues::MAILBOX))),
         _ => None,
     }
 }

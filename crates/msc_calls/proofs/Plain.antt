@@ -22,7 +22,8 @@ use Rattle.msc_judge.specs.Findings.{answer_text, findings, findings_from, headi
 use Rattle.msc_judge.specs.declared.marking.Marking.{Marking}
 use Rattle.msc_judge.specs.declared.options.CheckOptions.{CheckOptions}
 use Rattle.msc_report.specs.Lines.{finding_text}
-use Rattle.msc_report.specs.Verdicts.{head_text, race_text, run_line}
+use Rattle.msc_report.specs.Heads.{head_text}
+use Rattle.msc_report.specs.Verdicts.{race_text, run_line}
 use Rattle.msc_calls.proofs.Shown.{race_and_run}
 use Rattle.msc_calls.proofs.Told.{checked_told}
 use Rattle.msc_calls.specs.Checking.{checked_text, races_text, shown_text, unshown_text}

@@ -4,7 +4,7 @@ use Rattle.std.proofs.lemmas.Bool.{ne_eqb}
 use Rattle.msc_chart.specs.declared.queue.Queues.{Queues}
 use Rattle.msc_chart.specs.Drawings.{Drawing}
 use Rattle.msc_race.specs.Races.{verdict_of}
-use Rattle.msc_report.specs.Verdicts.{head_text, verdict_text}
+use Rattle.msc_report.specs.Heads.{head_text, verdict_text}
 use Rattle.msc_calls.specs.Checking.{checked_text, passes, races_of, races_text}
 
 -- its races are those of the list

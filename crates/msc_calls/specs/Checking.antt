@@ -19,7 +19,8 @@ use Rattle.msc_judge.specs.Findings.{AreWitness}
 use Rattle.msc_print.specs.Pages.{WritesBeginning}
 use Rattle.msc_report.specs.declared.fault.Fault.{Fault}
 use Rattle.msc_report.specs.declared.fault.Fault.TheVariants.{Chart, Memory}
-use Rattle.msc_report.specs.Verdicts.{verdict_text, race_text}
+use Rattle.msc_report.specs.Heads.{verdict_text}
+use Rattle.msc_report.specs.Verdicts.{race_text}
 
 -- whether a verdict is `pass`
 abbrev pub passes : Verdict → Bool

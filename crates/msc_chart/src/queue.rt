@@ -60,7 +60,7 @@ const ALL_LINKS: [u64; LINK_WORDS] = [u64::MAX; LINK_WORDS];
 const NO_LINKS: [u64; LINK_WORDS] = [0; LINK_WORDS];
 
 /// A kind for each link, and the kind of those that no rule names.
-#[derive(Clone, Copy)]
+#[derive(Clone, Copy, Debug)]
 pub struct Links {
     usual: LinkKind,
     /// The links of the kind `Pair`.
@@ -129,7 +129,7 @@ impl Links {
 }
 
 /// The architecture of the queues between the instances: a kind for each link.
-#[derive(Clone, Copy)]
+#[derive(Clone, Copy, Debug)]
 pub enum Queues {
     /// All links have this kind.
     Uniform(LinkKind),
@@ -138,6 +138,15 @@ pub enum Queues {
 }
 
 impl Queues {
+    /// Each link has a queue.
+    pub const PAIR: Queues = Queues::Uniform(LinkKind::Pair);
+
+    /// Each receiver has a mailbox.
+    pub const MAILBOX: Queues = Queues::Uniform(LinkKind::Mailbox);
+
+    /// Each message has a queue.
+    pub const SINGLE: Queues = Queues::Uniform(LinkKind::Single);
+
     /// The kind of the links that no rule names.
     pub fn usual(&self) -> LinkKind
         ensures { result ≡ usual_of self.now }

@@ -58,6 +58,7 @@ module _ {W : Type 0} (contents : W → Option (List ℕ)) (x : ScenarioArgs) (f
     spent_block (refusals.Pair f) old new spent does = absurd cc
     spent_block (refusals.Mark f) old new spent does = absurd cc
     spent_block (refusals.Instance name) old new spent does = absurd cc
+    spent_block (refusals.Link fault) old new spent does = absurd cc
     spent_block (refusals.Rounds f) old new spent does = absurd cc
     spent_block (refusals.Import e) old new spent does = absurd cc
 
@@ -73,6 +74,7 @@ module _ {W : Type 0} (contents : W → Option (List ℕ)) (x : ScenarioArgs) (f
     refused_block (refusals.Pair f) old new refused does = does
     refused_block (refusals.Mark f) old new refused does = does
     refused_block (refusals.Instance name) old new refused does = does
+    refused_block (refusals.Link fault) old new refused does = does
     refused_block (refusals.Rounds f) old new refused does = does
     refused_block (refusals.Import e) old new refused does = does
 
@@ -180,6 +182,7 @@ module _ {W : Type 0} (contents : W → Option (List ℕ)) (x : ScenarioArgs) (f
       failed_so_far (refusals.Pair f) old mid new so does = absurd does.0
       failed_so_far (refusals.Mark f) old mid new so does = absurd does.0
       failed_so_far (refusals.Instance name) old mid new so does = absurd does.0
+      failed_so_far (refusals.Link fault) old mid new so does = absurd does.0
       failed_so_far (refusals.Rounds f) old mid new so does = absurd does.0
       failed_so_far (refusals.Import e) old mid new so does = absurd does.0
 

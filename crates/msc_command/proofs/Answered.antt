@@ -35,11 +35,13 @@ use Rattle.msc_command.specs.declared.ending.Status.{Status}
 use Rattle.msc_command.specs.declared.tasks.ChartCommand.{ChartCommand}
 use Rattle.msc_command.specs.declared.tasks.ChartCommand.TheVariants as chart_commands
 use Rattle.msc_command.specs.declared.tasks.CheckArgs.{CheckArgs}
+use Rattle.msc_command.specs.declared.tasks.LinkWords.{LinkWords}
 use Rattle.msc_command.specs.declared.tasks.Task.{Task}
 use Rattle.msc_command.specs.declared.tasks.Task.TheVariants as tasks
-use Rattle.msc_command.specs.Answering.{Answers, AnswersOf, AnswersWith, Delivers, Does, EndsAs, IsPut, Performs, Prints, PrintsOf, Refuses, RefusesOf, TellsQuietly}
+use Rattle.msc_command.specs.Answering.{Answers, AnswersOf, AnswersWith, Delivers, Does, EndsAs, IsPut, Performs, Prints, PrintsLinked, PrintsOf, Refuses, RefusesLinked, RefusesOf, TellsQuietly}
 use Rattle.msc_command.specs.Ending.{ended_by, of_marks, of_rounds}
 use Rattle.msc_command.specs.Formats.{IsFormat}
+use Rattle.msc_command.specs.Linked.{under, usual_in, AreLinked, IsLinked}
 use Rattle.msc_command.specs.Marked.{AreMarked, ReadsMarks}
 use Rattle.msc_command.specs.Readied.{names_of, AreReady}
 use Rattle.msc_command.specs.Rounds.{AreRounds, GivesRounds, HasRoom}
@@ -117,6 +119,7 @@ module _ {W : Type 0} (contents : W → Option (List ℕ)) where
   refused_so prints so begins begun refuses not_so starts wrong (refusals.Pair f) old new (fails, same) = (wrong _ fails, same)
   refused_so prints so begins begun refuses not_so starts wrong (refusals.Mark f) old new (fails, same) = (wrong _ fails, same)
   refused_so prints so begins begun refuses not_so starts wrong (refusals.Instance name) old new (fails, same) = (wrong _ fails, same)
+  refused_so prints so begins begun refuses not_so starts wrong (refusals.Link fault) old new (fails, same) = (wrong _ fails, same)
   refused_so prints so begins begun refuses not_so starts wrong (refusals.Rounds f) old new (fails, same) = (wrong _ fails, same)
   refused_so prints so begins begun refuses not_so starts wrong (refusals.Import e) old new (fails, same) = (wrong _ fails, same)
 
@@ -224,6 +227,7 @@ module _ {W : Type 0} (contents : W → Option (List ℕ)) where
   told_quietly x file s (Err (refusals.Pair f)) now says = absurd says
   told_quietly x file s (Err (refusals.Mark f)) now says = (says, refl)
   told_quietly x file s (Err (refusals.Instance name)) now says = absurd says
+  told_quietly x file s (Err (refusals.Link fault)) now says = absurd says
   told_quietly x file s (Err (refusals.Rounds f)) now says = (says, refl)
   told_quietly x file s (Err (refusals.Import e)) now says = absurd says
 
@@ -243,11 +247,11 @@ module _ {W : Type 0} (contents : W → Option (List ℕ)) where
     no_draft sources.Memory now said = inl refl
 
     -- and one without a chart
-    pub no_chart : (ask : ChartCommand) (f : SourceFault) (now : W) → reading.Refuses MscPr text f
-        → Does contents (tasks.Chart ask) file text (Err (refusals.Fault (of_source f))) now now
-    no_chart ask (sources.Parse f) now has = (has, refl)
-    no_chart ask (sources.Chart f) now has = (has, refl)
-    no_chart ask sources.Memory now said = inl refl
+    pub no_chart : (ask : ChartCommand) (words : LinkWords) (f : SourceFault) (now : W) → reading.Refuses MscPr text f
+        → Does contents (tasks.Chart ask words) file text (Err (refusals.Fault (of_source f))) now now
+    no_chart ask words (sources.Parse f) now has = (has, refl)
+    no_chart ask words (sources.Chart f) now has = (has, refl)
+    no_chart ask words sources.Memory now said = inl refl
 
     -- a draft that was not written to its end is answered so
     pub not_written : (f : WriteFault) (old new : W) → (f ≢ writing.Device → new ≡ old)
@@ -256,36 +260,80 @@ module _ {W : Type 0} (contents : W → Option (List ℕ)) where
     not_written writing.Device old new same = tt
 
     -- what is refused of a chart is refused of its text
-    refuses_so : (d : Drawing) → IsChartOf text d → (ask : ChartCommand) (r : Refusal) → RefusesOf ask (source_text MscPr text d) r → Refuses (tasks.Chart ask) text r
-    refuses_so d of_text ask (refusals.Fault (Parse f)) fails = absurd fails
-    refuses_so d of_text ask (refusals.Fault (Chart f)) fails = absurd fails
-    refuses_so d of_text ask (refusals.Fault (NotStarted i)) fails = (d, of_text, fails)
-    refuses_so d of_text ask (refusals.Fault Memory) fails = absurd fails
-    refuses_so d of_text ask (refusals.Fault Device) fails = absurd fails
-    refuses_so d of_text ask (refusals.Pair f) fails = (d, of_text, fails)
-    refuses_so d of_text ask (refusals.Mark f) fails = (d, of_text, fails)
-    refuses_so d of_text ask (refusals.Instance name) fails = (d, of_text, fails)
-    refuses_so d of_text ask (refusals.Rounds f) fails = (d, of_text, fails)
-    refuses_so d of_text ask (refusals.Import e) fails = absurd fails
+    refuses_so : (d : Drawing) → IsChartOf text d → (ask : ChartCommand) (words : LinkWords) (r : Refusal)
+        → RefusesLinked ask words (source_text MscPr text d) r → Refuses (tasks.Chart ask words) text r
+    refuses_so d of_text ask words (refusals.Fault (Parse f)) fails = absurd fails.2
+    refuses_so d of_text ask words (refusals.Fault (Chart f)) fails = absurd fails.2
+    refuses_so d of_text ask words (refusals.Fault (NotStarted i)) fails = (d, of_text, fails)
+    refuses_so d of_text ask words (refusals.Fault Memory) fails = absurd fails.2
+    refuses_so d of_text ask words (refusals.Fault Device) fails = absurd fails.2
+    refuses_so d of_text ask words (refusals.Pair f) fails = (d, of_text, fails)
+    refuses_so d of_text ask words (refusals.Mark f) fails = (d, of_text, fails)
+    refuses_so d of_text ask words (refusals.Instance name) fails = (d, of_text, fails)
+    refuses_so d of_text ask words (refusals.Link fault) fails = (d, of_text, fails)
+    refuses_so d of_text ask words (refusals.Rounds f) fails = (d, of_text, fails)
+    refuses_so d of_text ask words (refusals.Import e) fails = absurd fails.2
 
     -- what was answered of a chart was answered of its text
-    charted_at : (d : Drawing) → IsChartOf text d → (ask : ChartCommand) (answer : Result Status Refusal) (old new : W)
-        → AnswersOf contents ask file (source_text MscPr text d) answer old new → Does contents (tasks.Chart ask) file text answer old new
-    charted_at d of_text ask answer old new said =
-        answers_so (PrintsOf ask file (source_text MscPr text d)) (Prints (tasks.Chart ask) file text)
-        (RefusesOf ask (source_text MscPr text d)) (Refuses (tasks.Chart ask) text)
-        (λ status printed says. (d, of_text, says)) (refuses_so d of_text ask) answer old new said
+    charted_at : (d : Drawing) → IsChartOf text d → (ask : ChartCommand) (words : LinkWords) (answer : Result Status Refusal) (old new : W)
+        → Answers contents (PrintsLinked ask words file (source_text MscPr text d)) (RefusesLinked ask words (source_text MscPr text d)) answer old new
+        → Does contents (tasks.Chart ask words) file text answer old new
+    charted_at d of_text ask words answer old new said =
+        answers_so (PrintsLinked ask words file (source_text MscPr text d)) (Prints (tasks.Chart ask words) file text)
+        (RefusesLinked ask words (source_text MscPr text d)) (Refuses (tasks.Chart ask words) text)
+        (λ status printed says. (d, of_text, says)) (refuses_so d of_text ask words) answer old new said
 
     -- the same of a source of the text
     pub charted : (s : SourceText) → s.language ≡ MscPr → s.text ≡ text → IsChartOf text s.chart
-        → (ask : ChartCommand) (answer : Result Status Refusal) (old new : W)
-        → AnswersOf contents ask file s answer old new → Does contents (tasks.Chart ask) file text answer old new
-    charted s language_is text_is of_text ask answer old new said =
+        → (ask : ChartCommand) (words : LinkWords) (answer : Result Status Refusal) (old new : W)
+        → Answers contents (PrintsLinked ask words file s) (RefusesLinked ask words s) answer old new
+        → Does contents (tasks.Chart ask words) file text answer old new
+    charted s language_is text_is of_text ask words answer old new said =
         let same : s ≡ source_text MscPr text s.chart =
         subst (λ (l : Language). s ≡ source_text l text s.chart) language_is
         (subst (λ (t : List ℕ). s ≡ source_text s.language t s.chart) text_is refl) in
-        charted_at s.chart of_text ask answer old new
-        (subst (λ (s' : SourceText). AnswersOf contents ask file s' answer old new) same said)
+        charted_at s.chart of_text ask words answer old new
+        (subst (λ (s' : SourceText). Answers contents (PrintsLinked ask words file s') (RefusesLinked ask words s') answer old new) same said)
+
+  module _ (ask : ChartCommand) (words : LinkWords) (file : List ℕ) (s : SourceText) where
+    -- words that give no queues are answered so
+    pub not_linked : (r : Refusal) (now : W) → IsLinked (usual_in ask) words s.chart (Err r)
+        → Answers contents (PrintsLinked ask words file s) (RefusesLinked ask words s) (Err r) now now
+    not_linked (refusals.Fault (Parse f)) now said = absurd said
+    not_linked (refusals.Fault (Chart f)) now said = absurd said
+    not_linked (refusals.Fault (NotStarted i)) now said = absurd said
+    not_linked (refusals.Fault Memory) now said = inl refl
+    not_linked (refusals.Fault Device) now said = absurd said
+    not_linked (refusals.Pair f) now said = absurd said
+    not_linked (refusals.Mark f) now said = absurd said
+    not_linked (refusals.Instance name) now said = absurd said
+    not_linked (refusals.Link fault) now said = (said, refl)
+    not_linked (refusals.Rounds f) now said = absurd said
+    not_linked (refusals.Import e) now said = absurd said
+
+    module _ (queues : Queues) (linked : AreLinked (usual_in ask) words s.chart queues) where
+      -- what is refused under these queues
+      refused_under : (r : Refusal) → RefusesOf (under queues ask) s r → RefusesLinked ask words s r
+      refused_under (refusals.Fault (Parse f)) fails = absurd fails
+      refused_under (refusals.Fault (Chart f)) fails = absurd fails
+      refused_under (refusals.Fault (NotStarted i)) fails = (queues, linked, fails)
+      refused_under (refusals.Fault Memory) fails = absurd fails
+      refused_under (refusals.Fault Device) fails = absurd fails
+      refused_under (refusals.Pair f) fails = (queues, linked, fails)
+      refused_under (refusals.Mark f) fails = (queues, linked, fails)
+      refused_under (refusals.Instance name) fails = (queues, linked, fails)
+      refused_under (refusals.Link fault) fails = absurd fails
+      refused_under (refusals.Rounds f) fails = (queues, linked, fails)
+      refused_under (refusals.Import e) fails = absurd fails
+
+      -- what was answered under these queues
+      pub answered_under : (answer : Result Status Refusal) (old new : W)
+          → AnswersOf contents (under queues ask) file s answer old new
+          → Answers contents (PrintsLinked ask words file s) (RefusesLinked ask words s) answer old new
+      answered_under answer old new said =
+          answers_so (PrintsOf (under queues ask) file s) (PrintsLinked ask words file s)
+          (RefusesOf (under queues ask) s) (RefusesLinked ask words s)
+          (λ status printed says. (queues, linked, says)) refused_under answer old new said
 
   -- an answer that went out is kept by a flush
   pub flushed : (task : Task) (file text : List ℕ) (status : Status) (old mid new : W)
@@ -305,6 +353,7 @@ module _ {W : Type 0} (contents : W → Option (List ℕ)) where
     spent_so (refusals.Pair f) old new spent does = absurd cc
     spent_so (refusals.Mark f) old new spent does = absurd cc
     spent_so (refusals.Instance name) old new spent does = absurd cc
+    spent_so (refusals.Link fault) old new spent does = absurd cc
     spent_so (refusals.Rounds f) old new spent does = absurd cc
     spent_so (refusals.Import e) old new spent does = absurd cc
 
@@ -318,6 +367,7 @@ module _ {W : Type 0} (contents : W → Option (List ℕ)) where
     untouched (refusals.Pair f) old new refused does = does.1
     untouched (refusals.Mark f) old new refused does = does.1
     untouched (refusals.Instance name) old new refused does = does.1
+    untouched (refusals.Link fault) old new refused does = does.1
     untouched (refusals.Rounds f) old new refused does = does.1
     untouched (refusals.Import e) old new refused does = does.1
 
@@ -332,6 +382,7 @@ module _ {W : Type 0} (contents : W → Option (List ℕ)) where
     told_so (refusals.Pair f) old mid new refused does tells = (does.0, tells)
     told_so (refusals.Mark f) old mid new refused does tells = (does.0, tells)
     told_so (refusals.Instance name) old mid new refused does tells = (does.0, tells)
+    told_so (refusals.Link fault) old mid new refused does tells = (does.0, tells)
     told_so (refusals.Rounds f) old mid new refused does tells = (does.0, tells)
     told_so (refusals.Import e) old mid new refused does tells = (does.0, tells)
 

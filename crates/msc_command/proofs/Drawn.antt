@@ -54,6 +54,7 @@ module _ {W : Type 0} (contents : W → Option (List ℕ)) (file text : List ℕ
   refuses_drawn d of_text (Run x) (refusals.Pair f) fails = (d, of_text, fails)
   refuses_drawn d of_text (Run x) (refusals.Mark f) fails = absurd fails
   refuses_drawn d of_text (Run x) (refusals.Instance name) fails = absurd fails
+  refuses_drawn d of_text (Run x) (refusals.Link fault) fails = absurd fails
   refuses_drawn d of_text (Run x) (refusals.Rounds f) fails = absurd fails
   refuses_drawn d of_text (Run x) (refusals.Import e) fails = absurd fails
 
@@ -88,5 +89,6 @@ undrawn contents drawn draft s (refusals.Fault (NotStarted i)) now fails = (fail
 undrawn contents drawn draft s (refusals.Pair f) now fails = (fails, refl)
 undrawn contents drawn draft s (refusals.Mark f) now fails = (fails, refl)
 undrawn contents drawn draft s (refusals.Instance name) now fails = (fails, refl)
+undrawn contents drawn draft s (refusals.Link fault) now fails = (fails, refl)
 undrawn contents drawn draft s (refusals.Rounds f) now fails = (fails, refl)
 undrawn contents drawn draft s (refusals.Import e) now fails = (fails, refl)

@@ -96,7 +96,9 @@ module _ {W : Type 0} (contents : W → Option (List ℕ)) where
   tells task file reads (Err (refusals.Mark f)) old new (inl (text, read, (refused, told))) = refused_told (format_of task) file text (refusals.Mark f) old new told
   tells task file reads (Err (refusals.Mark f)) old new (inr (never, same)) = absurd never
   tells task file reads (Err (refusals.Instance name)) old new (inl (text, read, (refused, told))) = refused_told (format_of task) file text (refusals.Instance name) old new told
+  tells task file reads (Err (refusals.Link fault)) old new (inl (text, read, (refused, told))) = refused_told (format_of task) file text (refusals.Link fault) old new told
   tells task file reads (Err (refusals.Instance name)) old new (inr (never, same)) = absurd never
+  tells task file reads (Err (refusals.Link fault)) old new (inr (never, same)) = absurd never
   tells task file reads (Err (refusals.Rounds f)) old new (inl (text, read, (refused, told))) = refused_told (format_of task) file text (refusals.Rounds f) old new told
   tells task file reads (Err (refusals.Rounds f)) old new (inr (never, same)) = absurd never
   tells task file reads (Err (refusals.Import e)) old new (inl (text, read, (refused, told))) = refused_told (format_of task) file text (refusals.Import e) old new told

@@ -61,6 +61,7 @@ module _ (x : ImportArgs) (text file : List ℕ) where
   not_on_page (refusals.Pair f) said = absurd said
   not_on_page (refusals.Mark f) said = absurd said
   not_on_page (refusals.Instance name) said = absurd said
+  not_on_page (refusals.Link fault) said = absurd said
   not_on_page (refusals.Rounds f) said = absurd said
 
   -- the page of what was imported
@@ -75,6 +76,7 @@ module _ (x : ImportArgs) (text file : List ℕ) where
   on_page charts is (Err (refusals.Pair f)) of_text said = absurd said
   on_page charts is (Err (refusals.Mark f)) of_text said = absurd said
   on_page charts is (Err (refusals.Instance name)) of_text said = absurd said
+  on_page charts is (Err (refusals.Link fault)) of_text said = absurd said
   on_page charts is (Err (refusals.Rounds f)) of_text said = absurd said
 
   -- why there is no page is why the task is refused, or memory ran out
@@ -88,6 +90,7 @@ module _ (x : ImportArgs) (text file : List ℕ) where
   unprinted contents (refusals.Pair f) now fails = (fails, refl)
   unprinted contents (refusals.Mark f) now fails = (fails, refl)
   unprinted contents (refusals.Instance name) now fails = (fails, refl)
+  unprinted contents (refusals.Link fault) now fails = (fails, refl)
   unprinted contents (refusals.Rounds f) now fails = (fails, refl)
   unprinted contents (refusals.Import e) now fails = (fails, refl)
 

@@ -27,7 +27,11 @@ use Rattle.msc_command.specs.Charting.{with_chart, AreCharts}
 use Rattle.msc_command.specs.Ending.{ended_by}
 use Rattle.msc_command.specs.declared.tasks.CheckArgs.{CheckArgs}
 use Rattle.msc_command.specs.Importing.{IsChartOrFault}
-use Rattle.msc_command.specs.Scenarios.{BeginsAll, IsCharted, IsFormatOf, IsImportOfAll, OfScenarios, PrintsCounted, RefusesScenarios, wanted_of}
+use Rattle.msc_command.specs.Linked.{AreLinkedIn}
+use Rattle.msc_chart.specs.declared.queue.Queues.{Queues}
+use Rattle.msc_chart.specs.Architectures.{usual_of}
+use Rattle.msc_diagram.specs.Scenarios.{diagram_top, first_chart}
+use Rattle.msc_command.specs.Scenarios.{BeginsAll, IsCharted, IsFormatOf, IsImportOfAll, IsLinkedArgs, OfScenarios, PrintsCounted, RefusesScenarios, checked_under, wanted_of}
 use Rattle.msc_command.specs.Scenarios as of_words
 use Rattle.msc_command.specs.declared.ending.Refusal.{Refusal}
 use Rattle.msc_command.specs.declared.ending.Refusal.TheVariants as refusals
@@ -90,24 +94,27 @@ module _ (x : WantedAll) where
 pub drawn_so : (x : ScenarioArgs) (text : List ℕ) (all : Scenarios) → imported_all (wanted_of x) text ≡ Ok all → all.drawn ≡ of_words.draws_branches x text
 drawn_so x text all is = drawn_as (wanted_of x) all (markdown text) is
 
-module _ {W A : Type 0} (contents : W → Option (List ℕ)) (prints : List ℕ → Bool → List Scenario → A → List ℕ → Type 0)
-    (begins : List ℕ → Bool → List Scenario → List ℕ → Type 0) where
-  -- what was told of the scenarios of a text was told of the text
+module _ {W A : Type 0} (contents : W → Option (List ℕ)) (prints : CheckArgs → List ℕ → Bool → List Scenario → A → List ℕ → Type 0)
+    (begins : CheckArgs → List ℕ → Bool → List Scenario → List ℕ → Type 0) where
+  -- what was told of the scenarios of a text, under the queues that the rules give, was told of the text
   pub told_of_text : ScenariosAreCharts → (x : ScenarioArgs) (file text : List ℕ) (all : Scenarios) → imported_all (wanted_of x) text ≡ Ok all
+      → (queues : Queues) → AreLinkedIn (usual_of x.check_args.queues) x.links text all.list queues
       → (answer : Result A Refusal) (old new : W)
-      → AnswersWith contents (prints all.name all.drawn (map (with_chart file) all.list)) (begins all.name all.drawn (map (with_chart file) all.list)) (λ refusal. ⊥) answer old new
-      → AnswersWith contents (λ a printed. OfScenarios x file text (λ name ss. prints name (of_words.draws_branches x text) ss a printed))
-      (λ printed. OfScenarios x file text (λ name ss. begins name (of_words.draws_branches x text) ss printed)) (RefusesScenarios x text) answer old new
-  told_of_text charts x file text all is answer old new told =
+      → AnswersWith contents (prints (checked_under queues x.check_args) all.name all.drawn (map (with_chart file) all.list))
+      (begins (checked_under queues x.check_args) all.name all.drawn (map (with_chart file) all.list)) (λ refusal. ⊥) answer old new
+      → AnswersWith contents (λ a printed. OfScenarios x file text (λ c name ss. prints c name (of_words.draws_branches x text) ss a printed))
+      (λ printed. OfScenarios x file text (λ c name ss. begins c name (of_words.draws_branches x text) ss printed)) (RefusesScenarios x text) answer old new
+  told_of_text charts x file text all is queues linked answer old new told =
       let are = all_charts charts x text all is in
       let drawn = drawn_so x text all is in
-      answers_with_so contents (prints all.name all.drawn (map (with_chart file) all.list))
-      (λ a printed. OfScenarios x file text (λ name ss. prints name (of_words.draws_branches x text) ss a printed))
-      (begins all.name all.drawn (map (with_chart file) all.list))
-      (λ printed. OfScenarios x file text (λ name ss. begins name (of_words.draws_branches x text) ss printed))
+      let c = checked_under queues x.check_args in
+      answers_with_so contents (prints c all.name all.drawn (map (with_chart file) all.list))
+      (λ a printed. OfScenarios x file text (λ c name ss. prints c name (of_words.draws_branches x text) ss a printed))
+      (begins c all.name all.drawn (map (with_chart file) all.list))
+      (λ printed. OfScenarios x file text (λ c name ss. begins c name (of_words.draws_branches x text) ss printed))
       (λ refusal. ⊥) (RefusesScenarios x text)
-      (λ a printed says. (all, is, are, subst (λ b. prints all.name b (map (with_chart file) all.list) a printed) drawn says))
-      (λ printed begun. (all, is, are, subst (λ b. begins all.name b (map (with_chart file) all.list) printed) drawn begun))
+      (λ a printed says. (all, is, are, queues, linked, subst (λ b. prints c all.name b (map (with_chart file) all.list) a printed) drawn says))
+      (λ printed begun. (all, is, are, queues, linked, subst (λ b. begins c all.name b (map (with_chart file) all.list) printed) drawn begun))
       (λ refusal never. absurd never) answer old new told
 
 module _ {W A : Type 0} (contents : W → Option (List ℕ)) (prints : A → List ℕ → Type 0) (begins : List ℕ → Type 0) (x : ScenarioArgs) (text : List ℕ) (now : W) where
@@ -122,8 +129,24 @@ module _ {W A : Type 0} (contents : W → Option (List ℕ)) (prints : A → Lis
   none_drawn (refusals.Pair f) said = absurd said
   none_drawn (refusals.Mark f) said = absurd said
   none_drawn (refusals.Instance name) said = absurd said
+  none_drawn (refusals.Link fault) said = absurd said
   none_drawn (refusals.Rounds f) said = absurd said
   none_drawn (refusals.Import e) said = (said, refl)
+
+  -- and so it is where the rules give no queues
+  pub none_linked : (all : Scenarios) → imported_all (wanted_of x) text ≡ Ok all → (r : Refusal) → IsLinkedArgs x text all.list (Err r)
+      → AnswersWith contents prints begins (RefusesScenarios x text) (Err r) now now
+  none_linked all is (refusals.Fault (Parse f)) said = absurd said
+  none_linked all is (refusals.Fault (Chart f)) said = absurd said
+  none_linked all is (refusals.Fault (NotStarted i)) said = absurd said
+  none_linked all is (refusals.Fault Memory) said = inl refl
+  none_linked all is (refusals.Fault Device) said = absurd said
+  none_linked all is (refusals.Pair f) said = absurd said
+  none_linked all is (refusals.Mark f) said = absurd said
+  none_linked all is (refusals.Instance name) said = absurd said
+  none_linked all is (refusals.Link fault) said = ((all, is, said), refl)
+  none_linked all is (refusals.Rounds f) said = absurd said
+  none_linked all is (refusals.Import e) said = absurd said
 
 module _ {W : Type 0} (contents : W → Option (List ℕ)) (c : CheckArgs) (file name : List ℕ) (drawn : Bool) (ss : List Scenario) where
   -- what is told by the status alone
@@ -133,7 +156,7 @@ module _ {W : Type 0} (contents : W → Option (List ℕ)) (c : CheckArgs) (file
 
   -- what was not written to its end
   pub not_told : (format : DiagramFormat) → IsFormatOf c file drawn format → (quiet : Bool) → quiet ≡ false → (f : WriteFault) (old new : W)
-      → TellsScenarios contents (JudgesScenarios name ss c.queues c.options format) (BeginsOf name ss c.queues c.options format) (Err f) old new
+      → TellsScenarios contents (JudgesScenarios (diagram_top name (first_chart ss) c.queues) ss c.queues c.options format) (BeginsOf (diagram_top name (first_chart ss) c.queues) ss c.queues c.options format) (Err f) old new
       → AnswersWith contents (PrintsCounted quiet c file name drawn ss) (BeginsAll quiet c file name drawn ss) (λ refusal. ⊥) (Err (refusals.Fault (of_writing f))) old new
   not_told format its quiet is writing.Memory old new (inl same) = inl same
   not_told format its quiet is writing.Memory old new (inr (printed, says, begun)) = inr (printed, rw is (format, its, says), begun)

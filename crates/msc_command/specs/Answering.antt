@@ -1,6 +1,7 @@
 -- What is answered for a task.
 use Rattle.std.specs.Prelude.{◌≡◌, ◌<◌, ◌⊎◌, ◌++◌, ℕ, Bool, true, List, [], length, Option, None, Some, Result, Ok, Err}
 use Rattle.std.specs.Io.KnownBytes.{Appends}
+use Rattle.msc_chart.specs.declared.queue.Queues.{Queues}
 use Rattle.msc_chart.specs.Drawings.{Drawing}
 use Rattle.msc_chart.specs.Faults.{IsFirstFault}
 use Rattle.msc_chart.specs.declared.fault.UnrollFault.{UnrollFault}
@@ -30,6 +31,7 @@ use Rattle.msc_command.specs.Ending.{ended_by, ends_as, finished_by}
 use Rattle.msc_command.specs.Formats.{IsFormat}
 use Rattle.msc_command.specs.Importing.{PrintsImportPage, RefusesImport}
 use Rattle.msc_command.specs.Marked.{AreMarked, HasFaultyMark}
+use Rattle.msc_command.specs.Linked.{under, usual_in, AreLinked, HasLinkFault}
 use Rattle.msc_command.specs.Naming.{AreTwoNamed, IsNamedFault}
 use Rattle.msc_command.specs.Readied.{names_of, AreReady, IsFirstUnknown}
 use Rattle.msc_command.specs.Refused.{format_of, TellsRefusal, TellsUnread}
@@ -45,6 +47,7 @@ use Rattle.msc_command.specs.declared.tasks.ChartCommand.{ChartCommand}
 use Rattle.msc_command.specs.declared.tasks.ChartCommand.TheVariants.{Check, Quiet, Explain, Follow, Run, List as Listing, Ready}
 use Rattle.msc_command.specs.declared.tasks.QuietArgs.{QuietArgs}
 use Rattle.msc_command.specs.declared.tasks.ScenarioArgs.{ScenarioArgs}
+use Rattle.msc_command.specs.declared.tasks.LinkWords.{LinkWords}
 use Rattle.msc_command.specs.declared.tasks.Task.{Task}
 use Rattle.msc_command.specs.declared.tasks.Task.TheVariants.{Read, Chart, Draw, Import, Scenarios}
 
@@ -109,6 +112,17 @@ RefusesOf ask s (refusals.Rounds fault) = RefusesRounds ask s.chart fault
 RefusesOf ask s (refusals.Fault (NotStarted i)) = FailsToStart ask s.chart i
 RefusesOf ask s refusal = ⊥
 
+-- what is printed of a chart for a command, under the queues that the rules give
+abbrev pub PrintsLinked : ChartCommand → LinkWords → List ℕ → SourceText → Status → List ℕ → Type 0
+PrintsLinked ask words file s status printed =
+    (queues : Queues) × AreLinked (usual_in ask) words s.chart queues × PrintsOf (under queues ask) file s status printed
+
+-- why there is nothing to print: a rule is faulty, or the command is refused under these queues
+abbrev pub RefusesLinked : ChartCommand → LinkWords → SourceText → Refusal → Type 0
+RefusesLinked ask words s (refusals.Link fault) = HasLinkFault words s.chart fault
+RefusesLinked ask words s refusal =
+    (queues : Queues) × AreLinked (usual_in ask) words s.chart queues × RefusesOf (under queues ask) s refusal
+
 -- what is printed of the diagrams of a text: of all of them, if it holds such of which all are
 -- checked; else of the one
 abbrev pub PrintsDiagrams : Option Found → ScenarioArgs → List ℕ → List ℕ → Status → List ℕ → Type 0
@@ -131,8 +145,8 @@ RefusesDiagrams (Some f) x text refusal = ⊥
 abbrev pub Prints : Task → List ℕ → List ℕ → Status → List ℕ → Type 0
 Prints Read file text status printed =
     (draft : Tree) × HasDraft text draft × (status ≡ Done) × (printed ≡ canonical draft)
-Prints (Chart ask) file text status printed =
-    (d : Drawing) × IsChartOf text d × PrintsOf ask file (source_text MscPr text d) status printed
+Prints (Chart ask words) file text status printed =
+    (d : Drawing) × IsChartOf text d × PrintsLinked ask words file (source_text MscPr text d) status printed
 Prints (Draw drawn) file text status printed =
     (d : Drawing) × (is : IsChartOf text d) × PrintsPage drawn is.draft (source_text MscPr text d) status printed
 Prints (Import x) file text status printed = PrintsImportPage x file text status printed
@@ -144,8 +158,8 @@ abbrev pub Refuses : Task → List ℕ → Refusal → Type 0
 Refuses (Import x) text refusal = RefusesImport x text refusal
 Refuses (Scenarios x) text refusal = RefusesDiagrams (many_in x text) x text refusal
 Refuses task text (refusals.Fault (Parse f)) = HasParseFault text f
-Refuses (Chart ask) text (refusals.Fault (faults.Chart f)) = (draft : Tree) × HasDraft text draft × IsFirstFault draft f
-Refuses (Chart ask) text refusal = (d : Drawing) × IsChartOf text d × RefusesOf ask (source_text MscPr text d) refusal
+Refuses (Chart ask words) text (refusals.Fault (faults.Chart f)) = (draft : Tree) × HasDraft text draft × IsFirstFault draft f
+Refuses (Chart ask words) text refusal = (d : Drawing) × IsChartOf text d × RefusesLinked ask words (source_text MscPr text d) refusal
 Refuses (Draw drawn) text (refusals.Fault (faults.Chart f)) = (draft : Tree) × HasDraft text draft × IsFirstFault draft f
 Refuses (Draw drawn) text refusal = (d : Drawing) × IsChartOf text d × RefusesDrawn drawn (source_text MscPr text d) refusal
 Refuses Read text refusal = ⊥

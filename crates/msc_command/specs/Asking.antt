@@ -6,8 +6,9 @@ use Rattle.std.specs.Str.{bytes_eq}
 use Rattle.std.specs.Str.Parse.{IsNumeral, digits_value, without_leading_plus}
 use Rattle.clap.specs.Matches.{first_value, matched_of, one_text, raw_values}
 use Rattle.clap.specs.declared.parser.matches.Found.{Found}
-use Rattle.msc_chart.specs.Architectures.{queues_of_word}
+use Rattle.msc_chart.specs.Architectures.{link_kind_of_word}
 use Rattle.msc_chart.specs.declared.queue.Queues.{Queues}
+use Rattle.msc_chart.specs.declared.queue.Queues.TheVariants.{Uniform}
 use Rattle.msc_reason.specs.Causes.{kind_word}
 use Rattle.msc_reason.specs.declared.cause.RaceKind.{RaceKind}
 use Rattle.msc_reason.specs.Kinds.{has_kind}
@@ -39,6 +40,7 @@ use Rattle.msc_command.specs.declared.tasks.ScenarioArgs.{ScenarioArgs}
 use Rattle.msc_command.specs.declared.tasks.ChartCommand.TheVariants.{Check, Quiet, Explain, Follow, Run, List as Listing, Ready}
 use Rattle.msc_command.specs.declared.tasks.Format.{Format}
 use Rattle.msc_command.specs.declared.tasks.Format.TheVariants as formats
+use Rattle.msc_command.specs.declared.tasks.LinkWords.{LinkWords}
 use Rattle.msc_command.specs.declared.tasks.Task.{Task}
 use Rattle.msc_command.specs.declared.tasks.Task.TheVariants.{Read, Chart, Draw, Import, Scenarios}
 use Rattle.msc_command.specs.declared.words.CommandName.{CommandName}
@@ -50,7 +52,7 @@ use Rattle.msc_command.specs.Words.{format_of_word, arg_word}
 
 -- the architecture that the words name
 abbrev pub architecture : Found → Option Queues
-architecture found = option_and_then queues_of_word (first_value found (arg_word words.Queues))
+architecture found = option_map Uniform (option_and_then link_kind_of_word (first_value found (arg_word words.Queues)))
 
 -- whether a flag stands among the words
 pub record IsFlag (found : Found) (id : List ℕ) (given : Bool) : Type 0 where
@@ -147,6 +149,18 @@ format found = format_named (first_value found (arg_word words.ChartFormat))
 pub record IsEventStyle (found : Found) (event_style : EventStyle) : Type 0 where
   pub places : IsFlag found (arg_word words.Places) event_style.places
   pub words_wanted : IsFlag found (arg_word words.Words) event_style.words
+
+-- the rules for links that the words give
+pub record AreLinkWords (found : Found) (links : LinkWords) : Type 0 where
+  pub pairs : map (λ word. word.now) links.pairs.now ≡ args_of found (arg_word words.Pair)
+  pub mailboxes : map (λ word. word.now) links.mailboxes.now ≡ args_of found (arg_word words.Mailbox)
+  pub singles : map (λ word. word.now) links.singles.now ≡ args_of found (arg_word words.Single)
+
+-- there are none
+pub record HasNoLinks (links : LinkWords) : Type 0 where
+  pub pairs : links.pairs.now ≡ []
+  pub mailboxes : links.mailboxes.now ≡ []
+  pub singles : links.singles.now ≡ []
 
 -- what the words of `check` ask of the races under an architecture
 pub record AreCheckArgs (found : Found) (shown : ℕ) (c : CheckArgs) : Type 0 where
@@ -296,6 +310,7 @@ pub record IsSurvey (found : Found) (x : ScenarioArgs) : Type 0 where
   pub check_args : AreCheckArgs found shown x.check_args
   pub unmarked : x.check_args.accept ≡ false
   pub once : x.check_args.again ≡ false
+  pub links : AreLinkWords found x.links
   pub quiet : IsFlag found (arg_word words.Quiet) x.quiet
 
 -- the words of `check` are of a chart: none of them is of diagrams
@@ -305,21 +320,22 @@ IsOfChart found = (is_of_scenarios found ≡ false) × (lacks_from found ≡ fal
 -- What the words behind a command ask for. What is to be quiet is told by the status alone.
 abbrev pub AsksFor : CommandName → Found → Task → Type 0
 AsksFor command_names.Read found Read = Unit {0}
-AsksFor command_names.Check found (Chart (Check c)) =
-    IsOfChart found × IsFlag found (arg_word words.Quiet) false × AreCheckArgs found unlimited c
-AsksFor command_names.Check found (Chart (Quiet x)) =
-    IsOfChart found × IsFlag found (arg_word words.Quiet) true × AreQuietArgs found x
+AsksFor command_names.Check found (Chart (Check c) links) =
+    IsOfChart found × IsFlag found (arg_word words.Quiet) false × AreCheckArgs found unlimited c × AreLinkWords found links
+AsksFor command_names.Check found (Chart (Quiet x) links) =
+    IsOfChart found × IsFlag found (arg_word words.Quiet) true × AreQuietArgs found x × AreLinkWords found links
 AsksFor command_names.Check found (Scenarios x) = (is_of_scenarios found ≡ true) × IsSurvey found x
-AsksFor command_names.Explain found (Chart (Explain x)) = AreExplainArgs found x
-AsksFor command_names.Follow found (Chart (Follow x)) = AreFollowArgs found x
-AsksFor command_names.Run found (Chart (Run queues patience)) =
+AsksFor command_names.Explain found (Chart (Explain x) links) = AreExplainArgs found x × AreLinkWords found links
+AsksFor command_names.Follow found (Chart (Follow x) links) = AreFollowArgs found x × AreLinkWords found links
+AsksFor command_names.Run found (Chart (Run queues patience) links) =
     IsOptionNumber found (arg_word words.Patience) default_patience patience
-    × (architecture found ≡ Some queues)
-AsksFor command_names.List found (Chart (Listing placed)) = IsFlag found (arg_word words.Places) placed
+    × (architecture found ≡ Some queues) × AreLinkWords found links
+AsksFor command_names.List found (Chart (Listing placed) links) =
+    IsFlag found (arg_word words.Places) placed × HasNoLinks links
 AsksFor command_names.Draw found (Draw (drawn.Chart queues format)) = (queues ≡ architecture found) × IsDrawnFormat found format
 AsksFor command_names.Reverse found (Draw (drawn.Run r)) = AreReverseArgs found r
 AsksFor command_names.Report found (Draw (drawn.Report queues)) = architecture found ≡ Some queues
-AsksFor command_names.Ready found (Chart (Ready x)) = AreReadyArgs found x
+AsksFor command_names.Ready found (Chart (Ready x) links) = AreReadyArgs found x × AreLinkWords found links
 AsksFor command_names.Import found (Import x) = IsImporting found x
 AsksFor command_name found task = ⊥
 

@@ -4,7 +4,7 @@ use Rattle.msc_chart.specs.declared.fault.UnrollFault.{UnrollFault}
 use Rattle.msc_chart.specs.declared.fault.UnrollFault.TheVariants as rounds
 use Rattle.msc_report.specs.declared.fault.Fault.{Fault}
 use Rattle.msc_report.specs.declared.fault.Fault.TheVariants.{Parse, Chart, NotStarted, Memory, Device}
-use Rattle.msc_report.specs.Texts.{fault_line, instance_fault_line, mark_fault_line, pair_fault_line, unroll_fault_line}
+use Rattle.msc_report.specs.Texts.{fault_line, instance_fault_line, link_fault_line, mark_fault_line, pair_fault_line, unroll_fault_line}
 use Rattle.msc_diagram.specs.Faults.{import_refusal_line}
 use Rattle.msc_import.specs.Importing.{seen}
 use Rattle.msc_mermaid.specs.declared.fault.ImportFault.{ImportFault}
@@ -49,6 +49,7 @@ ends_as (refusals.Fault f) = status_of f
 ends_as (refusals.Pair f) = Refused
 ends_as (refusals.Mark f) = Refused
 ends_as (refusals.Instance name) = Refused
+ends_as (refusals.Link fault) = Refused
 ends_as (refusals.Rounds f) = Refused
 ends_as (refusals.Import e) = Refused
 
@@ -78,5 +79,6 @@ refusal_line (refusals.Fault f) = fault_line f
 refusal_line (refusals.Pair f) = pair_fault_line f
 refusal_line (refusals.Mark f) = mark_fault_line f
 refusal_line (refusals.Instance name) = instance_fault_line name.now
+refusal_line (refusals.Link fault) = link_fault_line fault
 refusal_line (refusals.Rounds f) = unroll_fault_line f
 refusal_line (refusals.Import e) = import_refusal_line (seen e)

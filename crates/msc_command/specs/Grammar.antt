@@ -10,8 +10,8 @@ use Rattle.clap.specs.declared.builder.command.Command.TheViews.{out-Command}
 use Rattle.clap.specs.declared.builder.value_parser.ValueParser.{ValueParser}
 use Rattle.clap.specs.declared.builder.value_parser.ValueParser.TheVariants.{Names, Signed}
 use Rattle.clap.specs.declared.error.kind.ErrorKind.{ErrorKind}
-use Rattle.msc_chart.specs.Architectures.{queues_word}
-use Rattle.msc_chart.specs.declared.queue.Queues.TheVariants.{Pair, Mailbox, Single}
+use Rattle.msc_chart.specs.Architectures.{link_word}
+use Rattle.msc_chart.specs.declared.queue.LinkKind.TheVariants.{Pair, Mailbox, Single}
 use Rattle.msc_command.specs.declared.grammar.Choices.{Choices}
 use Rattle.msc_command.specs.declared.tasks.Format.TheVariants as formats
 use Rattle.msc_command.specs.declared.words.ValueKind.{ValueKind}
@@ -24,7 +24,7 @@ use Rattle.msc_reason.specs.declared.cause.RaceKind.TheVariants.{Early, Queues, 
 
 -- the words of the architectures
 abbrev pub architecture_words : List Text
-architecture_words = queues_word Pair ∷ queues_word Mailbox ∷ queues_word Single ∷ []
+architecture_words = link_word Pair ∷ link_word Mailbox ∷ link_word Single ∷ []
 
 -- the words of the kinds of races
 abbrev pub kind_words : List Text
@@ -128,6 +128,7 @@ rule_by p name value_kind.ArchitectureIfAny = choice_rule name p.architectures
 rule_by p name value_kind.Kinds = choices_rule name p.kinds
 rule_by p name value_kind.Format = choice_rule name p.formats
 rule_by p name value_kind.Names = names_rule name
+rule_by p name value_kind.Links = names_rule name
 rule_by p name value_kind.Language = choice_rule name p.languages
 rule_by p name value_kind.Choices = text_rule name
 rule_by p name value_kind.Rounds = text_rule name

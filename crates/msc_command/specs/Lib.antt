@@ -14,6 +14,7 @@ pub mod Drawing
 pub mod Ending
 pub mod Refused
 pub mod Charting
+pub mod Linked
 pub mod Scenarios
 pub mod Surveys
 pub mod Answering

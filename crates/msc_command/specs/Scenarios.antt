@@ -1,7 +1,10 @@
 -- What is asked of the races of all scenarios of a diagram.
 use Rattle.std.specs.Prelude.{◌≡◌, ℕ, Bool, true, false, ◌&&◌, not, List, [], map, option_map, Result, Ok, Err, is_ok, nat_eq}
+use Rattle.msc_chart.specs.declared.queue.Queues.{Queues}
+use Rattle.msc_chart.specs.Architectures.{usual_of}
 use Rattle.msc_chart.specs.Faults.{IsFaultless, IsFirstFault}
 use Rattle.msc_diagram.specs.Judging.{BeginsScenarios as BeginsOf, JudgesScenarios, PassesScenarios}
+use Rattle.msc_diagram.specs.Scenarios.{diagram_top, first_chart}
 use Rattle.msc_diagram.specs.declared.judging.DiagramFormat.{DiagramFormat as DiagramFormat}
 use Rattle.msc_diagram.specs.declared.judging.DiagramFormat.TheVariants as diagrams
 use Rattle.msc_diagram.specs.declared.scenario.Scenario.{Scenario}
@@ -13,6 +16,7 @@ use Rattle.msc_report.specs.declared.fault.Fault.TheVariants.{Chart, Memory}
 use Rattle.msc_command.specs.Charting.{with_chart, AreCharts}
 use Rattle.msc_command.specs.Ending.{ended_by}
 use Rattle.msc_command.specs.Importing.{IsNotImported, rounds_of}
+use Rattle.msc_command.specs.Linked.{AreLinkedIn, HasLinkFaultIn}
 use Rattle.msc_command.specs.declared.ending.Refusal.{Refusal}
 use Rattle.msc_command.specs.declared.ending.Refusal.TheVariants as refusals
 use Rattle.msc_command.specs.declared.ending.Status.{Status}
@@ -70,7 +74,7 @@ PrintsCounted true c file name drawn scenarios one printed =
     × PassesScenarios scenarios c.queues c.options.allowed passed × (printed ≡ [])
 PrintsCounted false c file name drawn scenarios one printed =
     (format : DiagramFormat) × IsFormatOf c file drawn format
-    × (one.status ≡ ended_by (nat_eq one.listed 0)) × JudgesScenarios name scenarios c.queues c.options format one.listed printed
+    × (one.status ≡ ended_by (nat_eq one.listed 0)) × JudgesScenarios (diagram_top name (first_chart scenarios) c.queues) scenarios c.queues c.options format one.listed printed
 
 -- what is printed of them, and how the run ends
 abbrev pub PrintsAll : Bool → CheckArgs → List ℕ → List ℕ → Bool → List Scenario → Status → List ℕ → Type 0
@@ -81,24 +85,41 @@ PrintsAll quiet c file name drawn scenarios status printed =
 abbrev pub BeginsAll : Bool → CheckArgs → List ℕ → List ℕ → Bool → List Scenario → List ℕ → Type 0
 BeginsAll true c file name drawn scenarios printed = ⊥
 BeginsAll false c file name drawn scenarios printed =
-    (format : DiagramFormat) × IsFormatOf c file drawn format × BeginsOf name scenarios c.queues c.options format printed
+    (format : DiagramFormat) × IsFormatOf c file drawn format × BeginsOf (diagram_top name (first_chart scenarios) c.queues) scenarios c.queues c.options format printed
 
--- the scenarios of a text, all of them charts, of which this is said
-abbrev pub OfScenarios : ScenarioArgs → List ℕ → List ℕ → (List ℕ → List Scenario → Type 0) → Type 0
+-- the same check under another architecture
+abbrev pub checked_under : Queues → CheckArgs → CheckArgs
+checked_under queues c = record c { queues = queues }
+
+-- the check under the queues that the rules give, and the scenarios of a text, all of them charts, of
+-- which this is said
+abbrev pub OfScenarios : ScenarioArgs → List ℕ → List ℕ → (CheckArgs → List ℕ → List Scenario → Type 0) → Type 0
 OfScenarios x file text says =
     (all : Scenarios) × (imported_all (wanted_of x) text ≡ Ok all) × AreCharts all.list
-    × says all.name (map (with_chart file) all.list)
+    × (queues : Queues) × AreLinkedIn (usual_of x.check_args.queues) x.links text all.list queues
+    × says (checked_under queues x.check_args) all.name (map (with_chart file) all.list)
+
+-- the words with the queues that their rules give for these scenarios of a text, or why these give none
+abbrev pub IsLinkedArgs : ScenarioArgs → List ℕ → List Drawn → Result ScenarioArgs Refusal → Type 0
+IsLinkedArgs x text scenarios (Ok y) =
+    (queues : Queues) × AreLinkedIn (usual_of x.check_args.queues) x.links text scenarios queues
+    × (y ≡ record x { check_args = checked_under queues x.check_args })
+IsLinkedArgs x text scenarios (Err (refusals.Link fault)) = HasLinkFaultIn x.links text scenarios fault
+IsLinkedArgs x text scenarios (Err (refusals.Fault Memory)) = Unit {0}
+IsLinkedArgs x text scenarios (Err refusal) = ⊥
 
 -- what is printed of a text of this file
 abbrev pub PrintsScenarios : ScenarioArgs → List ℕ → List ℕ → Status → List ℕ → Type 0
 PrintsScenarios x file text status printed =
-    OfScenarios x file text (λ name scenarios. PrintsAll x.quiet x.check_args file name (draws_branches x text) scenarios status printed)
+    OfScenarios x file text (λ c name scenarios. PrintsAll x.quiet c file name (draws_branches x text) scenarios status printed)
 
 abbrev pub BeginsScenarios : ScenarioArgs → List ℕ → List ℕ → List ℕ → Type 0
 BeginsScenarios x file text printed =
-    OfScenarios x file text (λ name scenarios. BeginsAll x.quiet x.check_args file name (draws_branches x text) scenarios printed)
+    OfScenarios x file text (λ c name scenarios. BeginsAll x.quiet c file name (draws_branches x text) scenarios printed)
 
--- why nothing is printed: there are no scenarios. Each of them is a chart
+-- why nothing is printed: there are no scenarios, or a rule is faulty. Each of them is a chart
 abbrev pub RefusesScenarios : ScenarioArgs → List ℕ → Refusal → Type 0
 RefusesScenarios x text (refusals.Import e) = imported_all (wanted_of x) text ≡ Err (seen e)
+RefusesScenarios x text (refusals.Link fault) =
+    (all : Scenarios) × (imported_all (wanted_of x) text ≡ Ok all) × HasLinkFaultIn x.links text all.list fault
 RefusesScenarios x text refusal = ⊥

@@ -53,14 +53,14 @@ numbered name n = name ++ (codes "#" ++ decimal n)
 -- what is printed of the diagram of this number: as of the text with this number, but for the names
 abbrev pub PrintsBlock : ScenarioArgs → List ℕ → List ℕ → ℕ → Surveyed → List ℕ → Type 0
 PrintsBlock x file text n one printed =
-    OfScenarios (at_block x n) file text (λ name scenarios.
-    PrintsCounted x.quiet x.check_args (numbered file n) (numbered name n) (draws_branches (at_block x n) text) scenarios one printed)
+    OfScenarios (at_block x n) file text (λ c name scenarios.
+    PrintsCounted x.quiet c (numbered file n) (numbered name n) (draws_branches (at_block x n) text) scenarios one printed)
 
 -- what that begins with, where memory ran out
 abbrev pub BeginsBlock : ScenarioArgs → List ℕ → List ℕ → ℕ → List ℕ → Type 0
 BeginsBlock x file text n printed =
-    OfScenarios (at_block x n) file text (λ name scenarios.
-    BeginsAll x.quiet x.check_args (numbered file n) (numbered name n) (draws_branches (at_block x n) text) scenarios printed)
+    OfScenarios (at_block x n) file text (λ c name scenarios.
+    BeginsAll x.quiet c (numbered file n) (numbered name n) (draws_branches (at_block x n) text) scenarios printed)
 
 -- what is printed of a diagram of this name that is refused, in the file of this one
 abbrev pub refused_in : Format → List ℕ → List ℕ → List ℕ

@@ -8,13 +8,16 @@ use Rattle.msc_command.specs.declared.words.ValueKind.TheVariants as value_kind
 use Rattle.msc_command.specs.declared.words.CommandName.{CommandName}
 use Rattle.msc_command.specs.declared.words.CommandName.TheVariants.{Read, Check, Explain, Follow, Run, List as Listing, Draw, Reverse, Report, Ready, Import}
 use Rattle.msc_command.specs.declared.words.ArgName.{ArgName}
-use Rattle.msc_command.specs.declared.words.ArgName.TheVariants.{File, Queues, QueuesIfAny, Closest, Why, Most, Show, ShowSticks, Only, Allow, ChartFormat, Quiet, Words, Short, Accept, Again, Patience, Places, Plain, Svg, FirstEvent, SecondEvent, From, Choose, Listed, Name, Own, Cross, Par, ScenariosFrom, Rounds, Limit, Fence}
+use Rattle.msc_command.specs.declared.words.ArgName.TheVariants.{File, Queues, QueuesIfAny, Pair, Mailbox, Single, Closest, Why, Most, Show, ShowSticks, Only, Allow, ChartFormat, Quiet, Words, Short, Accept, Again, Patience, Places, Plain, Svg, FirstEvent, SecondEvent, From, Choose, Listed, Name, Own, Cross, Par, ScenariosFrom, Rounds, Limit, Fence}
 
 -- the name of a word behind a command
 abbrev pub arg_word : ArgName → List ℕ
 arg_word File = codes "FILE"
 arg_word Queues = codes "queues"
 arg_word QueuesIfAny = codes "queues"
+arg_word Pair = codes "pair"
+arg_word Mailbox = codes "mailbox"
+arg_word Single = codes "single"
 arg_word Closest = codes "closest"
 arg_word Why = codes "why"
 arg_word Most = codes "most"
@@ -51,6 +54,9 @@ abbrev pub value_kind_of : ArgName → ValueKind
 value_kind_of File = value_kind.File
 value_kind_of Queues = value_kind.Architecture
 value_kind_of QueuesIfAny = value_kind.ArchitectureIfAny
+value_kind_of Pair = value_kind.Links
+value_kind_of Mailbox = value_kind.Links
+value_kind_of Single = value_kind.Links
 value_kind_of Closest = value_kind.Nothing
 value_kind_of Why = value_kind.Nothing
 value_kind_of Most = value_kind.Number
@@ -108,16 +114,16 @@ command_of_word name = find (λ command_name. bytes_eq name (command_word comman
 abbrev pub args_of : CommandName → List ArgName
 args_of Read = Places ∷ Plain ∷ File ∷ []
 args_of Check =
-    Queues ∷ Closest ∷ Why ∷ Most ∷ Show ∷ Allow ∷ Accept ∷ Again ∷ ChartFormat ∷ Quiet ∷ Words ∷ Short
+    Queues ∷ Pair ∷ Mailbox ∷ Single ∷ Closest ∷ Why ∷ Most ∷ Show ∷ Allow ∷ Accept ∷ Again ∷ ChartFormat ∷ Quiet ∷ Words ∷ Short
     ∷ ScenariosFrom ∷ Rounds ∷ Limit ∷ Fence ∷ Name ∷ Own ∷ Cross ∷ Par ∷ Places ∷ Plain ∷ File ∷ []
-args_of Explain = Queues ∷ Words ∷ Short ∷ Places ∷ Plain ∷ File ∷ FirstEvent ∷ SecondEvent ∷ []
-args_of Follow = Queues ∷ Words ∷ Places ∷ Plain ∷ File ∷ []
-args_of Run = Queues ∷ Patience ∷ Places ∷ Plain ∷ File ∷ []
+args_of Explain = Queues ∷ Pair ∷ Mailbox ∷ Single ∷ Words ∷ Short ∷ Places ∷ Plain ∷ File ∷ FirstEvent ∷ SecondEvent ∷ []
+args_of Follow = Queues ∷ Pair ∷ Mailbox ∷ Single ∷ Words ∷ Places ∷ Plain ∷ File ∷ []
+args_of Run = Queues ∷ Pair ∷ Mailbox ∷ Single ∷ Patience ∷ Places ∷ Plain ∷ File ∷ []
 args_of Listing = Places ∷ Plain ∷ File ∷ []
 args_of Draw = QueuesIfAny ∷ Svg ∷ Places ∷ Plain ∷ File ∷ []
 args_of Reverse = Queues ∷ Svg ∷ Places ∷ Plain ∷ File ∷ FirstEvent ∷ SecondEvent ∷ []
 args_of Report = Queues ∷ Places ∷ Plain ∷ File ∷ []
-args_of Ready = Queues ∷ Only ∷ ShowSticks ∷ Again ∷ Words ∷ Places ∷ Plain ∷ File ∷ []
+args_of Ready = Queues ∷ Pair ∷ Mailbox ∷ Single ∷ Only ∷ ShowSticks ∷ Again ∷ Words ∷ Places ∷ Plain ∷ File ∷ []
 args_of Import =
     From ∷ Fence ∷ Choose ∷ Listed ∷ Name ∷ Own ∷ Cross ∷ Par ∷ Places ∷ Plain ∷ File ∷ []
 

@@ -4,7 +4,8 @@ ghost use Rattle.std.specs.Prelude.{◌≡◌, ℕ, List, option_map, IfErr, Ok,
 ghost use Rattle.std.specs.Io.KnownBytes.{Keeps};
 ghost use Rattle.msc_chart.specs.Drawings.{chart_of};
 ghost use Rattle.msc_command.specs.Answering.{Answers, AnswersOf, AnswersWith, Delivers, Does};
-ghost use Rattle.msc_command.specs.Answering.{EndsAs, IsPut, TellsBlock, TellsQuietly};
+ghost use Rattle.msc_command.specs.Answering.{EndsAs, IsPut, PrintsLinked, RefusesLinked};
+ghost use Rattle.msc_command.specs.Answering.{TellsBlock, TellsQuietly};
 ghost use Rattle.msc_command.specs.Drawing.{PrintsPage, RefusesDrawn};
 ghost use Rattle.msc_command.specs.Ending.{ends_as};
 ghost use Rattle.msc_command.specs.Formats.{IsFormat};
@@ -21,6 +22,7 @@ ghost use Rattle.msc_source.specs.Inputs.{IsReadFrom};
 use crate::drawing::page_of;
 use crate::ending::{Refusal, Status, end_refused, end_unread, ended_by, finished_by, is_spent};
 use crate::importing::import_page;
+use crate::links::queues_in;
 use crate::marked::marks_of;
 use crate::naming::pair_named;
 use crate::notes::{write_cause, write_notes};
@@ -32,8 +34,8 @@ use crate::scenarios::{Surveyed, check_scenarios};
 use crate::sited::{event_positions_of, style_of};
 use crate::surveying::{behind, blocks_of, check_block, of_block, refused_page, worse};
 use crate::tasks::{
-    ChartCommand, CheckArgs, Drawn, ExplainArgs, FollowArgs, Format, ImportArgs, QuietArgs,
-    ReadyArgs, Request, ScenarioArgs, Task, format_of,
+    ChartCommand, CheckArgs, Drawn, ExplainArgs, FollowArgs, Format, ImportArgs, LinkWords,
+    QuietArgs, ReadyArgs, Request, ScenarioArgs, Task, format_of,
 };
 use msc_chart::Unrolled;
 use msc_instance::AlwaysOpen;
@@ -306,6 +308,24 @@ fn answer_chart<'w, R: Threads + Wait + Sync, O: Write>(
     }
 }
 
+/// Prints the answer to a task on the chart of a text in the file of this name, under the queues
+/// that the rules give.
+fn answer_linked<'w, R: Threads + Wait + Sync, O: Write>(
+    rt: &R,
+    alloc: Global,
+    ask: ChartCommand<'w>,
+    words: LinkWords<'w>,
+    file: &str,
+    source: &Source,
+    output: &mut O,
+) -> Result<Status, Refusal<'w>>
+    ensures { Answers O.contents (PrintsLinked ask.entry words.entry file.now source.now)
+        (RefusesLinked ask.entry words.entry source.now) result output.old output.new }
+{
+    let queues = queues_in(alloc, ask.usual(), words, source.chart())?;
+    answer_chart(rt, alloc, ask.under(queues), file, source, output)
+}
+
 /// Writes a picture of a draft's chart, or its report.
 fn draw<O: Write>(
     alloc: Global,
@@ -498,15 +518,15 @@ fn end_block<O: TellsFailure, E: Write>(
 }
 
 /// Checks the diagram with this number, and writes the refusal if it is refused.
-fn survey_block<O: TellsFailure, E: Write>(
+fn survey_block<'w, O: TellsFailure, E: Write>(
     alloc: Global,
     request: Request<'_>,
-    words: ScenarioArgs<'_>,
+    words: ScenarioArgs<'w>,
     found: &Markdown<'_>,
     number: usize,
     output: &mut O,
     faults: &mut E,
-) -> Result<Surveyed, Refusal<'static>>
+) -> Result<Surveyed, Refusal<'w>>
     requires { markdown found.now.text ≡ Ok found.now }
     ensures { AnswersWith O.contents
         (SurveysOne words.entry request.entry.file.now found.now.text number)
@@ -538,14 +558,14 @@ fn survey_block<O: TellsFailure, E: Write>(
 }
 
 /// Checks all sequence diagrams of a text of Markdown; returns the worst of their statuses.
-fn survey<O: TellsFailure, E: Write>(
+fn survey<'w, O: TellsFailure, E: Write>(
     alloc: Global,
     request: Request<'_>,
-    words: ScenarioArgs<'_>,
+    words: ScenarioArgs<'w>,
     found: &Markdown<'_>,
     output: &mut O,
     faults: &mut E,
-) -> Result<Status, Refusal<'static>>
+) -> Result<Status, Refusal<'w>>
     requires { markdown found.now.text ≡ Ok found.now }
     ensures { AnswersWith O.contents
         (Surveys words.entry request.entry.file.now found.now.text found.now.numbers Status.Done)
@@ -565,14 +585,14 @@ fn survey<O: TellsFailure, E: Write>(
 
 /// Prints the verdicts on the diagrams of a text: on all of a Markdown text if no block is named,
 /// otherwise on one.
-fn check_diagrams<O: TellsFailure, E: Write>(
+fn check_diagrams<'w, O: TellsFailure, E: Write>(
     alloc: Global,
     request: Request<'_>,
-    words: ScenarioArgs<'_>,
+    words: ScenarioArgs<'w>,
     text: &[u8],
     output: &mut O,
     faults: &mut E,
-) -> Result<Status, Refusal<'static>>
+) -> Result<Status, Refusal<'w>>
     ensures { Does O.contents (Task.Scenarios words.entry) request.entry.file.now text.now result
         output.old output.new }
 {
@@ -602,9 +622,9 @@ fn answer<'w, R: Threads + Wait + Sync, O: TellsFailure, E: Write>(
             write_reading(alloc, &read, output)?;
             Ok(Status::Done)
         }
-        Task::Chart(ask) => {
+        Task::Chart(ask, words) => {
             let source = Source::of(alloc, Language::MscPr, text)?;
-            answer_chart(rt, alloc, ask, file, &source, output)
+            answer_linked(rt, alloc, ask, words, file, &source, output)
         }
         Task::Draw(drawn) => {
             let read = Reading::of(alloc, Language::MscPr, text)?;

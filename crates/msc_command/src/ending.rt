@@ -14,12 +14,13 @@ use msc_chart::UnrollFault;
 use msc_diagram::write_import_fault;
 use msc_ending::RunFault;
 use msc_import::Refused;
+use msc_links::LinkFault;
 use msc_mark::MarkFault;
 use msc_mermaid::ImportFault;
 use msc_print::WriteFault;
 use msc_report::{
-    Fault, NamedFault, write_fault, write_instance_fault, write_mark_fault, write_pair_fault,
-    write_unroll_fault,
+    Fault, NamedFault, write_fault, write_instance_fault, write_link_fault, write_mark_fault,
+    write_pair_fault, write_unroll_fault,
 };
 use msc_source::{ReadFault, SourceFault};
 use std::alloc::AllocError;
@@ -88,6 +89,8 @@ pub(crate) enum Refusal<'w> {
     Mark(MarkFault),
     /// No instance has this name. It is the first such name.
     Instance(&'w str),
+    /// A rule for links is faulty. It is the first such rule.
+    Link(LinkFault<'w>),
     /// Two rounds of the chart are no chart.
     Rounds(UnrollFault),
     /// The text is not imported.
@@ -205,7 +208,8 @@ pub(crate) fn is_spent(refusal: Refusal<'_>) -> bool
     match refusal {
         Refusal::Fault(Fault::Memory) | Refusal::Fault(Fault::Device) => true,
         Refusal::Fault(_) | Refusal::Pair(_) | Refusal::Mark(_) => false,
-        Refusal::Instance(_) | Refusal::Rounds(_) | Refusal::Import(_) => false,
+        Refusal::Instance(_) | Refusal::Link(_) => false,
+        Refusal::Rounds(_) | Refusal::Import(_) => false,
     }
 }
 
@@ -216,7 +220,7 @@ fn ends_as(refusal: Refusal<'_>) -> Status
     match refusal {
         Refusal::Fault(fault) => status_of(fault),
         Refusal::Pair(_) | Refusal::Mark(_) | Refusal::Instance(_) => Status::Refused,
-        Refusal::Rounds(_) | Refusal::Import(_) => Status::Refused,
+        Refusal::Link(_) | Refusal::Rounds(_) | Refusal::Import(_) => Status::Refused,
     }
 }
 
@@ -240,6 +244,7 @@ pub(crate) fn write_refusal<W: Write>(writer: &mut W, refusal: Refusal<'_>) -> i
         Refusal::Pair(fault) => write_pair_fault(writer, fault),
         Refusal::Mark(fault) => write_mark_fault(writer, fault),
         Refusal::Instance(name) => write_instance_fault(writer, name.as_bytes()),
+        Refusal::Link(fault) => write_link_fault(writer, fault),
         Refusal::Rounds(fault) => write_unroll_fault(writer, fault),
         Refusal::Import(refused) => write_import_fault(writer, &refused),
     }

@@ -16,7 +16,7 @@ ghost use Rattle.clap.specs.declared.builder.value_parser.ValueParser.TheVariant
 use crate::tasks::Format;
 use crate::words::{ArgName, CommandName, ValueKind};
 use clap::{Arg, ArgAction, Command, value_parser};
-use msc_chart::Queues;
+use msc_chart::LinkKind;
 use msc_reason::RaceKind;
 use std::alloc::{AllocError, Global};
 
@@ -71,8 +71,8 @@ fn architecture_words(alloc: Global) -> Result<Vec<&'static str>, AllocError>
     ensures { IfOk result (λ words. map (λ word. word.now) words.items ≡ architecture_words) }
 {
     let mut words = Vec::new(alloc);
-    for queues in Queues::ALL {
-        words.push(queues.word())?;
+    for kind in LinkKind::ALL {
+        words.push(kind.word())?;
     }
     Ok(words)
 }
@@ -320,13 +320,13 @@ fn any_of<'a>(
         .action(ArgAction::Append)
 }
 
-/// An option with a name, which may be repeated.
-fn names<'a>(alloc: Global, name: &'static str, help: &'static str) -> Arg<'a>
+/// An option with any text, which may be repeated, for which the help shows this one.
+fn names<'a>(alloc: Global, name: &'static str, help: &'static str, shown: &'static str) -> Arg<'a>
     ensures { IsArgument (names_rule name.now) result }
 {
     Arg::new(alloc, name)
         .long(name)
-        .value_name("NAME")
+        .value_name(shown)
         .help(help)
         .action(ArgAction::Append)
 }
@@ -345,7 +345,8 @@ fn argument<'a>(alloc: Global, word: ArgName, lent: Choices<'a>) -> Arg<'a>
         ValueKind::ArchitectureIfAny => one_of(alloc, name, help, lent.architectures),
         ValueKind::Kinds => any_of(alloc, name, help, lent.kinds),
         ValueKind::Format => one_of(alloc, name, help, lent.formats),
-        ValueKind::Names => names(alloc, name, help),
+        ValueKind::Names => names(alloc, name, help, "NAME"),
+        ValueKind::Links => names(alloc, name, help, "LINK"),
         ValueKind::Language => one_of(alloc, name, help, lent.languages),
         ValueKind::Choices => text(alloc, name, help, "C"),
         ValueKind::Rounds => text(alloc, name, help, "R,R.."),

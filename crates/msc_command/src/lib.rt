@@ -34,6 +34,7 @@ mod drawing;
 mod ending;
 mod grammar;
 mod importing;
+mod links;
 mod marked;
 mod misuse;
 mod naming;

@@ -54,7 +54,7 @@ fn write_told_of<E: Write>(
 fn is_check(task: Task<'_>) -> bool {
     matches!(
         task,
-        Task::Chart(ChartCommand::Check(_) | ChartCommand::Quiet(_))
+        Task::Chart(ChartCommand::Check(_) | ChartCommand::Quiet(_), _)
     )
 }
 

@@ -1,22 +1,28 @@
 //! Checks of all scenarios of a diagram.
 
-ghost use Rattle.std.specs.Prelude.{◌≡◌, ◌++◌, ◌∷◌, [], map, IfOk, OnOk};
+ghost use Rattle.std.specs.Prelude.{◌≡◌, ◌++◌, ◌∷◌, [], map, option_map, IfOk, OnOk};
+ghost use Rattle.msc_diagram.specs.Scenarios.{diagram_top, first_chart};
 ghost use Rattle.msc_command.specs.Answering.{AnswersWith};
 ghost use Rattle.msc_command.specs.Charting.{with_chart, AreCharts};
 ghost use Rattle.msc_command.specs.Scenarios.{BeginsScenarios, IsCharted, IsFormatOf};
 ghost use Rattle.msc_command.specs.Scenarios.{IsImportOfAll, PrintsScenarios, RefusesScenarios};
-ghost use Rattle.msc_command.specs.Scenarios.{BeginsAll, PrintsAll, PrintsCounted};
+ghost use Rattle.msc_command.specs.Scenarios.{BeginsAll, IsLinkedArgs, PrintsAll};
+ghost use Rattle.msc_command.specs.Scenarios.{PrintsCounted};
 
 use crate::choices::rounds_of;
 use crate::ending::{Refusal, Status, ended_by};
 use crate::importing::{chart_of, fence_of};
+use crate::links::queues_of_diagram;
 use crate::tasks::{CheckArgs, Format, ScenarioArgs};
+use msc_chart::{Chart, Queues};
 use msc_diagram::{
     DiagramFormat, DiagramStyle, Lent, Scenario, Source, judge_scenarios, scenarios_pass,
+    write_diagram_top,
 };
 use msc_import::{Drawings, ImportingAll, Scenario as Drawn, Scenarios, import_all};
 use msc_import_laws::laws::imports_are_charts;
 use msc_place::EventPositions;
+use msc_print::Page;
 use std::alloc::{AllocError, Global};
 use std::io::Write;
 use std::marker::Model;
@@ -168,6 +174,42 @@ fn format_of<'f>(check_args: CheckArgs, file: &'f [u8], drawn: bool) -> DiagramF
     }
 }
 
+/// Appends the first lines of the answer on a diagram of this name to a page.
+fn print_top(
+    page: &mut Page,
+    name: &[u8],
+    first: Option<&Chart>,
+    queues: &Queues,
+) -> Result<(), AllocError>
+    ensures { OnOk result (page.new.bytes.items ≡ page.old.bytes.items
+        ++ diagram_top name.now (option_map (λ chart. chart.now) first.entry) queues.now) }
+{
+    match write_diagram_top(page, name, first, queues) {
+        Ok(()) => Ok(()),
+        Err(_) => Err(AllocError),
+    }
+}
+
+/// The first lines of the answer on these scenarios of a diagram of this name.
+fn top_of(
+    alloc: Global,
+    name: &[u8],
+    scenarios: &Charts<'_>,
+    queues: &Queues,
+) -> Result<Page, AllocError>
+    ensures { IfOk result (λ page. page.bytes.items
+        ≡ diagram_top name.now (first_chart scenarios.now) queues.now) }
+{
+    let mut page = Page::new(alloc);
+    if scenarios.len() == 0 {
+        print_top(&mut page, name, None, queues)?;
+        return Ok(page);
+    }
+    let first = scenarios.scenario(alloc, 0)?;
+    print_top(&mut page, name, Some(&first.get().chart), queues)?;
+    Ok(page)
+}
+
 /// Writes the answer on the races of these scenarios, for a diagram of this name in this file.
 pub(crate) fn tell<O: Write>(
     alloc: Global,
@@ -196,7 +238,9 @@ pub(crate) fn tell<O: Write>(
         });
     }
     let format = format_of(words.check_args, file, drawn);
-    let listed = judge_scenarios(alloc, name, scenarios, queues, options, format, output)?;
+    let top = top_of(alloc, name, scenarios, &queues)?;
+    let top = top.bytes.as_slice();
+    let listed = judge_scenarios(alloc, top, scenarios, queues, options, format, output)?;
     Ok(Surveyed {
         status: ended_by(listed == 0),
         listed,
@@ -224,25 +268,47 @@ fn tell_all<O: Write>(
     }
 }
 
-/// Writes the answer on the races of all scenarios of a diagram in the file of this name.
-pub(crate) fn check_scenarios<O: Write>(
+/// The words with the queues that their rules give for these scenarios of a text.
+pub(crate) fn linked<'w>(
     alloc: Global,
-    words: ScenarioArgs<'_>,
+    words: ScenarioArgs<'w>,
+    text: &[u8],
+    scenarios: &Drawings<'_>,
+) -> Result<ScenarioArgs<'w>, Refusal<'w>>
+    requires { AreCharts scenarios.now }
+    ensures { IsLinkedArgs words.entry text.now scenarios.now result }
+{
+    let usual = words.check_args.queues.usual();
+    let queues = queues_of_diagram(alloc, usual, words.links, text, scenarios)?;
+    Ok(ScenarioArgs {
+        check_args: CheckArgs {
+            queues,
+            ..words.check_args
+        },
+        ..words
+    })
+}
+
+/// Writes the answer on the races of all scenarios of a diagram in the file of this name.
+pub(crate) fn check_scenarios<'w, O: Write>(
+    alloc: Global,
+    words: ScenarioArgs<'w>,
     file: &str,
     text: &[u8],
     output: &mut O,
-) -> Result<Status, Refusal<'static>>
+) -> Result<Status, Refusal<'w>>
     ensures { AnswersWith O.contents (PrintsScenarios words.entry file.now text.now)
         (BeginsScenarios words.entry file.now text.now)
         (RefusesScenarios words.entry text.now) result output.old output.new }
 {
     imports_are_charts();
     let all = import_of_all(alloc, words, text)?;
+    let linked = linked(alloc, words, text, &all.list)?;
     let charts = Charts::of(alloc, file, all.list)?;
     let name = all.name.as_slice();
     tell_all(
         alloc,
-        words,
+        linked,
         file.as_bytes(),
         name,
         all.drawn,

@@ -13,7 +13,7 @@ ghost use Rattle.msc_command.specs.Surveys.{refused_text, worse, BeginsBlock, Pr
 
 use crate::choices::rounds_of;
 use crate::ending::{Refusal, Status};
-use crate::scenarios::{Charts, Surveyed, tell};
+use crate::scenarios::{Charts, Surveyed, linked, tell};
 use crate::tasks::{CheckArgs, DiagramArgs, Format, ScenarioArgs};
 use msc_import::{ImportingAll, Scenarios, chart_name, import_all_from};
 use msc_import_laws::laws::imports_are_charts;
@@ -57,6 +57,7 @@ pub(crate) fn behind(words: ScenarioArgs<'_>, listed: u32) -> ScenarioArgs<'_>
         rounds: words.rounds,
         limit: words.limit,
         check_args,
+        links: words.links,
         quiet: words.quiet,
     }
 }
@@ -78,6 +79,7 @@ pub(crate) fn of_block(words: ScenarioArgs<'_>, number: usize) -> ScenarioArgs<'
         rounds: words.rounds,
         limit: words.limit,
         check_args: words.check_args,
+        links: words.links,
         quiet: words.quiet,
     }
 }
@@ -157,14 +159,14 @@ fn numbered(alloc: Global, name: &[u8], number: usize) -> Result<Page, AllocErro
 }
 
 /// Writes the answer on the races of all scenarios of the diagram with this number.
-pub(crate) fn check_block<O: Write>(
+pub(crate) fn check_block<'w, O: Write>(
     alloc: Global,
-    words: ScenarioArgs<'_>,
+    words: ScenarioArgs<'w>,
     found: &Markdown<'_>,
     file: &str,
     number: usize,
     output: &mut O,
-) -> Result<Surveyed, Refusal<'static>>
+) -> Result<Surveyed, Refusal<'w>>
     requires { markdown found.now.text ≡ Ok found.now }
     ensures { AnswersWith O.contents
         (PrintsBlock words.entry file.now found.now.text number)
@@ -174,11 +176,12 @@ pub(crate) fn check_block<O: Write>(
 {
     imports_are_charts();
     let all = import_of_block(alloc, words, found, number)?;
+    let linked = linked(alloc, words, found.text(), &all.list)?;
     let charts = Charts::of(alloc, file, all.list)?;
     let name = numbered(alloc, all.name.as_slice(), number)?;
     let shown = numbered(alloc, file.as_bytes(), number)?;
     let (name, shown) = (name.bytes.as_slice(), shown.bytes.as_slice());
-    tell(alloc, words, shown, name, all.drawn, &charts, output)
+    tell(alloc, linked, shown, name, all.drawn, &charts, output)
 }
 
 /// The lines of a refused diagram of this name.

@@ -8,7 +8,7 @@ ghost use Rattle.msc_command.specs.Asking.{AsksFor, IsDrawnFormat, IsEventWord, 
 ghost use Rattle.msc_command.specs.Asking.{IsEventStyle};
 ghost use Rattle.msc_command.specs.Asking.{chart_named, cross_named, lacks_choices, language_named};
 ghost use Rattle.msc_command.specs.Asking.{own_named, par_named, AreCheckArgs, IsDiagram};
-ghost use Rattle.msc_command.specs.Asking.{AreQuietArgs};
+ghost use Rattle.msc_command.specs.Asking.{AreLinkWords, AreQuietArgs};
 ghost use Rattle.msc_command.specs.Asking.{default_limit, is_limit, is_of_scenarios, lacks_from};
 ghost use Rattle.msc_command.specs.Asking.{lacks_rounds, stands, IsNumberGiven, IsOfChart};
 ghost use Rattle.msc_command.specs.Asking.{tells_notes, unlimited, AreRunsShown, IsTwofold};
@@ -24,7 +24,7 @@ use crate::choices::{gives_choices, gives_rounds, title_of};
 use crate::misuse::Misuse;
 use crate::words::{ArgName, CommandName};
 use clap::ArgMatches;
-use msc_chart::Queues;
+use msc_chart::{LinkKind, Queues};
 use msc_import::{Language, Manner, Own, Par};
 use msc_judge::CheckOptions;
 use msc_mermaid::Cross;
@@ -135,7 +135,16 @@ pub(crate) struct ReadyArgs<'w> {
     pub event_style: EventStyle,
 }
 
-/// A command on a chart.
+/// The rules for links in words of the command line: the links of each kind.
+#[derive(Clone, Copy)]
+pub(crate) struct LinkWords<'w> {
+    pub pairs: &'w [&'w str],
+    pub mailboxes: &'w [&'w str],
+    pub singles: &'w [&'w str],
+}
+
+/// A command on a chart. Its architecture is the kind of all links that no rule names, until the
+/// names in the rules are known.
 #[derive(Clone, Copy)]
 pub(crate) enum ChartCommand<'w> {
     /// Its races.
@@ -204,8 +213,11 @@ pub(crate) struct ScenarioArgs<'w> {
     pub rounds: Option<&'w str>,
     /// The greatest number of scenarios.
     pub limit: u32,
-    /// The check of each scenario; it has no marks.
+    /// The check of each scenario; it has no marks. Its architecture is the kind of all links that
+    /// no rule names, until the names in the rules are known.
     pub check_args: CheckArgs,
+    /// The rules for links.
+    pub links: LinkWords<'w>,
     /// Whether only the status is returned.
     pub quiet: bool,
 }
@@ -215,8 +227,8 @@ pub(crate) struct ScenarioArgs<'w> {
 pub(crate) enum Task<'w> {
     /// The canonical text.
     Read,
-    /// A command on its chart.
-    Chart(ChartCommand<'w>),
+    /// A command on its chart, and the rules for links.
+    Chart(ChartCommand<'w>, LinkWords<'w>),
     /// A picture of its chart, or a report.
     Draw(Drawn),
     /// The chart of a scenario of its diagram.
@@ -230,9 +242,9 @@ pub(crate) fn format_of(task: Task<'_>) -> Format
     ensures { result ≡ format_of task.entry }
 {
     match task {
-        Task::Chart(ChartCommand::Check(check_args)) => check_args.format,
+        Task::Chart(ChartCommand::Check(check_args), _) => check_args.format,
         Task::Scenarios(words) if !words.quiet => words.check_args.format,
-        Task::Read | Task::Chart(_) | Task::Draw(_) => Format::Text,
+        Task::Read | Task::Chart(..) | Task::Draw(_) => Format::Text,
         Task::Import(_) | Task::Scenarios(_) => Format::Text,
     }
 }
@@ -423,7 +435,9 @@ pub(crate) fn file_of<'w>(words: &'w ArgMatches) -> &'w str
 fn named_queues(words: &ArgMatches) -> Option<Queues>
     ensures { result ≡ architecture (found_of words.now) }
 {
-    Queues::of(words.get_str(ArgName::Queues.name())?)
+    Some(Queues::Uniform(LinkKind::of(words.get_str(
+        ArgName::Queues.name(),
+    )?)?))
 }
 
 /// The architecture that the words name.
@@ -434,6 +448,31 @@ fn queues_of<'w>(words: &'w ArgMatches) -> Result<Queues, Misuse<'w>>
     match named_queues(words) {
         Some(queues) => Ok(queues),
         None => Err(Misuse::NoQueues),
+    }
+}
+
+/// The words of an option that may be repeated.
+fn texts_of<'w>(words: &'w ArgMatches, word: ArgName) -> &'w [&'w str]
+    ensures { map (λ word. word.now) result.now ≡ args_of (found_of words.entry.now) (arg_word word) }
+{
+    words.get_strs(word.name()).unwrap_or(&[])
+}
+
+/// No rules for links.
+const NO_LINKS: LinkWords<'static> = LinkWords {
+    pairs: &[],
+    mailboxes: &[],
+    singles: &[],
+};
+
+/// The rules for links.
+fn link_words_of<'w>(words: &'w ArgMatches) -> LinkWords<'w>
+    ensures { AreLinkWords (found_of words.entry.now) result }
+{
+    LinkWords {
+        pairs: texts_of(words, ArgName::Pair),
+        mailboxes: texts_of(words, ArgName::Mailbox),
+        singles: texts_of(words, ArgName::Single),
     }
 }
 
@@ -467,15 +506,17 @@ fn quiet_args_of(queues: Queues, words: &ArgMatches) -> QuietArgs
 }
 
 /// The task of `msc check` on a chart. With `--quiet` only the status is returned.
-fn chart_check_of(queues: Queues, words: &ArgMatches) -> Task<'static>
+fn chart_check_of<'w>(queues: Queues, words: &'w ArgMatches) -> Task<'w>
     requires { IsOfChart (found_of words.now) }
-    ensures { architecture (found_of words.now) ≡ Some queues
-        → AsksFor CommandName.Check (found_of words.now) result }
+    ensures { architecture (found_of words.entry.now) ≡ Some queues
+        → AsksFor CommandName.Check (found_of words.entry.now) result }
 {
     if is_given(words, ArgName::Quiet) {
-        return Task::Chart(ChartCommand::Quiet(quiet_args_of(queues, words)));
+        let quiet_args = quiet_args_of(queues, words);
+        return Task::Chart(ChartCommand::Quiet(quiet_args), link_words_of(words));
     }
-    Task::Chart(ChartCommand::Check(check_args_of(queues, words, u32::MAX)))
+    let check_args = check_args_of(queues, words, u32::MAX);
+    Task::Chart(ChartCommand::Check(check_args), link_words_of(words))
 }
 
 /// Whether the words of `msc check` are for a diagram.
@@ -570,6 +611,7 @@ fn scenarios_of<'w>(queues: Queues, words: &'w ArgMatches) -> Result<Task<'w>, M
         rounds: rounds_word(words)?,
         limit: limit_in(words)?,
         check_args,
+        links: link_words_of(words),
         quiet: is_given(words, ArgName::Quiet),
     }))
 }
@@ -591,12 +633,12 @@ fn check_of<'w>(queues: Queues, words: &'w ArgMatches) -> Result<Task<'w>, Misus
 }
 
 /// The task of `msc run`.
-fn run_of(queues: Queues, words: &ArgMatches) -> Task<'static>
-    ensures { architecture (found_of words.now) ≡ Some queues
-        → AsksFor CommandName.Run (found_of words.now) result }
+fn run_of<'w>(queues: Queues, words: &'w ArgMatches) -> Task<'w>
+    ensures { architecture (found_of words.entry.now) ≡ Some queues
+        → AsksFor CommandName.Run (found_of words.entry.now) result }
 {
     let patience = number_of(words, ArgName::Patience, DEFAULT_PATIENCE);
-    Task::Chart(ChartCommand::Run(queues, patience))
+    Task::Chart(ChartCommand::Run(queues, patience), link_words_of(words))
 }
 
 /// The task of `msc explain`.
@@ -605,31 +647,33 @@ fn explain_of<'w>(queues: Queues, words: &'w ArgMatches) -> Result<Task<'w>, Mis
         → IfOk result (AsksFor CommandName.Explain (found_of words.entry.now)) }
     ensures misuse { IfErr result (IsPairMisuse (found_of words.entry.now)) }
 {
-    Ok(Task::Chart(ChartCommand::Explain(ExplainArgs {
+    let explain_args = ExplainArgs {
         queues,
         first: event_of(words, ArgName::FirstEvent)?,
         second: event_of(words, ArgName::SecondEvent)?,
         short: is_given(words, ArgName::Short),
         event_style: event_style_of(words),
-    })))
+    };
+    Ok(Task::Chart(ChartCommand::Explain(explain_args), link_words_of(words)))
 }
 
 /// The task of `msc follow`.
-fn follow_of(queues: Queues, words: &ArgMatches) -> Task<'static>
-    ensures { architecture (found_of words.now) ≡ Some queues
-        → AsksFor CommandName.Follow (found_of words.now) result }
+fn follow_of<'w>(queues: Queues, words: &'w ArgMatches) -> Task<'w>
+    ensures { architecture (found_of words.entry.now) ≡ Some queues
+        → AsksFor CommandName.Follow (found_of words.entry.now) result }
 {
-    Task::Chart(ChartCommand::Follow(FollowArgs {
+    let follow_args = FollowArgs {
         queues,
         event_style: event_style_of(words),
-    }))
+    };
+    Task::Chart(ChartCommand::Follow(follow_args), link_words_of(words))
 }
 
 /// The task of `msc list`.
 fn list_of(words: &ArgMatches) -> Task<'static>
     ensures { AsksFor CommandName.List (found_of words.now) result }
 {
-    Task::Chart(ChartCommand::List(is_given(words, ArgName::Places)))
+    Task::Chart(ChartCommand::List(is_given(words, ArgName::Places)), NO_LINKS)
 }
 
 /// The form of a picture.
@@ -664,26 +708,19 @@ fn reverse_of<'w>(queues: Queues, words: &'w ArgMatches) -> Result<Task<'w>, Mis
     })))
 }
 
-/// The names of the ready instances.
-fn names_of<'w>(words: &'w ArgMatches) -> &'w [&'w str]
-    ensures { map (λ word. word.now) result.now
-        ≡ args_of (found_of words.entry.now) (arg_word ArgName.Only) }
-{
-    words.get_strs(ArgName::Only.name()).unwrap_or(&[])
-}
-
 /// The task of `msc ready`.
 fn ready_of<'w>(queues: Queues, words: &'w ArgMatches) -> Task<'w>
     ensures { architecture (found_of words.entry.now) ≡ Some queues
         → AsksFor CommandName.Ready (found_of words.entry.now) result }
 {
-    Task::Chart(ChartCommand::Ready(ReadyArgs {
+    let ready_args = ReadyArgs {
         queues,
-        only: names_of(words),
+        only: texts_of(words, ArgName::Only),
         show: number_of(words, ArgName::ShowSticks, u32::MAX),
         again: is_given(words, ArgName::Again),
         event_style: event_style_of(words),
-    }))
+    };
+    Task::Chart(ChartCommand::Ready(ready_args), link_words_of(words))
 }
 
 /// The language that the words name.

@@ -27,6 +27,9 @@ pub(crate) enum ArgName {
     File,
     Queues,
     QueuesIfAny,
+    Pair,
+    Mailbox,
+    Single,
     Closest,
     Why,
     Most,
@@ -82,6 +85,8 @@ pub(crate) enum ValueKind {
     Format,
     /// An option with a name, which may be repeated.
     Names,
+    /// An option with a link, which may be repeated.
+    Links,
     /// An option with the language of a text.
     Language,
     /// An option with the choices of a scenario.
@@ -104,6 +109,10 @@ const SHOW_HELP: &str =
 const SHOW_STICKS_HELP: &str =
     "Print a run for each of the first N sticks that are first; without it, for all";
 
+const PAIR_HELP: &str = "Give LINK, NAME or 'NAME>NAME', a queue of its own; may be repeated";
+
+const MAILBOX_HELP: &str = "Let the messages of LINK go to the receiver's mailbox; may be repeated";
+
 const ONLY_HELP: &str =
     "Let this instance be ready, and no other one that is not named; may be repeated";
 
@@ -115,6 +124,9 @@ impl ArgName {
         match self {
             ArgName::File => "FILE",
             ArgName::Queues | ArgName::QueuesIfAny => "queues",
+            ArgName::Pair => "pair",
+            ArgName::Mailbox => "mailbox",
+            ArgName::Single => "single",
             ArgName::Closest => "closest",
             ArgName::Why => "why",
             ArgName::Most => "most",
@@ -161,6 +173,7 @@ impl ArgName {
                 ValueKind::Number,
             ArgName::Limit | ArgName::Fence => ValueKind::Number,
             ArgName::Only => ValueKind::Names,
+            ArgName::Pair | ArgName::Mailbox | ArgName::Single => ValueKind::Links,
             ArgName::Queues => ValueKind::Architecture,
             ArgName::QueuesIfAny => ValueKind::ArchitectureIfAny,
             ArgName::Allow => ValueKind::Kinds,
@@ -185,6 +198,9 @@ impl ArgName {
             ArgName::QueuesIfAny => {
                 "Mark the closest races, with such queues as `msc check --help` tells"
             }
+            ArgName::Pair => PAIR_HELP,
+            ArgName::Mailbox => MAILBOX_HELP,
+            ArgName::Single => "Give each message of LINK a queue of its own; may be repeated",
             ArgName::Closest => "List the closest races alone, and print how many there are",
             ArgName::Why => {
                 "Print the kind of each race, and the pair of events that would have to be enforced"
@@ -240,8 +256,11 @@ impl ArgName {
 }
 
 /// The words after `check`, in the order of the help.
-const CHECK: [ArgName; 23] = [
+const CHECK: [ArgName; 26] = [
     ArgName::Queues,
+    ArgName::Pair,
+    ArgName::Mailbox,
+    ArgName::Single,
     ArgName::Closest,
     ArgName::Why,
     ArgName::Most,
@@ -267,8 +286,11 @@ const CHECK: [ArgName; 23] = [
 ];
 
 /// The words after `explain`, in the order of the help.
-const EXPLAIN: [ArgName; 8] = [
+const EXPLAIN: [ArgName; 11] = [
     ArgName::Queues,
+    ArgName::Pair,
+    ArgName::Mailbox,
+    ArgName::Single,
     ArgName::Words,
     ArgName::Short,
     ArgName::Places,
@@ -279,8 +301,11 @@ const EXPLAIN: [ArgName; 8] = [
 ];
 
 /// The words after `follow`, in the order of the help.
-const FOLLOW: [ArgName; 5] = [
+const FOLLOW: [ArgName; 8] = [
     ArgName::Queues,
+    ArgName::Pair,
+    ArgName::Mailbox,
+    ArgName::Single,
     ArgName::Words,
     ArgName::Places,
     ArgName::Plain,
@@ -288,8 +313,11 @@ const FOLLOW: [ArgName; 5] = [
 ];
 
 /// The words after `run`, in the order of the help.
-const RUN: [ArgName; 5] = [
+const RUN: [ArgName; 8] = [
     ArgName::Queues,
+    ArgName::Pair,
+    ArgName::Mailbox,
+    ArgName::Single,
     ArgName::Patience,
     ArgName::Places,
     ArgName::Plain,
@@ -317,8 +345,11 @@ const REVERSE: [ArgName; 7] = [
 ];
 
 /// The words after `ready`, in the order of the help.
-const READY: [ArgName; 8] = [
+const READY: [ArgName; 11] = [
     ArgName::Queues,
+    ArgName::Pair,
+    ArgName::Mailbox,
+    ArgName::Single,
     ArgName::Only,
     ArgName::ShowSticks,
     ArgName::Again,

@@ -17,15 +17,15 @@ use Rattle.msc_diagram.specs.declared.numbers.PlaceCounts.{PlaceCounts}
 use Rattle.msc_diagram.specs.declared.place.EventPlace.{EventPlace}
 use Rattle.msc_diagram.specs.declared.scenario.Scenario.{Scenario}
 
-module _ {W : Type 0} (contents : W → Option (List ℕ)) (name : List ℕ) (scenarios : List Scenario) (queues : Queues) (q : CheckOptions) (form : DiagramFormat) (a : Asked) (page : List ℕ)
+module _ {W : Type 0} (contents : W → Option (List ℕ)) (top : List ℕ) (scenarios : List Scenario) (queues : Queues) (q : CheckOptions) (form : DiagramFormat) (a : Asked) (page : List ℕ)
     (are : (l : List Scenario) (cases : List Case) → AreCases a.queues a.options.short l cases → AreCases queues (asked form q).short l cases) where
   -- how an answer is told
   abbrev pub TellsAll : Result ℕ WriteFault → W → W → Type 0
-  TellsAll = TellsScenarios contents (JudgesScenarios name scenarios queues q form) (BeginsScenarios name scenarios queues q form)
+  TellsAll = TellsScenarios contents (JudgesScenarios top scenarios queues q form) (BeginsScenarios top scenarios queues q form)
 
   -- what is told of the first scenarios is the page and their text
   abbrev pub IsSoFar : PlaceCounts → List Case → Type 0
-  IsSoFar counts cases = told_so_far form name queues q (length scenarios) counts cases ≡ page ++ cases_text (telling_by a.format) a.queues a.options 1 [] cases
+  IsSoFar counts cases = told_so_far form top queues q (length scenarios) counts cases ≡ page ++ cases_text (telling_by a.format) a.queues a.options 1 [] cases
 
   module _ (counts : PlaceCounts) (above : AreCountsAbove form scenarios queues q counts) (so_far : (cases : List Case) → IsSoFar counts cases) where
     -- where a fault came while scenarios were put
@@ -76,7 +76,7 @@ module _ {W : Type 0} (contents : W → Option (List ℕ)) (name : List ℕ) (sc
           are = are scenarios p.cases p.are;
           answered = none;
           text = sym (append_assoc page text bottom) ∙ ap (λ (t : List ℕ). t ++ bottom) (sym so_far)
-              ∙ ap (λ (t : List ℕ). told_so_far form name queues q (length scenarios) (place_counts queues (asked form q) p.cases) p.cases ++ t) is;
+              ∙ ap (λ (t : List ℕ). told_so_far form top queues q (length scenarios) (place_counts queues (asked form q) p.cases) p.cases ++ t) is;
         },
         pages_out (contents old) (contents mid) (contents new) page final (text ++ bottom) (page ++ (text ++ bottom)) refl
             (pages_then (contents old) (contents mid) (contents mid) page last final text bottom p.put (pages_in (contents mid) last final bottom ended)) out,

@@ -63,21 +63,21 @@ bottom_text (Lines diagram_style) queues counts passed = diagram_end diagram_sty
 bottom_text (Count file) queues counts passed = tally_line file.now (tallied queues counts.races counts.listed)
 bottom_text Editor queues counts passed = []
 
--- what is written above and of these scenarios, if the diagram has so many, and so many places of
--- races
+-- what is written above and of these scenarios below the first lines, if the diagram has so many, and
+-- so many places of races
 abbrev pub told_so_far : DiagramFormat → List ℕ → Queues → CheckOptions → ℕ → PlaceCounts → List Case → List ℕ
-told_so_far (Lines diagram_style) name queues q count counts cases =
-    (diagram_head name queues count ++ counts_text q counts) ++ cases_text (lines_in diagram_style.words) queues q 1 [] cases
-told_so_far (Count file) name queues q count counts cases = []
-told_so_far Editor name queues q count counts cases = cases_text editors_in queues (asked Editor q) 1 [] cases
+told_so_far (Lines diagram_style) top queues q count counts cases =
+    (diagram_head top count ++ counts_text q counts) ++ cases_text (lines_in diagram_style.words) queues q 1 [] cases
+told_so_far (Count file) top queues q count counts cases = []
+told_so_far Editor top queues q count counts cases = cases_text editors_in queues (asked Editor q) 1 [] cases
 
 -- What is printed of scenarios, and how many places of races are listed.
-pub record JudgesScenarios (name : List ℕ) (scenarios : List Scenario) (queues : Queues) (q : CheckOptions) (form : DiagramFormat) (listed : ℕ) (printed : List ℕ) : Type 0 where
+pub record JudgesScenarios (top : List ℕ) (scenarios : List Scenario) (queues : Queues) (q : CheckOptions) (form : DiagramFormat) (listed : ℕ) (printed : List ℕ) : Type 0 where
   pub cases : List Case
   pub are : AreCases queues (asked form q).short scenarios cases
   pub answered : listed ≡ (place_counts queues (asked form q) cases).listed
   pub text : printed
-      ≡ told_so_far form name queues q (length scenarios) (place_counts queues (asked form q) cases) cases
+      ≡ told_so_far form top queues q (length scenarios) (place_counts queues (asked form q) cases) cases
       ++ bottom_text form queues (place_counts queues (asked form q) cases) (passed_of queues q.allowed cases)
 
 -- the numbers that stand above the scenarios, if some do: in lines, with options that choose among
@@ -88,13 +88,13 @@ AreCountsAbove (Count file) scenarios queues q counts = Unit {0}
 AreCountsAbove Editor scenarios queues q counts = Unit {0}
 
 -- What is printed above and of the first of the scenarios: with what is printed of all, it begins.
-pub record BeginsScenarios (name : List ℕ) (scenarios : List Scenario) (queues : Queues) (q : CheckOptions) (form : DiagramFormat) (printed : List ℕ) : Type 0 where
+pub record BeginsScenarios (top : List ℕ) (scenarios : List Scenario) (queues : Queues) (q : CheckOptions) (form : DiagramFormat) (printed : List ℕ) : Type 0 where
   pub counts : PlaceCounts
   pub above : AreCountsAbove form scenarios queues q counts
   pub first : ℕ
   pub cases : List Case
   pub are : AreCases queues (asked form q).short (take first scenarios) cases
-  pub text : printed ≡ told_so_far form name queues q (length scenarios) counts cases
+  pub text : printed ≡ told_so_far form top queues q (length scenarios) counts cases
 
 -- An answer is told: what is printed of all went behind the known bytes of a writer; or memory ran
 -- out, and the writer has had no call or has a beginning of what is printed of the first scenarios;

@@ -3,7 +3,7 @@ use Rattle.std.specs.Prelude.{◌≡◌, ℕ, ◌+◌, Bool, cond, List, [], ◌
 use Rattle.std.specs.Fmt.{decimal}
 use Rattle.std.specs.List.{flat_map, All}
 use Rattle.msc_chart.specs.declared.queue.Queues.{Queues}
-use Rattle.msc_chart.specs.Drawings.{IsAccepted}
+use Rattle.msc_chart.specs.Drawings.{Drawing, IsAccepted}
 use Rattle.msc_order.specs.Tables.{Table}
 use Rattle.msc_race.specs.Views.{races_of, wiring_of}
 use Rattle.msc_race.specs.Wired.{enforced_chart, EnforcedChart, IsEnforced}
@@ -15,6 +15,7 @@ use Rattle.msc_judge.specs.Findings.{AreShown, Texts}
 use Rattle.msc_judge.specs.Telling.{race_text, told_from}
 use Rattle.msc_judge.specs.declared.options.CheckOptions.{CheckOptions}
 use Rattle.msc_report.specs.Texts.{text_line}
+use Rattle.msc_report.specs.Links.{queues_text}
 use Rattle.msc_report.specs.Verdicts.{queues_line}
 use Rattle.msc_diagram.specs.Places.{above_with, fresh}
 use Rattle.msc_diagram.specs.declared.place.EventPlace.{EventPlace}
@@ -106,7 +107,20 @@ cases_text t queues q i above (c ∷ cases) =
 abbrev pub passed_of : Queues → KindSet → List Case → ℕ
 passed_of queues kinds cases = count_by (λ c. nat_eq (length (counting_of queues kinds c)) 0) cases
 
+-- the lines of an architecture, with the names of a chart's instances if there is one
+abbrev pub queues_of : Option Drawing → Queues → List ℕ
+queues_of None queues = queues_line queues
+queues_of (Some d) queues = queues_text d queues
+
+-- the first lines of an answer on a diagram: its name, and the queues
+abbrev pub diagram_top : List ℕ → Option Drawing → Queues → List ℕ
+diagram_top name first queues = (codes "diagram " ++ text_line name) ++ queues_of first queues
+
+-- the chart of the first of these scenarios
+abbrev pub first_chart : List Scenario → Option Drawing
+first_chart [] = None
+first_chart (s ∷ scenarios) = Some s.chart
+
 -- what stands above all scenarios
-abbrev pub diagram_head : List ℕ → Queues → ℕ → List ℕ
-diagram_head name queues count =
-    (codes "diagram " ++ text_line name) ++ (queues_line queues ++ (codes "scenarios " ++ text_line (decimal count)))
+abbrev pub diagram_head : List ℕ → ℕ → List ℕ
+diagram_head top count = top ++ (codes "scenarios " ++ text_line (decimal count))

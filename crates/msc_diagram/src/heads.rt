@@ -1,18 +1,19 @@
 //! The lines above and below all scenarios, and above the races of one.
 
-ghost use Rattle.std.specs.Prelude.{[], ◌++◌, OnOk, codes};
+ghost use Rattle.std.specs.Prelude.{[], ◌++◌, OnOk, codes, option_map};
 ghost use Rattle.std.specs.Fmt.{decimal};
 ghost use Rattle.std.specs.Io.KnownBytes.{Appends};
 ghost use Rattle.std.specs.List.{flat_map};
 ghost use Rattle.msc_report.specs.Texts.{text_line};
 ghost use Rattle.msc_diagram.specs.Counts.{counts_text, diagram_end, number_line, option_line};
 ghost use Rattle.msc_diagram.specs.Counts.{options_text, pass_line};
-ghost use Rattle.msc_diagram.specs.Scenarios.{choices_text, diagram_head, scenario_head};
+ghost use Rattle.msc_diagram.specs.Scenarios.{choices_text, diagram_head, diagram_top};
+ghost use Rattle.msc_diagram.specs.Scenarios.{queues_of, scenario_head};
 
 use crate::numbers::{PlaceCounts, chooses};
-use msc_chart::Queues;
+use msc_chart::{Chart, Queues};
 use msc_judge::CheckOptions;
-use msc_report::write_queues_line;
+use msc_report::{write_queues, write_queues_line};
 use std::io;
 use std::io::Write;
 
@@ -66,18 +67,46 @@ fn write_name<W: Write>(writer: &mut W, name: &[u8]) -> io::Result<()>
     writer.write_all(b"\n")
 }
 
-/// Writes the lines above all scenarios, and their number.
-pub(crate) fn write_diagram_head<W: Write>(
+/// Writes the lines of an architecture, with the names of a chart's instances if there is one.
+fn write_queues_of<W: Write>(
+    writer: &mut W,
+    first: Option<&Chart>,
+    queues: &Queues,
+) -> io::Result<()>
+    ensures { OnOk result (Appends (W.contents writer.old) (W.contents writer.new)
+        (queues_of (option_map (λ chart. chart.now) first.entry) queues.now)) }
+{
+    match first {
+        Some(chart) => write_queues(writer, chart, queues),
+        None => write_queues_line(writer, queues),
+    }
+}
+
+/// Writes the first lines of an answer on a diagram: its name, and the queues, with the names of
+/// the instances of its first scenario.
+pub fn write_diagram_top<W: Write>(
     writer: &mut W,
     name: &[u8],
-    queues: Queues,
+    first: Option<&Chart>,
+    queues: &Queues,
+) -> io::Result<()>
+    ensures { OnOk result (Appends (W.contents writer.old) (W.contents writer.new)
+        (diagram_top name.now (option_map (λ chart. chart.now) first.entry) queues.now)) }
+{
+    write_name(writer, name)?;
+    write_queues_of(writer, first, queues)
+}
+
+/// Writes the lines above all scenarios: the first lines, and their number.
+pub(crate) fn write_diagram_head<W: Write>(
+    writer: &mut W,
+    top: &[u8],
     count: usize,
 ) -> io::Result<()>
     ensures { OnOk result (Appends (W.contents writer.old) (W.contents writer.new)
-        (diagram_head name.now queues count)) }
+        (diagram_head top.now count)) }
 {
-    write_name(writer, name)?;
-    write_queues_line(writer, queues)?;
+    writer.write_all(top)?;
     writeln!(writer, "scenarios {count}")
 }
 

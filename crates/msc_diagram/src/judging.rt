@@ -57,12 +57,12 @@ fn counts_above<S: Source>(
     Ok(Some(count_places(alloc, scenarios, queues, options)?))
 }
 
-/// Appends the lines above all scenarios to a page.
-fn print_top(page: &mut Page, name: &[u8], queues: Queues, count: usize) -> Result<(), AllocError>
+/// Appends the lines above all scenarios to a page: the first lines, and their number.
+fn print_top(page: &mut Page, top: &[u8], count: usize) -> Result<(), AllocError>
     ensures { OnOk result (page.new.bytes.items
-        ≡ page.old.bytes.items ++ diagram_head name.now queues count) }
+        ≡ page.old.bytes.items ++ diagram_head top.now count) }
 {
-    match write_diagram_head(page, name, queues, count) {
+    match write_diagram_head(page, top, count) {
         Ok(()) => Ok(()),
         Err(_) => Err(AllocError),
     }
@@ -105,7 +105,7 @@ fn print_bottom(
 /// Writes the races of all scenarios in lines; returns how many are listed.
 fn write_lines<S: Source, W: Write>(
     alloc: Global,
-    name: &[u8],
+    top: &[u8],
     scenarios: &S,
     queues: Queues,
     options: CheckOptions,
@@ -113,8 +113,8 @@ fn write_lines<S: Source, W: Write>(
     writer: &mut W,
 ) -> Result<u32, WriteFault>
     ensures { TellsScenarios W.contents
-        (JudgesScenarios name.now (S.scenarios scenarios.now) queues options (DiagramFormat.Lines diagram_style))
-        (BeginsScenarios name.now (S.scenarios scenarios.now) queues options (DiagramFormat.Lines diagram_style))
+        (JudgesScenarios top.now (S.scenarios scenarios.now) queues options (DiagramFormat.Lines diagram_style))
+        (BeginsScenarios top.now (S.scenarios scenarios.now) queues options (DiagramFormat.Lines diagram_style))
         result writer.old writer.new }
 {
     let asked = Asked {
@@ -126,7 +126,7 @@ fn write_lines<S: Source, W: Write>(
     let count = scenarios.len();
     let mut page = Page::new(alloc);
     let mut reported = ReportedRaces::new(alloc);
-    print_top(&mut page, name, queues, count)?;
+    print_top(&mut page, top, count)?;
     print_counts(&mut page, options, above)?;
     let passed = print_cases(alloc, writer, &mut page, &mut reported, asked, scenarios)?;
     let counts = counts_from(above, reported.len());
@@ -138,15 +138,15 @@ fn write_lines<S: Source, W: Write>(
 /// Writes the races of all scenarios in lines for editors; returns how many are listed.
 fn write_editor<S: Source, W: Write>(
     alloc: Global,
-    name: &[u8],
+    top: &[u8],
     scenarios: &S,
     queues: Queues,
     options: CheckOptions,
     writer: &mut W,
 ) -> Result<u32, WriteFault>
     ensures { TellsScenarios W.contents
-        (JudgesScenarios name.now (S.scenarios scenarios.now) queues options DiagramFormat.Editor)
-        (BeginsScenarios name.now (S.scenarios scenarios.now) queues options DiagramFormat.Editor)
+        (JudgesScenarios top.now (S.scenarios scenarios.now) queues options DiagramFormat.Editor)
+        (BeginsScenarios top.now (S.scenarios scenarios.now) queues options DiagramFormat.Editor)
         result writer.old writer.new }
 {
     let asked = Asked {
@@ -197,9 +197,9 @@ fn write_count<S: Source, W: Write>(
     file: &[u8],
     writer: &mut W,
 ) -> Result<u32, WriteFault>
-    ensures { (name : List ℕ) → TellsScenarios W.contents
-        (JudgesScenarios name (S.scenarios scenarios.now) queues options (DiagramFormat.Count file.entry))
-        (BeginsScenarios name (S.scenarios scenarios.now) queues options (DiagramFormat.Count file.entry))
+    ensures { (top : List ℕ) → TellsScenarios W.contents
+        (JudgesScenarios top (S.scenarios scenarios.now) queues options (DiagramFormat.Count file.entry))
+        (BeginsScenarios top (S.scenarios scenarios.now) queues options (DiagramFormat.Count file.entry))
         result writer.old writer.new }
 {
     let closest = CheckOptions::counted(options.allowed);
@@ -211,13 +211,14 @@ fn write_count<S: Source, W: Write>(
 }
 
 /// Writes the races of all scenarios of a diagram in a form, each race once: a race is not listed
-/// again if an earlier one has the places of its events. Returns how many are listed.
+/// again if an earlier one has the places of its events. Lines begin with `top`
+/// ([`write_diagram_top`](crate::write_diagram_top)). Returns how many are listed.
 ///
 /// An error is `Memory` if a growth of memory was refused; a beginning may have been written then.
 /// It is `Device` if the writer fails.
 pub fn judge_scenarios<S: Source, W: Write>(
     alloc: Global,
-    name: &[u8],
+    top: &[u8],
     scenarios: &S,
     queues: Queues,
     options: CheckOptions,
@@ -225,15 +226,15 @@ pub fn judge_scenarios<S: Source, W: Write>(
     writer: &mut W,
 ) -> Result<u32, WriteFault>
     ensures { TellsScenarios W.contents
-        (JudgesScenarios name.now (S.scenarios scenarios.now) queues options form.entry)
-        (BeginsScenarios name.now (S.scenarios scenarios.now) queues options form.entry)
+        (JudgesScenarios top.now (S.scenarios scenarios.now) queues options form.entry)
+        (BeginsScenarios top.now (S.scenarios scenarios.now) queues options form.entry)
         result writer.old writer.new }
 {
     match form {
         DiagramFormat::Lines(diagram_style) => {
             write_lines(
                 alloc,
-                name,
+                top,
                 scenarios,
                 queues,
                 options,
@@ -242,6 +243,6 @@ pub fn judge_scenarios<S: Source, W: Write>(
             )
         }
         DiagramFormat::Count(file) => write_count(alloc, scenarios, queues, options, file, writer),
-        DiagramFormat::Editor => write_editor(alloc, name, scenarios, queues, options, writer),
+        DiagramFormat::Editor => write_editor(alloc, top, scenarios, queues, options, writer),
     }
 }

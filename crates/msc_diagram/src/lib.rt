@@ -41,6 +41,7 @@ mod source;
 mod telling;
 
 pub use fault::write_import_fault;
+pub use heads::write_diagram_top;
 pub use judging::{DiagramFormat, DiagramStyle, judge_scenarios};
 pub use lent::Lent;
 pub use passing::scenarios_pass;

@@ -1,9 +1,10 @@
 -- That reports are plain, where the texts of their pictures are.
 use Rattle.std.proofs.Common.{◌≡◌, ℕ, ◌-◌, Bool, true, false, cond, List, [], ◌∷◌, Option, None, Some, codes, length, map, nat_eq, nat_lt, refl}
 use Rattle.std.specs.Fmt.{decimal}
-use Rattle.msc_chart.specs.Architectures.{queues_word}
+use Rattle.msc_chart.specs.Architectures.{queues_word, usual_of}
 use Rattle.msc_chart.specs.declared.queue.Queues.{Queues}
-use Rattle.msc_chart.specs.declared.queue.Queues.TheVariants.{Pair, Mailbox, Single}
+use Rattle.msc_chart.specs.declared.queue.LinkKind.{LinkKind}
+use Rattle.msc_chart.specs.declared.queue.LinkKind.TheVariants.{Pair, Mailbox, Single}
 use Rattle.msc_chart.proofs.ListLemmas.{by_test}
 use Rattle.msc_draw.specs.Verdicts.{counts_text, races_word, verdict_text}
 use Rattle.msc_picture.specs.declared.scene.Scene.{Scene}
@@ -23,7 +24,7 @@ use Rattle.msc_html.specs.Figures.{drawing_attributes, drawing_node, figure_node
 use Rattle.msc_html.specs.Front.{advice_nodes, head_node, named_meta, sheet, store_node}
 use Rattle.msc_html.specs.Parts.{code, words}
 use Rattle.msc_html.specs.Plain.{ArePlainRuns}
-use Rattle.msc_html.specs.Reports.{Report, begin_nodes, body_node, caption_text, chart_node, chart_nodes, checked_text, count_text, counted_nodes, end_nodes, front_nodes, if_any, main_nodes, more_node, more_nodes, passed_nodes, queues_text, race_text, races_nodes, races_title, report_node, report_text, shown_node, text_byte, title_text, verdict_nodes, version_node}
+use Rattle.msc_html.specs.Reports.{Report, begin_nodes, body_node, caption_text, chart_node, chart_nodes, checked_text, count_text, counted_nodes, end_nodes, front_nodes, if_any, link_text, main_nodes, more_node, more_nodes, passed_nodes, queues_text, race_text, races_nodes, races_title, report_node, report_text, shown_node, text_byte, title_text, verdict_nodes, version_node}
 use Rattle.msc_html.proofs.PlainSentences.{drawn_plain, causes_plain, next_part, no_parts, one_part, queues_plain, reason_plain, sentence_plain, title_plain}
 
 -- a block, which may be empty
@@ -144,10 +145,13 @@ title_of_page name queues races closest p =
     plain_join _ (verdict_text queues races closest) (plain_join name (codes ", ") p (plain_by _ refl))
     (over_plain queues races closest)
 
+link_told : (kind : LinkKind) → is_plain (link_text kind) ≡ true
+link_told Pair = plain_by _ refl
+link_told Mailbox = plain_by _ refl
+link_told Single = plain_by _ refl
+
 queues_told : (queues : Queues) → is_plain (queues_text queues) ≡ true
-queues_told Pair = plain_by _ refl
-queues_told Mailbox = plain_by _ refl
-queues_told Single = plain_by _ refl
+queues_told queues = link_told (usual_of queues)
 
 checked_plain : (queues : Queues) → is_plain (checked_text queues) ≡ true
 checked_plain queues =

@@ -1,9 +1,10 @@
 -- The report of a chart's races as a tree, and its bytes.
 use Rattle.std.specs.Prelude.{ℕ, ◌-◌, cond, List, [], ◌∷◌, ◌++◌, codes, map, nat_eq, nat_lt}
 use Rattle.std.specs.Fmt.{decimal}
-use Rattle.msc_chart.specs.Architectures.{queues_word}
+use Rattle.msc_chart.specs.Architectures.{queues_word, usual_of}
 use Rattle.msc_chart.specs.declared.queue.Queues.{Queues}
-use Rattle.msc_chart.specs.declared.queue.Queues.TheVariants.{Pair, Mailbox, Single}
+use Rattle.msc_chart.specs.declared.queue.LinkKind.{LinkKind}
+use Rattle.msc_chart.specs.declared.queue.LinkKind.TheVariants.{Pair, Mailbox, Single}
 use Rattle.msc_draw.specs.Verdicts.{verdict_text}
 use Rattle.msc_picture.specs.declared.scene.Scene.{Scene}
 use Rattle.msc_picture.specs.Scenes.{shown_byte}
@@ -40,11 +41,15 @@ report queues races closest scene articles text version = record {
   version = version;
 }
 
+-- a kind of links in words
+abbrev pub link_text : LinkKind → List ℕ
+link_text Pair = codes "one queue for each sender and receiver"
+link_text Mailbox = codes "one queue for each receiver"
+link_text Single = codes "one queue for each message"
+
 -- an architecture in words
 abbrev pub queues_text : Queues → List ℕ
-queues_text Pair = codes "one queue for each sender and receiver"
-queues_text Mailbox = codes "one queue for each receiver"
-queues_text Single = codes "one queue for each message"
+queues_text queues = link_text (usual_of queues)
 
 -- what is checked
 abbrev pub checked_text : Queues → List ℕ

@@ -10,7 +10,7 @@ ghost use Rattle.msc_tree.specs.Trees.{line_text, lines_text};
 
 use crate::figure::put_figure;
 use crate::part::{Part, SentenceStyle, Tag, part_of, put_sentence};
-use msc_chart::Queues;
+use msc_chart::{LinkKind, Queues};
 use msc_picture::Scene;
 use msc_tree::{put_decimal, put_plain};
 use std::alloc::{AllocError, Global};
@@ -19,10 +19,10 @@ use std::alloc::{AllocError, Global};
 fn queues_text(queues: Queues) -> &'static [u8]
     ensures { result.now ≡ queues_text queues }
 {
-    match queues {
-        Queues::Pair => b"one queue for each sender and receiver",
-        Queues::Mailbox => b"one queue for each receiver",
-        Queues::Single => b"one queue for each message",
+    match queues.usual() {
+        LinkKind::Pair => b"one queue for each sender and receiver",
+        LinkKind::Mailbox => b"one queue for each receiver",
+        LinkKind::Single => b"one queue for each message",
     }
 }
 

@@ -3,8 +3,8 @@ use Rattle.std.specs.Prelude.{ℕ, ◌+◌, Bool, ◌||◌, not, ◌==◌, nat_e
 use Rattle.std.specs.List.{prefix_len, slice_split}
 use Rattle.std.specs.Str.{bytes_eq}
 use Rattle.msc_lexer.specs.Bytes.{is_run_byte}
-use Rattle.msc_chart.specs.declared.queue.Queues.TheVariants.{Pair, Mailbox, Single}
-use Rattle.msc_chart.specs.Architectures.{queues_word}
+use Rattle.msc_chart.specs.declared.queue.LinkKind.TheVariants.{Pair, Mailbox, Single}
+use Rattle.msc_chart.specs.Architectures.{link_word}
 use Rattle.msc_mark.specs.declared.word.Closing.{Closing}
 use Rattle.msc_mark.specs.declared.word.Closing.TheVariants.{Bare, Comma, Semicolon, Other}
 
@@ -45,4 +45,4 @@ closing_of word =
 -- the word for an architecture
 abbrev pub is_architecture : List ℕ → Bool
 is_architecture name =
-    (bytes_eq name (queues_word Pair) || bytes_eq name (queues_word Mailbox)) || bytes_eq name (queues_word Single)
+    (bytes_eq name (link_word Pair) || bytes_eq name (link_word Mailbox)) || bytes_eq name (link_word Single)

@@ -10,7 +10,7 @@ ghost use Rattle.msc_mark.specs.declared.place.MarkPlace.TheVariants.{Race};
 
 use crate::word::{Closing, closing_of, name_of};
 use listed::Listed;
-use msc_chart::Queues;
+use msc_chart::LinkKind;
 
 /// A place between two words of a mark.
 #[derive(Clone, Copy, Debug, PartialEq, Eq)]
@@ -39,9 +39,9 @@ pub(crate) enum MarkPlace {
 fn is_architecture(name: &[u8]) -> bool
     ensures { result ≡ is_architecture name.now }
 {
-    name == Queues::Pair.word().as_bytes()
-        || name == Queues::Mailbox.word().as_bytes()
-        || name == Queues::Single.word().as_bytes()
+    name == LinkKind::Pair.word().as_bytes()
+        || name == LinkKind::Mailbox.word().as_bytes()
+        || name == LinkKind::Single.word().as_bytes()
 }
 
 /// The place after an architecture.

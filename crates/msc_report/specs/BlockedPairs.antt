@@ -6,7 +6,8 @@ use Rattle.msc_chart.specs.Charts.{line, message, partner}
 use Rattle.msc_chart.specs.Drawings.{Drawing, message_at}
 use Rattle.msc_place.specs.EventPositions.{EventPositionsIn}
 use Rattle.msc_report.specs.Texts.{text_line}
-use Rattle.msc_report.specs.Verdicts.{instance_text, message_text, name_line, pair_place, queues_line, race_events, race_text}
+use Rattle.msc_report.specs.Links.{queues_text}
+use Rattle.msc_report.specs.Verdicts.{instance_text, message_text, name_line, pair_place, race_events, race_text}
 use Rattle.msc_report.specs.Lines.{pair_text}
 use Rattle.msc_report.specs.Styles.{at_text, event_positions_in}
 use Rattle.msc_report.specs.declared.style.Style.{Style}
@@ -34,7 +35,7 @@ finishing_line count may =
 -- what is written before sticks
 abbrev pub ready_head : Drawing → Queues → Option (List Bool) → ℕ → Bool → List ℕ
 ready_head d queues lines count may =
-    name_line d ++ (queues_line queues ++ (ready_line d lines ++ finishing_line count may))
+    name_line d ++ (queues_text d queues ++ (ready_line d lines ++ finishing_line count may))
 
 -- what comes at an input: its message, and from whom
 abbrev pub coming_text : Drawing → ℕ → List ℕ

@@ -9,7 +9,8 @@ use Rattle.msc_report.specs.Lines.{pair_line, pair_text}
 use Rattle.msc_report.specs.Reasons.{step_word}
 use Rattle.msc_report.specs.Styles.{run_text}
 use Rattle.msc_report.specs.Texts.{text_line}
-use Rattle.msc_report.specs.Verdicts.{name_line, queues_line}
+use Rattle.msc_report.specs.Links.{queues_text}
+use Rattle.msc_report.specs.Verdicts.{name_line}
 
 -- the steps from x over these events, one after the other
 abbrev pub steps_from : ℕ → List ℕ → List (ℕ × ℕ)
@@ -31,12 +32,12 @@ steps_text event_positions d steps = flat_map (λ p. pair_text event_positions [
 
 -- that a run keeps the drawing
 abbrev pub follows_text : Bool → Drawing → Queues → List ℕ → List ℕ
-follows_text words d queues run = name_line d ++ (queues_line queues ++ (text_line (codes "follows") ++ run_text words d run))
+follows_text words d queues run = name_line d ++ (queues_text d queues ++ (text_line (codes "follows") ++ run_text words d run))
 
 -- that none does, by the steps of a ring
 abbrev pub never_text : Option EventPositionsIn → Drawing → Queues → List (ℕ × ℕ) → List ℕ
 never_text event_positions d queues steps =
-    name_line d ++ (queues_line queues ++ (text_line (codes "never") ++ steps_text event_positions d steps))
+    name_line d ++ (queues_text d queues ++ (text_line (codes "never") ++ steps_text event_positions d steps))
 
 -- a step as a note for editors, at its first event
 abbrev pub note_text : EventPositionsIn → Drawing → ℕ × ℕ → List ℕ

@@ -2,6 +2,8 @@
 pub mod Refusals
 pub mod Texts
 pub mod Verdicts
+pub mod Links
+pub mod Heads
 pub mod Traces
 pub mod EventTexts
 pub mod Styles

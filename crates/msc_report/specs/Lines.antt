@@ -9,7 +9,8 @@ use Rattle.msc_judge.specs.declared.renderer.Heading.{Heading}
 use Rattle.msc_place.specs.EventPositions.{EventPositionsIn}
 use Rattle.msc_report.specs.Styles.{at_text}
 use Rattle.msc_report.specs.Texts.{text_line}
-use Rattle.msc_report.specs.Verdicts.{event_at, head_text, race_text}
+use Rattle.msc_report.specs.Heads.{head_text}
+use Rattle.msc_report.specs.Verdicts.{event_at, race_text}
 
 -- how many races do not count, where kinds are left out
 abbrev pub left_out_line : Option ℕ → List ℕ

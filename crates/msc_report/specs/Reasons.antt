@@ -12,7 +12,8 @@ use Rattle.msc_reason.specs.declared.why.Why.TheVariants.{Straight, ByQueue}
 use Rattle.msc_place.specs.EventPositions.{EventPositionsIn}
 use Rattle.msc_reason.specs.Named.{AreEventsOf}
 use Rattle.msc_report.specs.Texts.{text_line}
-use Rattle.msc_report.specs.Verdicts.{name_line, queues_line, race_text}
+use Rattle.msc_report.specs.Links.{queues_text}
+use Rattle.msc_report.specs.Verdicts.{name_line, race_text}
 use Rattle.msc_report.specs.Styles.{at_text, run_text, event_positions_in}
 use Rattle.msc_report.specs.Lines.{pair_text, why_text}
 use Rattle.msc_report.specs.declared.style.Style.{Style}
@@ -62,4 +63,4 @@ reason_text style d e f (Free run cause late) =
 
 -- what is printed of two events of a chart
 abbrev pub explained_text : Style → Drawing → Queues → ℕ → ℕ → Reason → List ℕ
-explained_text style d queues e f reason = name_line d ++ (queues_line queues ++ reason_text style d e f reason)
+explained_text style d queues e f reason = name_line d ++ (queues_text d queues ++ reason_text style d e f reason)

@@ -12,6 +12,8 @@ use Rattle.msc_chart.specs.declared.fault.ChartFault.{ChartFault}
 use Rattle.msc_chart.specs.declared.fault.ChartFault.TheVariants as charts
 use Rattle.msc_chart.specs.declared.fault.UnrollFault.{UnrollFault}
 use Rattle.msc_chart.specs.declared.fault.UnrollFault.TheVariants as rounds
+use Rattle.msc_links.specs.declared.fault.LinkFault.{LinkFault}
+use Rattle.msc_links.specs.declared.fault.LinkFault.TheVariants.{NoLink, NoInstance, TwoKinds}
 use Rattle.msc_mark.specs.declared.fault.MarkFault.{MarkFault}
 use Rattle.msc_mark.specs.declared.fault.MarkFault.TheVariants as marks
 use Rattle.msc_report.specs.declared.fault.Fault.{Fault}
@@ -90,6 +92,12 @@ pair_fault_line (NoRace e f) =
 -- the line of a name that is that of no instance; a byte that can't be printed is a question mark
 abbrev pub instance_fault_line : List ℕ → List ℕ
 instance_fault_line name = codes "ready fault 1: no instance " ++ text_line (map shown_byte name)
+
+-- the line of the fault of a rule for links
+abbrev pub link_fault_line : LinkFault → List ℕ
+link_fault_line (NoLink link) = codes "link fault 1: " ++ (map shown_byte link.now ++ text_line (codes " is no link"))
+link_fault_line (NoInstance name) = codes "link fault 2: no instance " ++ text_line (map shown_byte name.now)
+link_fault_line (TwoKinds link) = codes "link fault 3: " ++ (map shown_byte link.now ++ text_line (codes " has two kinds"))
 
 -- the line of a comment that is to be a mark, and is none
 abbrev pub mark_fault_line : MarkFault → List ℕ

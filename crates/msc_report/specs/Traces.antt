@@ -8,7 +8,8 @@ use Rattle.msc_chart.specs.Drawings.{Drawing}
 use Rattle.msc_ending.specs.declared.end.End.{End}
 use Rattle.msc_ending.specs.declared.end.End.TheVariants.{Finished, Starved, Impatient, Stopped, Foreign}
 use Rattle.msc_report.specs.Texts.{text_line}
-use Rattle.msc_report.specs.Verdicts.{event_text, instance_text, name_line, queues_line}
+use Rattle.msc_report.specs.Links.{queues_text}
+use Rattle.msc_report.specs.Verdicts.{event_text, instance_text, name_line}
 
 -- how the run of an instance ended; a foreign message has its number
 abbrev pub end_text : End → List ℕ
@@ -43,4 +44,4 @@ trace_lines d (Some events) =
 -- an execution: the chart's name, the architecture, how each instance ended, and the trace
 abbrev pub trace_text : Drawing → Queues → List End → Option (List ℕ) → List ℕ
 trace_text d queues ends trace =
-    name_line d ++ (queues_line queues ++ (end_lines d 0 ends ++ trace_lines d trace))
+    name_line d ++ (queues_text d queues ++ (end_lines d 0 ends ++ trace_lines d trace))

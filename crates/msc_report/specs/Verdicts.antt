@@ -30,14 +30,6 @@ outcome_line (Races pairs) = codes "races " ++ text_line (decimal (length pairs)
 abbrev pub count_line : ℕ → List ℕ
 count_line count = cond (nat_eq count 0) (text_line (codes "pass")) (codes "races " ++ text_line (decimal count))
 
--- the head of a verdict with so many races
-abbrev pub head_text : Drawing → Queues → ℕ → List ℕ
-head_text d queues count = name_line d ++ (queues_line queues ++ count_line count)
-
--- the head of a verdict
-abbrev pub verdict_text : Drawing → Queues → Verdict → List ℕ
-verdict_text d queues v = name_line d ++ (queues_line queues ++ outcome_line v)
-
 -- the name of instance i
 abbrev pub instance_text : Drawing → ℕ → List ℕ
 instance_text d i = get_or d.instances i []

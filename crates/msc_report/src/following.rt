@@ -11,7 +11,8 @@ ghost use Rattle.msc_report.specs.Following.{ring_steps, steps_text, AreStepsOf}
 use crate::lines::write_pair;
 use crate::reasons::{step_word, write_run_in, write_step};
 use crate::style::Style;
-use crate::verdict::{write_name_line, write_queues_line};
+use crate::links::write_queues;
+use crate::verdict::write_name_line;
 use msc_chart::{Chart, Event, Queues};
 use msc_place::EventPositions;
 use std::alloc::{AllocError, Global};
@@ -66,7 +67,7 @@ pub fn write_follows<W: Write>(
         (follows_text words chart.now queues run.now)) }
 {
     write_name_line(writer, chart)?;
-    write_queues_line(writer, queues)?;
+    write_queues(writer, chart, &queues)?;
     writer.write_all(b"follows\n")?;
     write_run_in(writer, chart, words, run)
 }
@@ -84,7 +85,7 @@ pub fn write_never<W: Write>(
         (never_text (option_map (λ s. s.now) event_positions.entry) chart.now queues steps.now)) }
 {
     write_name_line(writer, chart)?;
-    write_queues_line(writer, queues)?;
+    write_queues(writer, chart, &queues)?;
     writer.write_all(b"never\n")?;
     write_steps(writer, chart, event_positions, steps)
 }

@@ -12,7 +12,8 @@ use crate::lines::{write_placed_pair, write_why};
 use crate::race::{write_race, write_run};
 use crate::style::{Style, write_at};
 use crate::trace::write_steps;
-use crate::verdict::{write_name_line, write_queues_line};
+use crate::links::write_queues;
+use crate::verdict::write_name_line;
 use msc_chart::{Chart, Event, Queues};
 use msc_place::EventPositions;
 use msc_reason::{Cause, Reason, Why};
@@ -228,6 +229,6 @@ pub fn write_explained<W: Write>(
         (explained_text style.entry chart.now queues e f reason.now)) }
 {
     write_name_line(writer, chart)?;
-    write_queues_line(writer, queues)?;
+    write_queues(writer, chart, &queues)?;
     write_reason(writer, chart, e, f, reason, style)
 }

@@ -21,7 +21,8 @@ use crate::names::EventNames;
 use crate::race::{write_events, write_instance, write_pair_place, write_signal};
 use crate::reasons::write_run_in;
 use crate::style::{Style, write_at};
-use crate::verdict::{write_name_line, write_queues_line};
+use crate::links::write_queues;
+use crate::verdict::write_name_line;
 use msc_chart::{Chart, Event, Queues};
 use msc_place::EventPositions;
 use msc_print::Page;
@@ -112,7 +113,7 @@ pub fn write_ready_head<W: Write>(
         (ready_head chart.now queues (option_copied lines.entry) count may)) }
 {
     write_name_line(writer, chart)?;
-    write_queues_line(writer, queues)?;
+    write_queues(writer, chart, &queues)?;
     write_ready_line(writer, chart, lines)?;
     write_finishing(writer, count, may)
 }

@@ -9,7 +9,8 @@ ghost use Rattle.msc_report.specs.Styles.{steps_text};
 ghost use Rattle.msc_report.specs.Traces.{trace_text};
 
 use crate::race::{write_event_at, write_instance};
-use crate::verdict::{write_name_line, write_queues_line};
+use crate::links::write_queues;
+use crate::verdict::write_name_line;
 use itoa::Buffer;
 use msc_chart::{Chart, Event, Queues};
 use msc_ending::End;
@@ -128,7 +129,7 @@ pub fn write_trace<W: Write>(
         (trace_text chart.now queues ends.now (option_copied trace.entry))) }
 {
     write_name_line(writer, chart)?;
-    write_queues_line(writer, queues)?;
+    write_queues(writer, chart, &queues)?;
     write_end_lines(writer, chart, ends)?;
     write_trace_lines(writer, chart, trace)
 }

@@ -2,9 +2,11 @@
 
 ghost use Rattle.std.specs.Prelude.{◌++◌, OnOk};
 ghost use Rattle.std.specs.Io.KnownBytes.{Appends};
-ghost use Rattle.msc_report.specs.Verdicts.{count_line, head_text, name_line, outcome_line};
-ghost use Rattle.msc_report.specs.Verdicts.{queues_line, verdict_text};
+ghost use Rattle.msc_report.specs.Verdicts.{count_line, name_line, outcome_line};
+ghost use Rattle.msc_report.specs.Heads.{head_text, verdict_text};
+ghost use Rattle.msc_report.specs.Links.{queues_text};
 
+use crate::links::write_queues;
 use msc_chart::{Chart, Queues};
 use msc_race::Verdict;
 use std::io;
@@ -20,22 +22,13 @@ pub fn write_name_line<W: Write>(writer: &mut W, chart: &Chart) -> io::Result<()
     writer.write_all(b"\n")
 }
 
-/// Writes the line of an architecture.
-pub fn write_queues_line<W: Write>(writer: &mut W, queues: Queues) -> io::Result<()>
-    ensures { OnOk result (Appends (W.contents writer.old) (W.contents writer.new)
-        (queues_line queues)) }
-{
-    let word = queues.word();
-    writeln!(writer, "queues {word}")
-}
-
 /// Writes the lines of a chart's name and of an architecture.
-fn write_lines<W: Write>(writer: &mut W, chart: &Chart, queues: Queues) -> io::Result<()>
+fn write_lines<W: Write>(writer: &mut W, chart: &Chart, queues: &Queues) -> io::Result<()>
     ensures { OnOk result (Appends (W.contents writer.old) (W.contents writer.new)
-        (name_line chart.now ++ queues_line queues)) }
+        (name_line chart.now ++ queues_text chart.now queues.now)) }
 {
     write_name_line(writer, chart)?;
-    write_queues_line(writer, queues)
+    write_queues(writer, chart, queues)
 }
 
 /// Writes whether a chart passes, or how many races it has.
@@ -63,7 +56,7 @@ pub fn write_verdict<W: Write>(
     ensures { OnOk result (Appends (W.contents writer.old) (W.contents writer.new)
         (verdict_text chart.now queues verdict.now)) }
 {
-    write_lines(writer, chart, queues)?;
+    write_lines(writer, chart, &queues)?;
     write_outcome(writer, verdict)
 }
 
@@ -89,6 +82,6 @@ pub(crate) fn write_head<W: Write>(
     ensures { OnOk result (Appends (W.contents writer.old) (W.contents writer.new)
         (head_text chart.now queues count)) }
 {
-    write_lines(writer, chart, queues)?;
+    write_lines(writer, chart, &queues)?;
     write_count(writer, count)
 }

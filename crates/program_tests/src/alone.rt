@@ -96,7 +96,7 @@ fn does(rt: &impl Host, chart: &Chart, ends: Option<InstanceEnds>, before: Befor
 
 /// Whether this is the end of the receiver of a chart of one message after that.
 fn is_received_in(rt: &impl Host, chart: &Chart, before: Before, wanted: Left) -> bool {
-    let mut ends = wire(rt.alloc(), chart, Queues::Pair).expect(rt, "ends");
+    let mut ends = wire(rt.alloc(), chart, Queues::PAIR).expect(rt, "ends");
     let takes = ends.pop();
     let is_done = does(rt, chart, ends.pop(), before);
     is_done && is_left(rt, chart, 1, takes, &AlwaysOpen, wanted)
@@ -125,7 +125,7 @@ fn what_comes_of_one_message(rt: HostRuntime) {
 /// Whether the last of three instances, which takes a message with the last clock but one, stops
 /// before it sends.
 fn is_spent_in(rt: &impl Host, chart: &Chart) -> bool {
-    let mut ends = wire(rt.alloc(), chart, Queues::Mailbox).expect(rt, "ends");
+    let mut ends = wire(rt.alloc(), chart, Queues::MAILBOX).expect(rt, "ends");
     let is_sent = match ends.first_mut() {
         Some(sends) => is_put(sends, 1, u64::MAX - 1),
         None => false,
@@ -147,7 +147,7 @@ fn a_clock_that_is_spent(rt: HostRuntime) {
 /// Whether the sender of a chart of one message, without patience, sends it, and the receiver,
 /// without patience, takes nothing.
 fn takes_nothing_in(rt: &impl Host, chart: &Chart) -> bool {
-    let mut ends = wire(rt.alloc(), chart, Queues::Pair).expect(rt, "ends");
+    let mut ends = wire(rt.alloc(), chart, Queues::PAIR).expect(rt, "ends");
     let takes = ends.pop();
     let sent = (End::Finished, [0].as_slice());
     let untaken = (End::Impatient, [].as_slice());
@@ -168,7 +168,7 @@ fn without_patience_nothing_is_taken(rt: HostRuntime) {
 /// Whether the second of three instances logs both its inputs in this order, if it runs after the
 /// third and then the first have sent.
 fn takes_in_order_in(rt: &impl Host, chart: &Chart) -> bool {
-    let mut ends = wire(rt.alloc(), chart, Queues::Pair).expect(rt, "ends");
+    let mut ends = wire(rt.alloc(), chart, Queues::PAIR).expect(rt, "ends");
     let (third, second) = (ends.pop(), ends.pop());
     let (last, first) = (
         (End::Finished, [3].as_slice()),
@@ -197,7 +197,7 @@ instance c; out r to b; endinstance; instance d; out s to b; endinstance; endmsc
 /// Whether the second of four instances takes once from each of its three inlets, and then the
 /// second message of the first, if all others have sent.
 fn takes_once_in(rt: &impl Host, chart: &Chart) -> bool {
-    let mut ends = wire(rt.alloc(), chart, Queues::Pair).expect(rt, "ends");
+    let mut ends = wire(rt.alloc(), chart, Queues::PAIR).expect(rt, "ends");
     let (fourth, third, second) = (ends.pop(), ends.pop(), ends.pop());
     is_left(
         rt,

@@ -15,9 +15,9 @@ fn is_answered(rt: &impl Host, queues: Queues, passed: bool) -> bool {
 
 /// Whether `relay` passes under each architecture.
 const PASSED: &[(Queues, bool)] = &[
-    (Queues::Pair, false),
-    (Queues::Mailbox, true),
-    (Queues::Single, false),
+    (Queues::PAIR, false),
+    (Queues::MAILBOX, true),
+    (Queues::SINGLE, false),
 ];
 
 #[test]
@@ -34,7 +34,7 @@ race 1 2 on b: in m1 from a; in m2 from c\nrun 0 3 2 1\n";
 /// The number of calls of a writer that takes a byte at a time and gets that output, if it does.
 fn calls_for_all(rt: &impl Host) -> Option<u32> {
     let mut writer = byte_writer(rt.alloc(), 0);
-    check_text(rt.alloc(), TWO_SENDERS, Queues::Pair, 1, &mut writer).expect(rt, "a verdict");
+    check_text(rt.alloc(), TWO_SENDERS, Queues::PAIR, 1, &mut writer).expect(rt, "a verdict");
     (writer.written.as_slice() == WRITTEN).then_some(writer.calls)
 }
 
@@ -42,7 +42,7 @@ fn calls_for_all(rt: &impl Host) -> Option<u32> {
 /// written.
 fn fails_at(rt: &impl Host, call: u32) -> bool {
     let mut writer = byte_writer(rt.alloc(), call);
-    let fault = check_text(rt.alloc(), TWO_SENDERS, Queues::Pair, 1, &mut writer).err();
+    let fault = check_text(rt.alloc(), TWO_SENDERS, Queues::PAIR, 1, &mut writer).err();
     let begins = WRITTEN.starts_with(writer.written.as_slice());
     (fault, begins) == (Some(Fault::Device), true)
 }
@@ -59,7 +59,7 @@ fn failing_writes_are_a_device_fault(rt: HostRuntime) {
 /// Whether a text is refused, and the writer gets no call.
 fn is_refused_at_once(rt: &impl Host, text: &[u8]) -> bool {
     let mut writer = byte_writer(rt.alloc(), 0);
-    let answer = check_text(rt.alloc(), text, Queues::Pair, 0, &mut writer);
+    let answer = check_text(rt.alloc(), text, Queues::PAIR, 0, &mut writer);
     (answer.is_err(), writer.calls) == (true, 0)
 }
 

@@ -5,7 +5,7 @@ use crate::alone::Never;
 use crate::host::{Parallel, chart_of};
 use crate::together::{PATIENCE, Wanted, is_execution};
 use example_charts::{RELAY, TWO_SENDERS};
-use msc_chart::{Chart, Event, Queues};
+use msc_chart::{Chart, Event, LinkKind, Queues};
 use msc_fifo::Account;
 use msc_instance::{End, Execution, Gate, run_chart};
 use std::sync::atomic::{AtomicBool, AtomicU64, Ordering};
@@ -91,8 +91,9 @@ fn meet(rt: &impl Parallel, queues: Queues) -> bool {
 
 #[test]
 fn outputs_that_wait_for_each_other(rt: HostRuntime) {
-    for queues in Queues::ALL {
-        assert!(rt; meet(&rt, queues), "{queues:?}");
+    for kind in LinkKind::ALL {
+        let queues = Queues::Uniform(kind);
+        assert!(rt; meet(&rt, queues), "{kind:?}");
     }
 }
 
@@ -188,9 +189,10 @@ fn is_stopped_at(rt: &impl Parallel, queues: Queues, event: Event, wanted: Wante
 #[test]
 fn a_gate_that_says_no_to_an_event(rt: HostRuntime) {
     for &(event, wanted) in STOPPED {
-        for queues in Queues::ALL {
+        for kind in LinkKind::ALL {
+            let queues = Queues::Uniform(kind);
             let is = is_stopped_at(&rt, queues, event, wanted);
-            assert!(rt; is, "{event} {queues:?}");
+            assert!(rt; is, "{event} {kind:?}");
         }
     }
 }
@@ -217,7 +219,7 @@ fn is_left_in_mailbox(execution: &Execution, put: &[u32]) -> bool {
 
 /// Whether it has if the gate refuses the first input of `relay`.
 fn is_left(rt: &impl Parallel, put: &[u32]) -> bool {
-    is_left_in_mailbox(&stopped_at(rt, Queues::Mailbox, 2), put)
+    is_left_in_mailbox(&stopped_at(rt, Queues::MAILBOX, 2), put)
 }
 
 #[test]
@@ -238,7 +240,7 @@ const HELD: Wanted = (
 
 /// Whether these are the ends of the instances of a chart if the gate refuses event 5.
 fn are_held_in(rt: &impl Parallel, chart: &Chart) -> bool {
-    let execution = run_chart(rt, rt.alloc(), chart, Queues::Pair, &Never(5), PATIENCE).expect(
+    let execution = run_chart(rt, rt.alloc(), chart, Queues::PAIR, &Never(5), PATIENCE).expect(
         rt,
         "an execution",
     );

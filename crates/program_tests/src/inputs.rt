@@ -147,7 +147,7 @@ fn is_read_as(rt: &impl Host, text: &[u8], wanted: &[u8]) -> bool {
 /// Whether this is the fault with which the check of a text is refused.
 fn is_check_refused(rt: &impl Host, text: &[u8], wanted: Fault) -> bool {
     let mut writer = byte_writer(rt.alloc(), 0);
-    check_text(rt.alloc(), text, Queues::Pair, 0, &mut writer).err() == Some(wanted)
+    check_text(rt.alloc(), text, Queues::PAIR, 0, &mut writer).err() == Some(wanted)
 }
 
 #[test]

@@ -98,15 +98,15 @@ const MEETING: Awaited = [Some(3), None, None, Some(0)];
 
 /// The events for which events wait, an architecture, and the traces that may result.
 const FORCED: &[(Awaited, Queues, [&[u8]; 2])] = &[
-    (AFTER_M1, Queues::Pair, [M1_ALONE, M1_ALONE]),
-    (AFTER_M1, Queues::Mailbox, [M1_ALONE, M1_ALONE]),
-    (AFTER_M1, Queues::Single, [M1_ALONE, M1_ALONE]),
-    (AFTER_M2, Queues::Pair, [M2_FIRST, M2_FIRST]),
-    (AFTER_M2, Queues::Mailbox, [M2_AHEAD, M2_AHEAD]),
-    (AFTER_M2, Queues::Single, [M2_FIRST, M2_FIRST]),
-    (MEETING, Queues::Pair, [M1_ALONE, M2_FIRST]),
-    (MEETING, Queues::Mailbox, [M1_ALONE, M2_AHEAD]),
-    (MEETING, Queues::Single, [M1_ALONE, M2_FIRST]),
+    (AFTER_M1, Queues::PAIR, [M1_ALONE, M1_ALONE]),
+    (AFTER_M1, Queues::MAILBOX, [M1_ALONE, M1_ALONE]),
+    (AFTER_M1, Queues::SINGLE, [M1_ALONE, M1_ALONE]),
+    (AFTER_M2, Queues::PAIR, [M2_FIRST, M2_FIRST]),
+    (AFTER_M2, Queues::MAILBOX, [M2_AHEAD, M2_AHEAD]),
+    (AFTER_M2, Queues::SINGLE, [M2_FIRST, M2_FIRST]),
+    (MEETING, Queues::PAIR, [M1_ALONE, M2_FIRST]),
+    (MEETING, Queues::MAILBOX, [M1_ALONE, M2_AHEAD]),
+    (MEETING, Queues::SINGLE, [M1_ALONE, M2_FIRST]),
 ];
 
 /// Whether the run of `two_senders` with such a gate finishes with one of these traces, and calls

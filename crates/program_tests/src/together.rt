@@ -2,7 +2,7 @@
 
 use crate::host::{Parallel, chart_of};
 use example_charts::{EMPTY, LOCAL_EVENTS};
-use msc_chart::{Chart, Event, Queues};
+use msc_chart::{Chart, Event, LinkKind, Queues};
 use msc_instance::{AlwaysOpen, End, Execution, run_chart};
 
 /// The greatest number of rounds.
@@ -47,8 +47,9 @@ fn is_run(rt: &impl Parallel, text: &[u8], queues: Queues, wanted: Wanted, count
 
 #[test]
 fn no_instance(rt: HostRuntime) {
-    for queues in Queues::ALL {
-        assert!(rt; is_run(&rt, EMPTY, queues, (&[], &[]), 0), "{queues:?}");
+    for kind in LinkKind::ALL {
+        let queues = Queues::Uniform(kind);
+        assert!(rt; is_run(&rt, EMPTY, queues, (&[], &[]), 0), "{kind:?}");
     }
 }
 
@@ -57,7 +58,8 @@ const LOCAL: Wanted = (&[End::Finished, End::Finished], &[&[0, 1], &[2, 3]]);
 
 #[test]
 fn actions_on_both_sides_of_a_message(rt: HostRuntime) {
-    for queues in Queues::ALL {
-        assert!(rt; is_run(&rt, LOCAL_EVENTS, queues, LOCAL, 1), "{queues:?}");
+    for kind in LinkKind::ALL {
+        let queues = Queues::Uniform(kind);
+        assert!(rt; is_run(&rt, LOCAL_EVENTS, queues, LOCAL, 1), "{kind:?}");
     }
 }

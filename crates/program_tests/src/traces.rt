@@ -23,14 +23,14 @@ type Printed = (
 const PRINTED: &[Printed] = &[
     (
         EMPTY,
-        Queues::Pair,
+        Queues::PAIR,
         &[],
         Some(&[]),
         b"chart t\nqueues pair\ntrace 0\n",
     ),
     (
         ONE_MESSAGE,
-        Queues::Single,
+        Queues::SINGLE,
         &[End::Finished, End::Finished],
         Some(&[0, 1]),
         b"chart t\nqueues single\ninstance a finished\ninstance b finished\n\
@@ -38,7 +38,7 @@ trace 2\n0 a out m to b\n1 b in m from a\n",
     ),
     (
         ONE_MESSAGE,
-        Queues::Pair,
+        Queues::PAIR,
         &[End::Finished, End::Impatient],
         Some(&[0]),
         b"chart t\nqueues pair\ninstance a finished\ninstance b impatient\n\
@@ -46,21 +46,21 @@ trace 1\n0 a out m to b\n",
     ),
     (
         ONE_MESSAGE,
-        Queues::Mailbox,
+        Queues::MAILBOX,
         &[End::Stopped, End::Starved],
         None,
         b"chart t\nqueues mailbox\ninstance a stopped\ninstance b starved\nno trace\n",
     ),
     (
         ONE_MESSAGE,
-        Queues::Pair,
+        Queues::PAIR,
         &[End::Foreign(0), End::Foreign(4294967295)],
         Some(&[]),
         b"chart t\nqueues pair\ninstance a foreign 0\ninstance b foreign 4294967295\ntrace 0\n",
     ),
     (
         RELAY,
-        Queues::Mailbox,
+        Queues::MAILBOX,
         &[End::Finished, End::Finished, End::Finished],
         Some(&[0, 1, 2, 4, 5, 3]),
         b"chart t\nqueues mailbox\n\
@@ -70,7 +70,7 @@ trace 6\n0 a out m1 to b\n1 a out x to c\n2 b in m1 from a\n\
     ),
     (
         LOCAL_EVENTS,
-        Queues::Single,
+        Queues::SINGLE,
         &[End::Finished, End::Finished],
         Some(&[0, 1, 2, 3]),
         b"chart t\nqueues single\ninstance a finished\ninstance b finished\n\
@@ -78,7 +78,7 @@ trace 4\n0 a action 'go'\n1 a out m to b\n2 b in m from a\n3 b action 'done'\n",
     ),
     (
         NUMBERED,
-        Queues::Pair,
+        Queues::PAIR,
         &[End::Finished, End::Starved],
         Some(&[0, 2, 1]),
         b"chart t\nqueues pair\ninstance a finished\ninstance b starved\n\

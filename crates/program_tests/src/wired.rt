@@ -13,15 +13,15 @@ type Wired = (&'static [(u32, u32)], &'static [u32]);
 /// The ends of the three instances of `relay` under an architecture.
 const RELAY_ENDS: [(Queues, [Wired; 3]); 3] = [
     (
-        Queues::Pair,
+        Queues::PAIR,
         [(&[(1, 1), (2, 1)], &[]), (&[], &[1, 7]), (&[(7, 1)], &[2])],
     ),
     (
-        Queues::Mailbox,
+        Queues::MAILBOX,
         [(&[(1, 1), (2, 1)], &[]), (&[], &[1]), (&[(1, 1)], &[2])],
     ),
     (
-        Queues::Single,
+        Queues::SINGLE,
         [(&[(0, 1), (1, 1)], &[]), (&[], &[0, 2]), (&[(2, 1)], &[1])],
     ),
 ];
@@ -123,7 +123,7 @@ fn first_fit(all: &mut [InstanceEnds], chart: &Chart, change: Change, i: u32) ->
 
 /// The same for the ends of a chart.
 fn fit_in(rt: &impl Host, chart: &Chart, change: Change, i: u32) -> Option<bool> {
-    let mut all = wire(rt.alloc(), chart, Queues::Single).expect(rt, "ends");
+    let mut all = wire(rt.alloc(), chart, Queues::SINGLE).expect(rt, "ends");
     first_fit(&mut all, chart, change, i)
 }
 

@@ -24,13 +24,13 @@ returns-in_ok-write_reading-in-Read g c =
 pub returns-in_err-source-in-Chart : goal.returns-in_err-source-in-Chart
 returns-in_err-source-in-Chart g c =
     let p = err_from_is_err_and c.from_residual-in_err-source-in-Chart.result c.from_residual-in_err-source-in-Chart.ensures.1 in
-    rw (c.in-Chart.is, p.1, p.2) (no_chart g.O.Write.contents c.args.request.file.now c.args.text.now c.in-Chart.ask _ c.args.output.now c.in_err-source-in-Chart.ensures)
+    rw (c.in-Chart.is, p.1, p.2) (no_chart g.O.Write.contents c.args.request.file.now c.args.text.now c.in-Chart.ask c.in-Chart.words _ c.args.output.now c.in_err-source-in-Chart.ensures)
 
 pub returns-in_ok-source-in-Chart : goal.returns-in_ok-source-in-Chart
 returns-in_ok-source-in-Chart g c =
     let read = c.in_ok-source-in-Chart.ensures in
-    rw c.in-Chart.is (charted g.O.Write.contents c.args.request.file.now c.args.text.now c.in_ok-source-in-Chart.source read.0 read.1 read.2 c.in-Chart.ask
-    c.answer_chart.result _ _ c.answer_chart.ensures)
+    rw c.in-Chart.is (charted g.O.Write.contents c.args.request.file.now c.args.text.now c.in_ok-source-in-Chart.source read.0 read.1 read.2 c.in-Chart.ask c.in-Chart.words
+    c.answer_linked.result _ _ c.answer_linked.ensures)
 
 pub returns-in_err-read-in-Draw : goal.returns-in_err-read-in-Draw
 returns-in_err-read-in-Draw g c =

@@ -1,9 +1,9 @@
 use Rattle.std.proofs.Common.{map, rules}
 use Rattle.std.proofs.lemmas.Result.{err_from_is_err_and}
-use Rattle.msc_command.proofs.Surveyed.{all_charts, none_drawn, told_of_text}
+use Rattle.msc_command.proofs.Surveyed.{all_charts, none_drawn, none_linked, told_of_text}
 use Rattle.msc_command.specs.Answering.{AnswersWith}
 use Rattle.msc_command.specs.Charting.{with_chart}
-use Rattle.msc_command.specs.Scenarios.{BeginsAll, BeginsScenarios, PrintsAll, PrintsScenarios}
+use Rattle.msc_command.specs.Scenarios.{BeginsAll, BeginsScenarios, PrintsAll, PrintsScenarios, checked_under}
 use Rattle.msc_command.proofs.scenarios.check_scenarios.Goals as goal
 
 pub returns-in_err-all : goal.returns-in_err-all
@@ -12,13 +12,24 @@ returns-in_err-all g c =
     rw (p.1, p.2) (none_drawn g.O.Write.contents (PrintsScenarios c.args.words c.args.file.now c.args.text.now) (BeginsScenarios c.args.words c.args.file.now c.args.text.now)
     c.args.words c.args.text.now c.args.output.now _ c.in_err-all.ensures)
 
+pub linked-requires : goal.linked-requires
+linked-requires g c = all_charts c.imports_are_charts.ensures.all c.args.words c.args.text.now c.in_ok-all.all c.in_ok-all.ensures
+
 pub of-requires : goal.of-requires
 of-requires g c = all_charts c.imports_are_charts.ensures.all c.args.words c.args.text.now c.in_ok-all.all c.in_ok-all.ensures
+
+pub returns-in_err-linked : goal.returns-in_err-linked
+returns-in_err-linked g c =
+    let p = err_from_is_err_and c.from_residual-in_err-linked.result c.from_residual-in_err-linked.ensures.1 in
+    rw (p.1, p.2) (none_linked g.O.Write.contents (PrintsScenarios c.args.words c.args.file.now c.args.text.now) (BeginsScenarios c.args.words c.args.file.now c.args.text.now)
+    c.args.words c.args.text.now c.args.output.now c.in_ok-all.all c.in_ok-all.ensures _ c.in_err-linked.ensures)
 
 pub returns : goal.returns
 returns g c =
     let x = c.args.words in let file = c.args.file.now in let all = c.in_ok-all.all in
-    let told : AnswersWith g.O.Write.contents (PrintsAll x.quiet x.check_args file all.name all.drawn (map (with_chart file) all.list))
-    (BeginsAll x.quiet x.check_args file all.name all.drawn (map (with_chart file) all.list)) (λ refusal. ⊥) c.tell_all.result c.args.output.now c.tell_all.new.output = search rules in
-    told_of_text g.O.Write.contents (PrintsAll x.quiet x.check_args file) (BeginsAll x.quiet x.check_args file)
-    c.imports_are_charts.ensures.all x file c.args.text.now all c.in_ok-all.ensures _ _ _ told
+    let linked = c.in_ok-linked.ensures in
+    let y = checked_under linked.0 x.check_args in
+    let told : AnswersWith g.O.Write.contents (PrintsAll x.quiet y file all.name all.drawn (map (with_chart file) all.list))
+    (BeginsAll x.quiet y file all.name all.drawn (map (with_chart file) all.list)) (λ refusal. ⊥) c.tell_all.result c.args.output.now c.tell_all.new.output = ? in
+    told_of_text g.O.Write.contents (λ k. PrintsAll x.quiet k file) (λ k. BeginsAll x.quiet k file)
+    c.imports_are_charts.ensures.all x file c.args.text.now all c.in_ok-all.ensures linked.0 linked.1 _ _ _ told

@@ -8,7 +8,7 @@ use Rattle.msc_diagram.specs.declared.numbers.PlaceCounts.{PlaceCounts}
 use Rattle.msc_diagram.proofs.judging.write_count.Goals as goal
 
 pub returns : goal.returns
-returns g c name =
+returns g c top =
     let queues = c.args.queues in
     let k = c.in_ok-counts.counts in
     let its = subst (λ (x : CheckOptions). AreCountsOf (g.S.Source.scenarios c.args.scenarios.now) queues x k) c.counted-closest.ensures c.in_ok-counts.ensures in (

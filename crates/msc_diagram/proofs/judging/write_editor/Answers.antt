@@ -27,7 +27,7 @@ returns-in_err-print_cases g c =
     let page : List ℕ = c.new-page.result.bytes.items in
     let last : List ℕ = c.print_cases.new.page.bytes.items in
     let f = c.in_err-print_cases.field-0.0 in
-    rw (exit.1, exit.2) (all_stop g.W.Write.contents c.args.name.now (g.S.Source.scenarios c.args.scenarios.now) c.args.queues c.args.options formats.Editor a page
+    rw (exit.1, exit.2) (all_stop g.W.Write.contents c.args.top.now (g.S.Source.scenarios c.args.scenarios.now) c.args.queues c.args.options formats.Editor a page
     (λ l cases are. are) (counts_of_all 0) tt (λ cases. ap (λ (t : List ℕ). t ++ cases_text editors_in c.args.queues q 1 [] cases) (sym c.new-page.ensures))
     f c.args.writer.now c.print_cases.new.writer c.print_cases.new.reported last
     (subst (λ (x : CheckOptions). TellsCases (asked_by c.args.queues x) (g.S.Source.scenarios c.args.scenarios.now) [] c.print_cases.new.reported (g.W.Write.contents c.args.writer.now) (g.W.Write.contents c.print_cases.new.writer) page last (Err f)) c.for_editors.ensures
@@ -44,7 +44,7 @@ returns g c =
     let p = subst (λ (x : CheckOptions). PutsCases (asked_by c.args.queues x) (g.S.Source.scenarios c.args.scenarios.now) [] c.print_cases.new.reported (g.W.Write.contents c.args.writer.now) (g.W.Write.contents c.print_cases.new.writer) page last passed) c.for_editors.ensures
     (subst (λ (above : List (EventPlace × EventPlace)). PutsCases (asked_by c.args.queues c.for_editors.result) (g.S.Source.scenarios c.args.scenarios.now) above c.print_cases.new.reported (g.W.Write.contents c.args.writer.now) (g.W.Write.contents c.print_cases.new.writer) page last passed)
     c.new-reported.ensures c.in_ok-print_cases.ensures) in
-    all_end g.W.Write.contents c.args.name.now (g.S.Source.scenarios c.args.scenarios.now) c.args.queues c.args.options formats.Editor a page
+    all_end g.W.Write.contents c.args.top.now (g.S.Source.scenarios c.args.scenarios.now) c.args.queues c.args.options formats.Editor a page
     (λ l cases are. are)
     c.args.writer.now c.print_cases.new.writer c.write_all.new.self c.print_cases.new.reported last last [] passed _
     p (ap (λ (t : List ℕ). t ++ cases_text editors_in c.args.queues q 1 [] p.cases) (sym c.new-page.ensures)) (sym (append-nil last)) refl

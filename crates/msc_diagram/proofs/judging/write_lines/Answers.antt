@@ -27,10 +27,10 @@ returns-in_err-passed g c =
     let page : List ℕ = c.print_counts.new.page.bytes.items in
     let last : List ℕ = c.print_cases.new.page.bytes.items in
     let f = c.in_err-passed.field-0.0 in
-    let head : List ℕ = diagram_head c.args.name.now queues (length scenarios) in
-    let top = c.in_ok-print_top.ensures ∙ ap (λ (t : List ℕ). t ++ diagram_head c.args.name.now queues c.len-count.result) c.new-page.ensures ∙ ap (λ (n : ℕ). diagram_head c.args.name.now queues n) c.len-count.ensures in
+    let head : List ℕ = diagram_head c.args.top.now (length scenarios) in
+    let top = c.in_ok-print_top.ensures ∙ ap (λ (t : List ℕ). t ++ diagram_head c.args.top.now c.len-count.result) c.new-page.ensures ∙ ap (λ (n : ℕ). diagram_head c.args.top.now n) c.len-count.ensures in
     let begins = above_begins scenarios queues q diagram_style c.in_ok-above.above c.in_ok-above.ensures in
-    rw (exit.1, exit.2) (all_stop g.W.Write.contents c.args.name.now scenarios queues q (formats.Lines diagram_style) a page (λ l cases are. are) begins.0 begins.1
+    rw (exit.1, exit.2) (all_stop g.W.Write.contents c.args.top.now scenarios queues q (formats.Lines diagram_style) a page (λ l cases are. are) begins.0 begins.1
     (λ cases. headed page c.print_top.new.page.bytes.items head (above_text q c.in_ok-above.above) (counts_text q begins.0) c.in_ok-print_counts.ensures top begins.2
     (cases_text (lines_in diagram_style.words) queues q 1 [] cases))
     f c.args.writer.now c.print_cases.new.writer c.print_cases.new.reported last
@@ -44,10 +44,10 @@ returns-in_err-print_bottom g c =
     let a : Asked = record { queues = queues; options = q; format = shapes.Lines diagram_style.words } in
     let page : List ℕ = c.print_counts.new.page.bytes.items in
     let last : List ℕ = c.print_cases.new.page.bytes.items in
-    let head : List ℕ = diagram_head c.args.name.now queues (length scenarios) in
-    let top = c.in_ok-print_top.ensures ∙ ap (λ (t : List ℕ). t ++ diagram_head c.args.name.now queues c.len-count.result) c.new-page.ensures ∙ ap (λ (n : ℕ). diagram_head c.args.name.now queues n) c.len-count.ensures in
+    let head : List ℕ = diagram_head c.args.top.now (length scenarios) in
+    let top = c.in_ok-print_top.ensures ∙ ap (λ (t : List ℕ). t ++ diagram_head c.args.top.now c.len-count.result) c.new-page.ensures ∙ ap (λ (n : ℕ). diagram_head c.args.top.now n) c.len-count.ensures in
     let begins = above_begins scenarios queues q diagram_style c.in_ok-above.above c.in_ok-above.ensures in
-    rw (exit.1, exit.2) (all_stop_below g.W.Write.contents c.args.name.now scenarios queues q (formats.Lines diagram_style) a page (λ l cases are. are) begins.0 begins.1
+    rw (exit.1, exit.2) (all_stop_below g.W.Write.contents c.args.top.now scenarios queues q (formats.Lines diagram_style) a page (λ l cases are. are) begins.0 begins.1
     (λ cases. headed page c.print_top.new.page.bytes.items head (above_text q c.in_ok-above.above) (counts_text q begins.0) c.in_ok-print_counts.ensures top begins.2
     (cases_text (lines_in diagram_style.words) queues q 1 [] cases))
     c.args.writer.now c.print_cases.new.writer c.print_cases.new.reported last c.in_ok-passed.passed
@@ -64,12 +64,12 @@ returns g c =
     let passed = c.in_ok-passed.passed in
     let above = c.in_ok-above.above in
     let counts = c.counts_from-counts.result in
-    let head : List ℕ = diagram_head c.args.name.now queues (length scenarios) in
-    let top = c.in_ok-print_top.ensures ∙ ap (λ (t : List ℕ). t ++ diagram_head c.args.name.now queues c.len-count.result) c.new-page.ensures ∙ ap (λ (n : ℕ). diagram_head c.args.name.now queues n) c.len-count.ensures in
+    let head : List ℕ = diagram_head c.args.top.now (length scenarios) in
+    let top = c.in_ok-print_top.ensures ∙ ap (λ (t : List ℕ). t ++ diagram_head c.args.top.now c.len-count.result) c.new-page.ensures ∙ ap (λ (n : ℕ). diagram_head c.args.top.now n) c.len-count.ensures in
     let p = subst (λ (above : List (EventPlace × EventPlace)). PutsCases a scenarios above c.print_cases.new.reported (g.W.Write.contents c.args.writer.now) (g.W.Write.contents c.print_cases.new.writer) page last passed)
     c.new-reported.ensures c.in_ok-passed.ensures in
     let same = c.counts_from-counts.ensures ∙ counts_agree scenarios queues q above p.cases c.len.result c.in_ok-above.ensures p.are (c.len.ensures.value ∙ ap length p.reported) in
-    all_end g.W.Write.contents c.args.name.now scenarios queues q (formats.Lines diagram_style) a page (λ l cases are. are)
+    all_end g.W.Write.contents c.args.top.now scenarios queues q (formats.Lines diagram_style) a page (λ l cases are. are)
     c.args.writer.now c.print_cases.new.writer c.write_all.new.self c.print_cases.new.reported last final (diagram_end diagram_style.drawn counts passed) passed _
     p (headed page c.print_top.new.page.bytes.items head (above_text q above) (counts_text q (place_counts queues q p.cases)) c.in_ok-print_counts.ensures top
     (above_agrees scenarios queues q above p.cases c.in_ok-above.ensures p.are) (cases_text (lines_in diagram_style.words) queues q 1 [] p.cases))

@@ -1,0 +1,5 @@
+pub mod Splitting
+pub mod SameLinks
+pub mod Entering
+pub mod Orderings
+pub mod Ruling

@@ -1,0 +1,8 @@
+-- what rules mean
+pub mod Blanks
+pub mod Names
+pub mod Links
+pub mod Rules
+pub mod Laws
+-- what the code keeps
+pub mod Tables

@@ -1,0 +1,36 @@
+//! Rules on links: from names and kinds to the queues of a system.
+//!
+//! A link is an ordered pair of instances. A rule is a kind and the text of LINK, which names all
+//! links to an instance (`NAME`) or one link (`NAME>NAME`). [`queues_of`] returns the architecture
+//! that two lists of rules give, those of a text and those of a command line, or the first fault.
+//!
+//! Lines are numbered from 0, in the order of their names. Nothing here takes memory.
+//!
+//! # What to change here
+//!
+//! - a form of LINK: [`spelling`], and `specs/Names`;
+//! - which names a line has: [`line`], and `line_of` of `specs/Links`;
+//! - a fault, or the order of faults: [`fault`] and [`link`], `fault_of` of `specs/Rules`;
+//! - which rule wins: [`queues`], and `ruled_kind` of `specs/Rules`.
+//!
+//! # Choices
+//!
+//! - Each list has a table of kinds, so the time is linear in the number of rules.
+//! - A fault of a list that both the text and the command line could have says which list it is in
+//!   ([`RulesFault`]): a fault of a text has a place.
+#![tactic(auto)]
+
+mod blank;
+mod fault;
+pub mod laws;
+mod line;
+mod link;
+mod queues;
+mod rule;
+mod spelling;
+mod table;
+
+pub use fault::{LinkFault, RulesFault};
+pub use line::LineNames;
+pub use queues::queues_of;
+pub use rule::Rule;
