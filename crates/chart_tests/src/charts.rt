@@ -3,7 +3,7 @@
 use crate::drafts::draft_of;
 use crate::host::Host;
 use example_charts::{COREGION, EMPTY, LOCAL_EVENTS, NUMBERED, RELAY, TWO_SENDERS};
-use msc_chart::{Chart, ChartFault, Event, EventKind, Queues};
+use msc_chart::{Chart, ChartFault, Event, EventKind, LinkKind, Links, Queues};
 use msc_parser::parse;
 use std::fmt::Write;
 
@@ -348,5 +348,27 @@ const SENT: &[(u32, Option<Sent>)] = &[
 fn messages_of_relay_and_their_queues(rt: HostRuntime) {
     for &(m, wanted) in SENT {
         assert!(rt; is_sent(&rt, RELAY, m, wanted), "{m}");
+    }
+}
+
+/// An architecture of `relay`: a sends datagrams to c, b has a mailbox for the messages of c, and
+/// all other links have a queue.
+fn relayed() -> Queues {
+    let mut links = Links::all(LinkKind::Pair);
+    links.give(0, 2, LinkKind::Single);
+    links.give(2, 1, LinkKind::Mailbox);
+    Queues::Mixed(links)
+}
+
+/// Whether the queue of a message of `relay` has this number then.
+fn is_relayed(rt: &impl Host, m: u32, wanted: u32) -> bool {
+    let chart = chart_of(rt, RELAY);
+    m < chart.messages() && chart.queue(m, relayed()) == wanted
+}
+
+#[test]
+fn queues_of_links_that_differ(rt: HostRuntime) {
+    for (m, wanted) in [(0, 1), (1, 13), (2, 10)] {
+        assert!(rt; is_relayed(&rt, m, wanted), "{m}");
     }
 }

@@ -54,7 +54,7 @@ TellsIn contents format file text refusal old new = new ≡ old
 
 -- the format of a task's answer
 abbrev pub format_of : Task → Format
-format_of (tasks.Chart (Check c)) = c.format
+format_of (tasks.Chart (Check c) links) = c.format
 format_of (tasks.Scenarios x) = cond x.quiet formats.Text x.check_args.format
 format_of task = formats.Text
 

@@ -4,6 +4,7 @@ ghost use Rattle.std.specs.Prelude.{◌≡◌, ℕ, ◌*◌, ◌<◌, length, If
 ghost use Rattle.bit_rows.specs.Rows.{word_count};
 ghost use Rattle.msc_chart.specs.Charts.{before};
 ghost use Rattle.msc_chart.specs.Orders.{wired};
+ghost use Rattle.msc_chart.specs.Wirings.{size, wired_by};
 ghost use Rattle.msc_follow.specs.Steps.{is_ahead, is_sent, leads};
 ghost use Rattle.msc_follow.specs.Tables.{AreSteps, HasGained};
 
@@ -13,18 +14,18 @@ use msc_chart::{Chart, Event, Queues, Wiring};
 use std::alloc::{AllocError, Global};
 
 /// Whether `x` and `y` are outputs of one queue, and the input of `x` is drawn before that of `y`.
-fn is_ahead(chart: &Chart, queues: Queues, x: Event, y: Event) -> bool
-    requires x_known { x < length chart.now.events }
-    requires y_known { y < length chart.now.events }
-    ensures { result ≡ is_ahead (wired queues chart.now) x y }
+fn is_ahead(wiring: &Wiring, x: Event, y: Event) -> bool
+    requires x_known { x < size wiring.now }
+    requires y_known { y < size wiring.now }
+    ensures { result ≡ is_ahead (wired_by wiring.now) x y }
 {
+    let chart = wiring.chart;
     if !chart.is_output(x) {
         return false;
     }
     if !chart.is_output(y) {
         return false;
     }
-    let wiring = Wiring { chart, queues };
     if wiring.queue(x) != wiring.queue(y) {
         return false;
     }
@@ -32,13 +33,14 @@ fn is_ahead(chart: &Chart, queues: Queues, x: Event, y: Event) -> bool
 }
 
 /// Puts the step from output `x` to its input into row `x`.
-fn put_sent(words: &mut [u64], chart: &Chart, queues: Queues, x: Event)
+fn put_sent(words: &mut [u64], wiring: &Wiring, x: Event)
     requires square { length words.old
-        ≡ length chart.now.events * word_count (length chart.now.events) }
-    requires known { x < length chart.now.events }
-    ensures { HasGained (length chart.now.events) words.old words.new x
-        (is_sent (wired queues chart.now) x) }
+        ≡ size wiring.now * word_count (size wiring.now) }
+    requires known { x < size wiring.now }
+    ensures { HasGained (size wiring.now) words.old words.new x
+        (is_sent (wired_by wiring.now) x) }
 {
+    let chart = wiring.chart;
     if chart.is_output(x) {
         put(words, chart.events(), x, chart.other_end(x));
     }
@@ -61,34 +63,35 @@ fn put_drawn(words: &mut [u64], chart: &Chart, x: Event)
 }
 
 /// Puts the steps from output `x` to the outputs that it has to be ahead of into row `x`.
-fn put_ahead(words: &mut [u64], chart: &Chart, queues: Queues, x: Event)
+fn put_ahead(words: &mut [u64], wiring: &Wiring, x: Event)
     requires square { length words.old
-        ≡ length chart.now.events * word_count (length chart.now.events) }
-    requires known { x < length chart.now.events }
-    ensures { HasGained (length chart.now.events) words.old words.new x
-        (is_ahead (wired queues chart.now) x) }
+        ≡ size wiring.now * word_count (size wiring.now) }
+    requires known { x < size wiring.now }
+    ensures { HasGained (size wiring.now) words.old words.new x
+        (is_ahead (wired_by wiring.now) x) }
 {
+    let chart = wiring.chart;
     let events = chart.events();
     let r = chart.other_end(x);
     for u in r..chart.line_end(r) {
         let y = chart.other_end(u);
-        if is_ahead(chart, queues, x, y) {
+        if is_ahead(wiring, x, y) {
             put(words, events, x, y);
         }
     }
 }
 
 /// Puts all steps from `x` into row `x`.
-fn put_steps(words: &mut [u64], chart: &Chart, queues: Queues, x: Event)
+fn put_steps(words: &mut [u64], wiring: &Wiring, x: Event)
     requires square { length words.old
-        ≡ length chart.now.events * word_count (length chart.now.events) }
-    requires known { x < length chart.now.events }
-    ensures { HasGained (length chart.now.events) words.old words.new x
-        (leads (wired queues chart.now) x) }
+        ≡ size wiring.now * word_count (size wiring.now) }
+    requires known { x < size wiring.now }
+    ensures { HasGained (size wiring.now) words.old words.new x
+        (leads (wired_by wiring.now) x) }
 {
-    put_sent(words, chart, queues, x);
-    put_drawn(words, chart, x);
-    put_ahead(words, chart, queues, x);
+    put_sent(words, wiring, x);
+    put_drawn(words, wiring.chart, x);
+    put_ahead(words, wiring, x);
 }
 
 /// The table of the steps of a chart: it has the pairs of events between which a step leads. An
@@ -98,10 +101,11 @@ pub(crate) fn steps_of(alloc: Global, chart: &Chart, queues: Queues) -> Result<V
         ≡ length chart.now.events * word_count (length chart.now.events)) }
     ensures steps { IfOk result (λ words. AreSteps (wired queues chart.now) words.items) }
 {
+    let wiring = Wiring { chart, queues };
     let events = chart.events();
     let mut words = table::blank(alloc, events, events)?;
     for x in 0..events {
-        put_steps(&mut words, chart, queues, x);
+        put_steps(&mut words, &wiring, x);
     }
     Ok(words)
 }

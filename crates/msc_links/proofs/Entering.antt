@@ -1,5 +1,5 @@
 -- One more rule of a list.
-use Rattle.std.proofs.Common.{◌≡◌, ℕ, ◌+◌, ◌<◌, ◌≤◌, Bool, true, false, not, ◌&&◌, ◌||◌, cond, List, [], ◌∷◌, ◌++◌, Some, None, Option, refl, sym, ap, ◌∙◌, subst, arith, Result, Ok, Err, find, option_map, length, get_or, take}
+use Rattle.std.proofs.Common.{◌≡◌, ℕ, ◌+◌, ◌<◌, ◌≤◌, Bool, true, false, not, ◌&&◌, ◌||◌, cond, List, [], ◌∷◌, ◌++◌, Some, None, Option, refl, sym, ap, ◌∙◌, subst, arith, Ok, Err, find, option_map, length, get_or, take}
 use Rattle.std.proofs.lemmas.Option.{slice_get-get_or, slice_get_within}
 use Rattle.std.specs.List.{list_any}
 use Rattle.std.specs.Option.{option_or}
@@ -29,7 +29,7 @@ given_more names [] rule link =
     ]
 given_more names (r ∷ rs) rule link =
     elim (is_for names link r) as (λ v. option_map (λ (x : Rule). x.kind) (cond v (Some r) (find (is_for names link) (rs ++ rule ∷ [])))
-        ≡ option_or (option_map (λ (x : Rule). x.kind) (cond v (Some r) (find (is_for names link) rs))) (cond (is_for names link rule) (Some rule.kind) None)) [
+    ≡ option_or (option_map (λ (x : Rule). x.kind) (cond v (Some r) (find (is_for names link) rs))) (cond (is_for names link rule) (Some rule.kind) None)) [
       | true ↦ refl
       | false ↦ given_more names rs rule link
     ]
@@ -44,7 +44,7 @@ other_more names [] rule link kind =
 other_more names (r ∷ rs) rule link kind =
     elim (is_for names link r && not (same_kind r.kind kind))
     as (λ v. (v || list_any (λ (x : Rule). is_for names link x && not (same_kind x.kind kind)) (rs ++ rule ∷ []))
-        ≡ ((v || list_any (λ (x : Rule). is_for names link x && not (same_kind x.kind kind)) rs) || (is_for names link rule && not (same_kind rule.kind kind)))) [
+    ≡ ((v || list_any (λ (x : Rule). is_for names link x && not (same_kind x.kind kind)) rs) || (is_for names link rule && not (same_kind rule.kind kind)))) [
       | true ↦ refl
       | false ↦ other_more names rs rule link kind
     ]
@@ -57,7 +57,7 @@ none_other names [] link kind none = refl
 none_other names (r ∷ rs) link kind none =
     (elim (is_for names link r)
     as (λ v. option_map (λ (x : Rule). x.kind) (cond v (Some r) (find (is_for names link) rs)) ≡ None
-        → ((v && not (same_kind r.kind kind)) || list_any (λ (x : Rule). is_for names link x && not (same_kind x.kind kind)) rs) ≡ false) [
+    → ((v && not (same_kind r.kind kind)) || list_any (λ (x : Rule). is_for names link x && not (same_kind x.kind kind)) rs) ≡ false) [
       | true ↦ λ h. cc
       | false ↦ λ h. none_other names rs link kind h
     ]) none
@@ -70,7 +70,7 @@ some_other names [] link old kind some differs = cc
 some_other names (r ∷ rs) link old kind some differs =
     (elim (is_for names link r)
     as (λ v. option_map (λ (x : Rule). x.kind) (cond v (Some r) (find (is_for names link) rs)) ≡ Some old
-        → ((v && not (same_kind r.kind kind)) || list_any (λ (x : Rule). is_for names link x && not (same_kind x.kind kind)) rs) ≡ true) [
+    → ((v && not (same_kind r.kind kind)) || list_any (λ (x : Rule). is_for names link x && not (same_kind x.kind kind)) rs) ≡ true) [
       | true ↦ λ h. let same : r.kind ≡ old = cc in rw (same, differs) refl
       | false ↦ λ h. some_other names rs link old kind h differs
     ]) some
@@ -194,8 +194,7 @@ module _ (names : List LineNames) (rules : List Rule) (place : ℕ) (d : Rule) (
     pub entered : (new : KindTable) → differs (kind_at old link) here.kind ≡ false → HasPut old new link here.kind
         → HasNoFaultAt names rules place × IsTableOf names (take (place + 1) rules) new
     entered new same put =
-        let agreed = other_in names before old link here.kind of within ∙ same in
-        (
+        let agreed = other_in names before old link here.kind of within ∙ same in (
           λ rule at.
               let e : Some here ≡ Some rule = sym stands ∙ at in
               let own : here ≡ rule = cc in

@@ -1,14 +1,13 @@
 -- Lists of rules without a fault: their order does not matter.
-use Rattle.std.proofs.Common.{◌≡◌, ℕ, zero, suc, ◌+◌, ◌<◌, Bool, true, false, not, ◌&&◌, ◌||◌, cond, List, [], ◌∷◌, ◌++◌, Some, None, Option, length, take, drop, get_or, refl, sym, ap, ◌∙◌, subst, arith, Result, Ok, Err, find, option_map, add-one}
+use Rattle.std.proofs.Common.{◌≡◌, ℕ, zero, suc, Bool, true, false, not, ◌&&◌, cond, List, [], ◌∷◌, ◌++◌, Some, None, Option, take, drop, refl, sym, ap, ◌∙◌, subst, Result, Ok, Err, find, option_map}
 use Rattle.std.specs.List.{list_any, slice_get}
 use Rattle.std.specs.Option.{option_or}
-use Rattle.std.specs.Prelude.{◌↔◌}
 use Rattle.std.proofs.lemmas.List.{take-append-drop}
 use Rattle.std.proofs.lemmas.Option.{slice_get_within, get_or_from_slice_get}
 use Rattle.std.proofs.Math.Seq.{drop-cons}
 use Rattle.msc_chart.specs.declared.queue.LinkKind.{LinkKind}
 use Rattle.msc_chart.specs.Lists.{Occurs, StandsAt}
-use Rattle.msc_chart.proofs.ListLemmas.{by_test, clash}
+use Rattle.msc_chart.proofs.ListLemmas.{by_test}
 use Rattle.msc_links.specs.declared.line.LineNames.{LineNames}
 use Rattle.msc_links.specs.declared.link.Link.{Link}
 use Rattle.msc_links.specs.declared.rule.Rule.{Rule}
@@ -26,7 +25,7 @@ unfolding given_kind
 given_append names [] ys link = refl
 given_append names (r ∷ rs) ys link =
     elim (is_for names link r) as (λ v. option_map (λ (x : Rule). x.kind) (cond v (Some r) (find (is_for names link) (rs ++ ys)))
-        ≡ option_or (option_map (λ (x : Rule). x.kind) (cond v (Some r) (find (is_for names link) rs))) (option_map (λ (x : Rule). x.kind) (find (is_for names link) ys))) [
+    ≡ option_or (option_map (λ (x : Rule). x.kind) (cond v (Some r) (find (is_for names link) rs))) (option_map (λ (x : Rule). x.kind) (find (is_for names link) ys))) [
       | true ↦ refl
       | false ↦ given_append names rs ys link
     ]
@@ -171,7 +170,9 @@ module _ (names : List LineNames) (rules others : List Rule) (faultless : AreFau
 pub same_kinds : (names : List LineNames) (rules others : List Rule) → AreFaultless names rules → HaveSameRules rules others
     → AreFaultless names others × ((link : Link) → given_kind names others link ≡ given_kind names rules link)
 same_kinds names rules others faultless same =
-    let too = faultless_too names rules others faultless (λ rule occurs. (same rule).1 occurs) in
-    (too, λ link. same_options (given_kind names others link) (given_kind names rules link)
-      (given_there names rules others faultless (λ rule occurs. (same rule).1 occurs) link)
-      (given_there names others rules too (λ rule occurs. (same rule).0 occurs) link))
+    let too = faultless_too names rules others faultless (λ rule occurs. (same rule).1 occurs) in (
+      too,
+      λ link. same_options (given_kind names others link) (given_kind names rules link)
+          (given_there names rules others faultless (λ rule occurs. (same rule).1 occurs) link)
+          (given_there names others rules too (λ rule occurs. (same rule).0 occurs) link),
+    )

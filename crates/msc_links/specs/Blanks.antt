@@ -1,10 +1,10 @@
--- Blanks: spaces and tabs.
+-- Blanks: spaces, tabs and ends of lines.
 use Rattle.std.specs.Prelude.{ℕ, ◌-◌, Bool, ◌||◌, ◌==◌, List, length, take, drop}
 use Rattle.std.specs.List.{prefix_len, suffix_len}
 
--- a space or a tab
+-- a space, a tab, or one of the bytes that end a line
 abbrev pub is_blank : ℕ → Bool
-is_blank b = b == 32 || b == 9
+is_blank b = ((b == 32 || b == 9) || b == 10) || b == 13
 
 -- the text after the blanks at its front
 abbrev pub after_blanks : List ℕ → List ℕ

@@ -23,7 +23,7 @@ abbrev pub OrderDoesNotMatter : Type 0
 OrderDoesNotMatter = (names : List LineNames) (rules others : List Rule)
     → AreFaultless names rules → HaveSameRules rules others
     → AreFaultless names others
-        × ((link : Link) → given_kind names others link ≡ given_kind names rules link)
+    × ((link : Link) → given_kind names others link ≡ given_kind names rules link)
 
 -- a rule of the command line for a link gives the link its kind, whatever else there is
 abbrev pub GivenLinkRulesWin : Type 0

@@ -1,5 +1,5 @@
 -- What lists of rules mean: the kind of each link, and the first fault.
-use Rattle.std.specs.Prelude.{◌≡◌, ℕ, ◌<◌, Bool, true, false, not, cond, ◌&&◌, List, [], take, Option, None, Some, Result, Ok, Err, find, option_map, unwrap_or}
+use Rattle.std.specs.Prelude.{◌≡◌, ℕ, ◌<◌, Bool, true, false, not, cond, ◌&&◌, List, take, Option, None, Some, Result, Ok, Err, find, option_map, unwrap_or}
 use Rattle.std.specs.Option.{option_or}
 use Rattle.std.specs.List.{list_any}
 use Rattle.msc_chart.specs.declared.TheConstants.{INSTANCE_LIMIT}

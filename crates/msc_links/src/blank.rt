@@ -1,14 +1,14 @@
-//! Blanks: spaces and tabs.
+//! Blanks: spaces, tabs and ends of lines.
 
 ghost use Rattle.std.specs.Prelude.{◌≡◌, ◌≤◌, length};
 ghost use Rattle.std.specs.List.{prefix_len, suffix_len};
 ghost use Rattle.msc_links.specs.Blanks.{after_blanks, before_blanks, is_blank, trimmed};
 
-/// Whether the byte is a space or a tab.
+/// Whether the byte is a space, a tab, or one of those that end a line.
 fn is_blank(byte: u8) -> bool
     ensures { result ≡ is_blank byte }
 {
-    byte == b' ' || byte == b'\t'
+    byte == b' ' || byte == b'\t' || byte == b'\n' || byte == b'\r'
 }
 
 /// The number of blanks at the front.

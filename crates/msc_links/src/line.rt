@@ -57,10 +57,7 @@ fn line_of(names: &[LineNames<'_>], name: &[u8]) -> Option<usize>
 }
 
 /// The line with a name, or the fault that there is none.
-pub(crate) fn known<'w>(
-    names: &[LineNames<'_>],
-    name: &'w [u8],
-) -> Result<usize, LinkFault<'w>>
+pub(crate) fn known<'w>(names: &[LineNames<'_>], name: &'w [u8]) -> Result<usize, LinkFault<'w>>
     ensures line { result_map_both (λ l. l) fault_text result ≡ known names.now name.now }
     ensures within { IfOk result (λ line. line < length names.now) }
 {

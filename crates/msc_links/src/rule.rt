@@ -58,7 +58,7 @@ fn enter<'w>(
     requires table { IsTableOf names.now (take place rules.now) table.old }
     ensures { MatchResult result
         (λ _. HasNoFaultAt names.now rules.now place
-            × IsTableOf names.now (take (place + 1) rules.now) table.new)
+        × IsTableOf names.now (take (place + 1) rules.now) table.new)
         (λ fault. HasFaultAt names.now rules.now place (fault_text fault)) }
 {
     let rule = rules[place];

@@ -1,9 +1,10 @@
-use Rattle.std.proofs.Common.{map, rules}
+use Rattle.std.proofs.Common.{map, subst, rules}
 use Rattle.std.proofs.lemmas.Result.{err_from_is_err_and}
 use Rattle.msc_command.proofs.Surveyed.{all_charts, none_drawn, none_linked, told_of_text}
 use Rattle.msc_command.specs.Answering.{AnswersWith}
 use Rattle.msc_command.specs.Charting.{with_chart}
-use Rattle.msc_command.specs.Scenarios.{BeginsAll, BeginsScenarios, PrintsAll, PrintsScenarios, checked_under}
+use Rattle.msc_command.specs.Scenarios.{BeginsAll, BeginsScenarios, PrintsAll, PrintsScenarios}
+use Rattle.msc_command.specs.declared.tasks.ScenarioArgs.{ScenarioArgs}
 use Rattle.msc_command.proofs.scenarios.check_scenarios.Goals as goal
 
 pub returns-in_err-all : goal.returns-in_err-all
@@ -28,8 +29,10 @@ pub returns : goal.returns
 returns g c =
     let x = c.args.words in let file = c.args.file.now in let all = c.in_ok-all.all in
     let linked = c.in_ok-linked.ensures in
-    let y = checked_under linked.0 x.check_args in
-    let told : AnswersWith g.O.Write.contents (PrintsAll x.quiet y file all.name all.drawn (map (with_chart file) all.list))
-    (BeginsAll x.quiet y file all.name all.drawn (map (with_chart file) all.list)) (λ refusal. ⊥) c.tell_all.result c.args.output.now c.tell_all.new.output = ? in
+    let y = c.in_ok-linked.linked in
+    let said : AnswersWith g.O.Write.contents (PrintsAll y.quiet y.check_args file all.name all.drawn (map (with_chart file) all.list))
+    (BeginsAll y.quiet y.check_args file all.name all.drawn (map (with_chart file) all.list)) (λ refusal. ⊥) c.tell_all.result c.args.output.now c.tell_all.new.output = search rules in
+    let told = subst (λ (z : ScenarioArgs). AnswersWith g.O.Write.contents (PrintsAll z.quiet z.check_args file all.name all.drawn (map (with_chart file) all.list))
+    (BeginsAll z.quiet z.check_args file all.name all.drawn (map (with_chart file) all.list)) (λ refusal. ⊥) c.tell_all.result c.args.output.now c.tell_all.new.output) linked.2 said in
     told_of_text g.O.Write.contents (λ k. PrintsAll x.quiet k file) (λ k. BeginsAll x.quiet k file)
     c.imports_are_charts.ensures.all x file c.args.text.now all c.in_ok-all.ensures linked.0 linked.1 _ _ _ told

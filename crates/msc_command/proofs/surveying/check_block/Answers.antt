@@ -1,9 +1,11 @@
-use Rattle.std.proofs.Common.{map, rules}
-use Rattle.msc_command.proofs.Surveyed.{all_charts, told_of_text}
+use Rattle.std.proofs.Common.{map, subst, rules}
+use Rattle.std.proofs.lemmas.Result.{err_from_is_err_and}
+use Rattle.msc_command.proofs.Surveyed.{all_charts, none_linked, told_of_text}
 use Rattle.msc_command.specs.Answering.{AnswersWith}
 use Rattle.msc_command.specs.Charting.{with_chart}
-use Rattle.msc_command.specs.Scenarios.{BeginsAll, PrintsCounted, checked_under}
-use Rattle.msc_command.specs.Surveys.{at_block, numbered}
+use Rattle.msc_command.specs.Scenarios.{BeginsAll, PrintsCounted}
+use Rattle.msc_command.specs.declared.tasks.ScenarioArgs.{ScenarioArgs}
+use Rattle.msc_command.specs.Surveys.{at_block, numbered, BeginsBlock, PrintsBlock}
 use Rattle.msc_command.proofs.surveying.check_block.Goals as goal
 
 pub linked-requires : goal.linked-requires
@@ -13,15 +15,21 @@ pub of-requires : goal.of-requires
 of-requires g c = all_charts c.imports_are_charts.ensures.all (at_block c.args.words c.args.number) c.args.found.now.text c.in_ok-all.all c.in_ok-all.ensures
 
 pub returns-in_err-linked : goal.returns-in_err-linked
-returns-in_err-linked g c = ?
+returns-in_err-linked g c =
+    let p = err_from_is_err_and c.from_residual-in_err-linked.result c.from_residual-in_err-linked.ensures.1 in
+    let x = c.args.words in let n = c.args.number in let file = c.args.file.now in let text = c.args.found.now.text in
+    rw (p.1, p.2) (none_linked g.O.Write.contents (PrintsBlock x file text n) (BeginsBlock x file text n)
+    (at_block x n) text c.args.output.now c.in_ok-all.all c.in_ok-all.ensures _ (rw c.text.ensures at c.in_err-linked.ensures))
 
 pub returns : goal.returns
 returns g c =
     let x = c.args.words in let n = c.args.number in let file = c.args.file.now in let all = c.in_ok-all.all in
-    let linked = c.in_ok-linked.ensures in
-    let y = checked_under linked.0 x.check_args in
-    let told : AnswersWith g.O.Write.contents (PrintsCounted x.quiet y (numbered file n) (numbered all.name n) all.drawn (map (with_chart file) all.list))
-    (BeginsAll x.quiet y (numbered file n) (numbered all.name n) all.drawn (map (with_chart file) all.list)) (λ refusal. ⊥) c.tell.result c.args.output.now c.tell.new.output = ? in
+    let linked = rw c.text.ensures at c.in_ok-linked.ensures in
+    let y = c.in_ok-linked.linked in
+    let said : AnswersWith g.O.Write.contents (PrintsCounted y.quiet y.check_args (numbered file n) (numbered all.name n) all.drawn (map (with_chart file) all.list))
+    (BeginsAll y.quiet y.check_args (numbered file n) (numbered all.name n) all.drawn (map (with_chart file) all.list)) (λ refusal. ⊥) c.tell.result c.args.output.now c.tell.new.output = search rules in
+    let told = subst (λ (z : ScenarioArgs). AnswersWith g.O.Write.contents (PrintsCounted z.quiet z.check_args (numbered file n) (numbered all.name n) all.drawn (map (with_chart file) all.list))
+    (BeginsAll z.quiet z.check_args (numbered file n) (numbered all.name n) all.drawn (map (with_chart file) all.list)) (λ refusal. ⊥) c.tell.result c.args.output.now c.tell.new.output) linked.2 said in
     told_of_text g.O.Write.contents (λ k name. PrintsCounted x.quiet k (numbered file n) (numbered name n))
     (λ k name. BeginsAll x.quiet k (numbered file n) (numbered name n))
     c.imports_are_charts.ensures.all (at_block x n) file c.args.found.now.text all c.in_ok-all.ensures linked.0 linked.1 _ _ _ told

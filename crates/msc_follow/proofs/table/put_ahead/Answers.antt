@@ -12,16 +12,16 @@ use Rattle.msc_follow.proofs.table.put_ahead.Goals.{then-is_ahead, else-is_ahead
 
 pub loop-u-init : goal.loop-u-init
 loop-u-init c =
-    let d = c.args.chart.now in
-    let chart = wired c.args.queues d in
+    let d = c.args.wiring.now.chart.now in
+    let chart = wired c.args.wiring.now.queues d in
     gains_none (length d.events) c.args.words.now c.args.x (is_ahead chart c.args.x) _ (λ y less h.
     let later = before_later d.events c.events-events.ensures.accepted.in_text_order _ _ (ahead_parts chart c.args.x y h).inputs in
     omega (arith, less, later, c.other_end-r.ensures.value))
 
 pub loop-u-preserved : goal.loop-u-preserved
 loop-u-preserved c =
-    let d = c.args.chart.now in
-    let chart = wired c.args.queues d in
+    let d = c.args.wiring.now.chart.now in
+    let chart = wired c.args.wiring.now.queues d in
     let n = length d.events in
     let x : ℕ = c.args.x in
     let u : ℕ = c.loop-u.u in
@@ -50,8 +50,8 @@ loop-u-preserved c =
 
 pub returns : goal.returns
 returns c =
-    let d = c.args.chart.now in
-    let chart = wired c.args.queues d in
+    let d = c.args.wiring.now.chart.now in
+    let chart = wired c.args.wiring.now.queues d in
     let end = c.line_end-u-end in
     let r = c.other_end-r.ensures.value in
     gains_same (length d.events) c.args.words.now c.args.x (is_ahead chart c.args.x) c.loop-u.words _ (λ (w : ℕ). Unit {0}) c.loop-u.invariant

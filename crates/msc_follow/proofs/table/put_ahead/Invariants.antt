@@ -7,4 +7,4 @@ use Rattle.msc_follow.proofs.table.put_ahead.Given as goal
 
 abbrev pub invariant-loop-u : goal.invariant-loop-u
 invariant-loop-u l =
-    GainsSo (length l.chart.events) l.initial.words l.words l.x (is_ahead (wired l.queues l.chart) l.x) (λ (w : ℕ). partner l.chart.events w < l.u)
+    GainsSo (length l.wiring.chart.now.events) l.initial.words l.words l.x (is_ahead (wired l.wiring.queues l.wiring.chart.now) l.x) (λ (w : ℕ). partner l.wiring.chart.now.events w < l.u)

@@ -8,8 +8,8 @@ use Rattle.msc_follow.proofs.table.put_sent.Goals as goal
 
 pub returns-then-is_output : goal.returns-then-is_output
 returns-then-is_output c =
-    let chart = wired c.args.queues c.args.chart.now in
-    let n = length c.args.chart.now.events in
+    let chart = wired c.args.wiring.now.queues c.args.wiring.now.chart.now in
+    let n = length c.args.wiring.now.chart.now.events in
     let old = c.args.words.now in
     let x : ℕ = c.args.x in
     let test = is_sent chart x in
@@ -20,6 +20,6 @@ returns-then-is_output c =
 
 pub returns-else-is_output : goal.returns-else-is_output
 returns-else-is_output c =
-    let chart = wired c.args.queues c.args.chart.now in
-    gains_none (length c.args.chart.now.events) c.args.words.now c.args.x (is_sent chart c.args.x) (λ (w : ℕ). Unit {0})
+    let chart = wired c.args.wiring.now.queues c.args.wiring.now.chart.now in
+    gains_none (length c.args.wiring.now.chart.now.events) c.args.words.now c.args.x (is_sent chart c.args.x) (λ (w : ℕ). Unit {0})
     (λ y d h. clash (c.is_output.ensures ∙ (sent_parts chart c.args.x y h).0) c.if-is_output.false)

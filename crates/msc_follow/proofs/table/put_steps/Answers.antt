@@ -8,8 +8,8 @@ use Rattle.msc_follow.proofs.table.put_steps.Goals as goal
 pub returns : goal.returns
 unfolding leads
 returns c =
-    let d = c.args.chart.now in
-    let chart = wired c.args.queues d in
+    let d = c.args.wiring.now.chart.now in
+    let chart = wired c.args.wiring.now.queues d in
     let n = length d.events in
     let x : ℕ = c.args.x in
     let drawn = λ (y : ℕ). before d.events x y in

@@ -9,6 +9,6 @@ use Rattle.msc_follow.proofs.table.steps_of.Given as goal
 abbrev pub invariant-loop-x : goal.invariant-loop-x
 invariant-loop-x l = record {
   square : length l.words.items ≡ length l.chart.events * word_count (length l.chart.events);
-  sound : (z y : ℕ) → cell (length l.chart.events) l.words.items z y ≡ true → leads (wired l.queues l.chart) z y ≡ true;
-  complete : (z y : ℕ) → z < l.x → leads (wired l.queues l.chart) z y ≡ true → cell (length l.chart.events) l.words.items z y ≡ true;
+  sound : (z y : ℕ) → cell (length l.chart.events) l.words.items z y ≡ true → leads (wired l.wiring.queues l.chart) z y ≡ true;
+  complete : (z y : ℕ) → z < l.x → leads (wired l.wiring.queues l.chart) z y ≡ true → cell (length l.chart.events) l.words.items z y ≡ true;
 }

@@ -1,4 +1,4 @@
-use Rattle.std.proofs.Common.{sym, refl, ◌∙◌}
+use Rattle.std.proofs.Common.{sym, refl}
 use Rattle.msc_links.specs.Tables.{tabled_kind}
 use Rattle.msc_links.proofs.queues.tabled_kind.Goals as goal
 

@@ -15,8 +15,7 @@ pub returns : goal.returns
 returns c =
     let names = c.args.names.now in
     let rules = c.args.rules.now in
-    let past = c.loop-place-test.false in
-    (
+    let past = c.loop-place-test.false in (
       none_at_all names rules c.loop-place.place past c.loop-place.invariant.faultless,
       subst (λ (l : List Rule). IsTableOf names l c.loop-place.table) (take_all c.loop-place.place rules past) c.loop-place.invariant.table,
     )

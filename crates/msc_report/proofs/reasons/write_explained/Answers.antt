@@ -5,4 +5,4 @@ use Rattle.msc_report.proofs.reasons.write_explained.Goals as goal
 pub returns : goal.returns
 returns g c =
     IfOk-weaker c.write_reason.result _ _ (λ u wrote. Appends-append _ _ _ _ _ c.in_ok-write_name_line.ensures
-    (Appends-append _ _ _ _ _ c.in_ok-write_queues_line.ensures wrote)) c.write_reason.ensures
+    (Appends-append _ _ _ _ _ c.in_ok-write_queues.ensures wrote)) c.write_reason.ensures

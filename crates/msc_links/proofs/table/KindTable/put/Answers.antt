@@ -1,5 +1,5 @@
 use Rattle.std.proofs.Common.{◌≡◌, ◌<◌, length, rules, arith}
-use Rattle.msc_links.specs.Tables.{kind_at, place_of}
+use Rattle.msc_links.specs.Tables.{kind_at}
 use Rattle.msc_links.proofs.SameLinks.{place_within, put_at}
 use Rattle.msc_links.proofs.table.KindTable.put.Goals as goal
 
