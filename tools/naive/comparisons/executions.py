@@ -28,9 +28,9 @@ def tasks(trial):
 
 def compare(trial):
     for text, drawn, patience in tasks(trial):
-        words = [drawn.queues]
+        words = [drawn.queues.usual]
         if not trial.options.plain:
-            words = ["run", "--queues", drawn.queues, "--patience", str(patience), "-"]
+            words = ["run", "--queues", drawn.queues.usual, "--patience", str(patience), "-"]
         done = run([trial.program, *words], text.encode("latin-1"))
         printed = done.output.decode("latin-1")
         try:

@@ -112,7 +112,7 @@ def examine(trial, drawn):
         want(more == may_follow(steps, state), f"not {more} may follow {state.past:b}")
     want(races or passed, "it passes, and cannot happen")
     words = {steps.word(x, y) for x in steps.all for y in steps.next[x]}
-    want(drawn.queues != "single" or passed and "ahead" not in words, "single")
+    want(drawn.queues.usual != "single" or passed and "ahead" not in words, "single")
     if passed:
         check_run(drawn, steps)
     else:
