@@ -35,13 +35,14 @@ class Architecture(NamedTuple):
     def others(self, names):
         """The links whose kind is not the usual one, each with its kind; all links to an instance
         by its name if they have one kind."""
+        found = []
         for receiver, name in enumerate(names):
             kinds = [self.kind(sender, receiver) for sender in range(len(names))]
             if len(set(kinds)) == 1:
-                links = [(name, kinds[0])]
+                found.append((name, kinds[0]))
             else:
-                links = [(f"{other}>{name}", kind) for other, kind in zip(names, kinds)]
-            yield from ((link, kind) for link, kind in links if kind != self.usual)
+                found += ((f"{other}>{name}", kind) for other, kind in zip(names, kinds))
+        return [(link, kind) for link, kind in found if kind != self.usual]
 
     def lines(self, names):
         """The lines on queues in the head of an answer."""
