@@ -118,9 +118,9 @@ WORKER = ("msc worker comment 'queues pair; mailbox worker; pair db>worker'; ins
           " instance db; in query from worker; out row to worker; endinstance; endmsc;")
 # a radio cell sends datagrams, and has a connection to its worker
 CELL = ("msc cell comment 'queues pair; single radio>base, base>radio'; instance radio; out m, 1 to"
-        " base; out m, 2 to base; endinstance; instance base; in m, 1 from radio; in m, 2 from radio;"
-        " out r1 to worker; out r2 to worker; endinstance; instance worker; in r1 from base; in r2"
-        " from base; endinstance; endmsc;")
+        " base; out m, 2 to base; endinstance; instance base; in m, 1 from radio; in m, 2 from"
+        " radio; out r1 to worker; out r2 to worker; endinstance; instance worker; in r1 from base;"
+        " in r2 from base; endinstance; endmsc;")
 CELL_HEAD = "chart cell\nqueues pair\nlink base>radio single\n"
 # charts, words of `check`, and what it prints
 CHECKS = [
