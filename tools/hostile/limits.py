@@ -121,8 +121,8 @@ def charts():
 
 # comments that fill a text: what comes before and behind many times the same
 COMMENTS = [
-    (b"queues pair; single i0", b", i0", b""), (b"queues", b" ", b"pair"),
-    (b"queues pair; single i0", b",", b""), (b"queues pair", b";", b""), (b"queues ", b"p", b""),
+    (b"queues", b" ", b"pair"), (b"queues pair", b";", b""), (b"queues ", b"p", b""),
+    (b"queues pair; single i0", b",", b""), (b"queues pair; single i0", b", i0", b""),
     (b"queues pair; single i0", b";single i0", b""), (b"", b" ", b"queues pair; mailbox i0"),
     (b"queues pair; single ", b">", b""), (b"queues pair; single ", b"i", b""),
     (b"queues pair; single i0>", b"\xff", b""), (b"queues pair; single ", b"''", b""),
@@ -130,8 +130,8 @@ COMMENTS = [
 ]
 # the same of diagrams, with lines
 LINES = [
-    (b"%% queues pair; single A", b", A"), (b"%% queues mailbox", b" "),
-    (b"%% queues pair; single A", b">"), (b"%% queues pair; serves A", b",A"), (b"%%", b" "),
+    (b"%% queues mailbox", b" "), (b"%% queues pair; serves A", b",A"), (b"%%", b" "),
+    (b"%% queues pair; single A", b">"), (b"%% queues pair; single A", b", A"),
     (b"", b"%% queues are\n"), (b"%% queues pair; single ", b"\xc3\xa9"),
     (b"%% queues pair; mailbox B\n", b"%% queues single\n"),
 ]
