@@ -7,10 +7,11 @@ of every byte; compares what the program answers with what the models of tools/n
 The charts are charts/kinds_and_comments.msc and charts/texts_of_actions.msc where none is given,
 and charts/import/websocket_chat.mmd. Each text, or each K-th, is given to `msc read`, and where it
 has a draft also to `msc check` under each architecture, to `msc follow`, `msc draw` and `msc ready`
-under one, and to `check` and `ready` with `--again`.
-Those of a diagram are given to `msc import`, and where a scenario has a draft to `msc check --from`,
-and compared with these too. Prints what differs, for each chart how
-many texts had a draft, and last `N passed, M failed`.
+under one, and to `check` and `ready` with `--again`. Those of a diagram are given to `msc import`,
+and where a scenario has a draft to `msc check --from`, and compared with these too. A chart and a
+diagram that name their queues stand here: of the comment each byte is changed, and `--queues own`
+reads it. Prints what differs, for each chart how many texts had a draft, and last `N passed, M
+failed`.
 """
 import pathlib
 import sys
@@ -18,9 +19,20 @@ import sys
 from program import QUEUES, TOP, Count, arguments, check_words, run
 from models.answers import again_answer, check_answer, diagram_check_answer, draw_answer
 from models.answers import follow_answer, import_answer, read_answer, ready_answer
+from models.links import Given
 
 CHARTS = [TOP / "charts/kinds_and_comments.msc", TOP / "charts/texts_of_actions.msc",
           TOP / "charts/import/websocket_chat.mmd"]
+# texts before, in and behind a comment that names queues, and whether they are a diagram; rules of
+# the command line stand with them
+OF_QUEUES = [
+    (b"msc t comment", b" 'queues pair; mailbox b;single a > b, c>b'",
+     b"; instance a; out m to b; endinstance; instance b; in m from a; in n from c; endinstance;"
+     b" instance c; out n to b; endinstance; endmsc;", False),
+    (b"sequenceDiagram\nparticipant b as The B\n", b" %% queues mailbox; serves a; pair b, a>The B",
+     b"\na->>b: m\nc->>b: n\n", True),
+]
+BESIDE = [("single", "c"), ("pair", "c>b")]
 # marks and white space, the first and last bytes of what names are made of with their neighbours,
 # letters that make other words of reserved ones, and bytes that begin no token
 TELLING = b";,:()'/* \t\r\n09AZaz_^@[`{emotEM\0\x0b\x1f.\"\\-\x7f\xc3\xff"
@@ -77,6 +89,23 @@ def compare_diagram(count, program, text):
     return True
 
 
+def compare_queues(count, program, text, is_diagram):
+    """Compares what is answered of a text that may name its queues; whether it has a draft."""
+    if not is_diagram and read_answer(text)[2] != 0:
+        return False
+    for rules in ([], BESIDE):
+        words, wanted = Given("own", rules).words(), None
+        if is_diagram:
+            words += ["--from", "any"]
+            wanted = diagram_check_answer(text, words)
+        else:
+            wanted = check_answer(text, Given("own", rules))
+        count.compare(run([program, "check", *words, "-"], text), wanted, *words, text)
+    if is_diagram:
+        count.compare(run([program, "import", "-"], text), import_answer(text, []), text)
+    return True
+
+
 def main():
     assert len(set(TELLING)) == len(set(IN_DIAGRAMS)) == 40
     words = arguments(__doc__)
@@ -91,6 +120,12 @@ def main():
         texts = [*cut(text), *left_out(text), *replaced(text, telling)][::options.every]
         drafts = sum(compare(count, options.program, made) for made in texts)
         print(f"{chart.name}: {len(texts)} texts, {drafts} of them have a draft")
+    for before, comment, behind, is_diagram in OF_QUEUES:
+        telling = IN_DIAGRAMS if is_diagram else TELLING
+        made = [*cut(comment), *left_out(comment), *replaced(comment, telling)][::options.every]
+        texts = [before + it + behind for it in made]
+        drafts = sum(compare_queues(count, options.program, it, is_diagram) for it in texts)
+        print(f"{comment.decode()}: {len(texts)} texts, {drafts} of them have a draft")
     return count.end()
 
 

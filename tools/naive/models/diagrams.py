@@ -109,6 +109,13 @@ class Names:
         if shown is not None and self.shown[at] is None:
             self.shown[at] = shown
 
+    def find(self, name):
+        """The number of the line with a name: its own, else the shown one, else that of its
+        instance; or None."""
+        shown = [it and it.held for it in self.shown]
+        return next((names.index(name) for names in (self.idents, shown, self.names)
+                     if name in names), None)
+
     def decl(self, at):
         kind = made_of_text(self.shown[at].held, b"") if self.shown[at] else b""
         return self.names[at] + (b" : " + kind if kind not in (b"", self.names[at]) else b"")
@@ -128,9 +135,9 @@ class Block:
 
 
 class Diagram:
-    def __init__(self, source, statements):
+    def __init__(self, source, statements, comments):
         """The diagram of these statements: its lines and its items, those being arrows and
-        blocks."""
+        blocks; and with these comments, each a text and its place."""
         self.source, self.names, self.arrows = source, Names(), 0
         top = Block("", "", 0)
         inside = [top]
@@ -156,7 +163,7 @@ class Diagram:
         if len(inside) > 1:
             hint = Note(f"hint {inside[-1].word} needs its own end")
             raise Refused(4, "block without end", inside[-1].at, [hint])
-        self.items = top.branches[0]
+        self.items, self.comments = top.branches[0], list(comments)
 
     def met(self, arrow):
         """The arrow with its number and its place."""
