@@ -21,8 +21,7 @@ ROOT = pathlib.Path(__file__).resolve().parent.parent
 sys.path.insert(0, str(ROOT / "tools" / "naive"))
 from models.chart import Chart
 from models.executions import PATIENCE, Wrong, is_execution
-from models.links import parted
-from models.own import of_chart
+from models.links import of_chart, parted
 
 
 def commands(page):

@@ -30,9 +30,8 @@ from models.answers import diagram_check_answer, follow_answer, import_answer, l
 from models.answers import read_answer
 from models.chart import Chart, is_enforced
 from models.explanations import Wrong, check
-from models.links import Given
+from models.links import Given, of_chart
 from models.marks import marks_for
-from models.own import of_chart
 from models.picture import chart_picture, run_picture
 from models.races import listing, study
 from models.shown import places_of

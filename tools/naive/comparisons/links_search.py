@@ -4,23 +4,22 @@ By a search over all states of runs an event is enforced before another exactly 
 other one without it. Queues that are coarser, so that messages which share one still do, enforce
 whatever the others do; so a chart that passes with `single` passes with all. One kind for all links
 is the old rule, by which messages share a queue. What a head lists gives the same kinds again, the
-order of rules does not matter, and the chart of a diagram has the queues of the diagram. The models
-agree with the examples of generators/link_examples.py.
+order of rules does not matter, and the chart of a diagram with the rules that its head lists has
+the queues of the diagram. The models agree with the examples of generators/link_examples.py.
 """
 import itertools
 
-from comparisons.links import is_head, rows_of
+from comparisons.links import is_head
 from generators import link_examples
 from generators.charts import crossed_chart, small_chart
 from generators.diagram_checks import diagram
-from generators.links import rules, some_queues, with_comments
+from generators.links import names_in, rules, some_queues
 from harness import Answer, Wrong, want
 from models.answers import check_answer, diagram_check_answer, import_answer
-from models.chart import QUEUES, Chart, is_enforced
+from models.chart import QUEUES, Chart
 from models.courses import scenarios
-from models.links import Architecture, Given, LinkFault, architecture, kinds_of, parted, written
+from models.links import Architecture, Given, architecture, of_chart, of_diagram, parted
 from models.mermaid import one_text, options_of
-from models.own import in_diagram, of_chart, of_diagram
 from models.reading import Draft
 from models.short_runs import State
 from models.source import Refused, source_of
@@ -106,19 +105,18 @@ def every_kind(queues, lines):
     return [queues.kind(*link) for link in itertools.product(range(lines), repeat=2)]
 
 
+def listed(queues, names):
+    """The command line that says what a head lists."""
+    return Given(queues.usual, [(kind, link) for link, kind in queues.others(names)])
+
+
 def want_same(pick, text, given, queues):
-    """Rules in another order, those that a head lists, and the same in words give the same."""
-    names = Chart(text, queues).names
-    find = lambda name: names.index(name.decode())
+    """Rules in another order, and those that a head lists, give the same."""
+    names, mixed = Chart(text, queues).names, list(given.rules)
     wanted = every_kind(queues, len(names))
-    mixed = [(kind, link.encode()) for kind, link in given.rules]
     pick.shuffle(mixed)
-    head = [line.split()[1:] for line in queues.lines(names)]
-    listed = [(kind, link.encode()) for link, kind in head[1:]]
-    held = "queues " + written(queues.usual, queues.others(names))
-    told = text.replace(";", f" comment '{held}';", 1).encode()
-    for same in (Architecture(given.queues, kinds_of(mixed, find)),
-                 Architecture(head[0][0], kinds_of(listed, find)), of_chart(told, Given("own"))):
+    for same in (Given(given.queues, mixed), listed(queues, names)):
+        same = of_chart(text.encode(), same)
         want(every_kind(same, len(names)) == wanted, f"{same} is not {queues}")
 
 
@@ -141,39 +139,34 @@ def search(trial, text):
 
 
 def compare_imported(trial, text):
-    """Compares the queues of a diagram with those of its chart, under some more rules."""
-    options = options_of([])
+    """Compares the queues of a diagram with those of its chart."""
+    options, pick = options_of([]), trial.pick
     try:
         read = one_text(source_of(text), options).diagram(options)
-        course, names = next(scenarios(read, options)), read.names.names
-        # other names are those of other lines in the text
-        own = [name.decode() for i, name in enumerate(names) if read.names.find(name) == i]
-        given = Given("own", rules(trial.pick, own) if own else [])
-        wanted = of_diagram(read, given)
+        course = next(scenarios(read, options))
+        wanted = of_diagram(read, Given(pick.choice(QUEUES), rules(pick, names_in(text))))
     except Refused:
         return
+    names = [name.decode() for name in read.names.names]
     told = import_answer(text, ["--choose", ",".join(map(str, course.taken)) or "main"]).output
-    found = [(it.usual, every_kind(it, len(names))) for it in (of_chart(told, given), wanted)]
+    given = listed(wanted, names)
+    found = [every_kind(it, len(names)) for it in (of_chart(told, given), wanted)]
     trial.add(found[0] == found[1], text, told, given, *found)
-    trial.noted["diagrams that name their queues"] += in_diagram(read) is not None
+    trial.noted["diagrams"] += 1
 
 
 def compare_examples(trial):
     """Compares the examples with what the models say."""
     for text, given, wanted in link_examples.heads():
         if text.startswith(b"sequence"):
-            got, place = diagram_check_answer(text, given.words()), link_examples.LINE
+            got = diagram_check_answer(text, given.words())
         else:
-            got, place = check_answer(text, given), link_examples.BYTE
-        wanted = wanted.replace("K", str(place)) if isinstance(wanted, str) else wanted
+            got = check_answer(text, given)
         trial.add(is_head(got, wanted), text, given, f"wanted {wanted}", got)
     for text, words, printed in link_examples.CHECKS:
         wanted = Answer(printed.encode(), b"", int("races" in printed))
         got = check_answer(text.encode(), parted(words)[0])
         trial.add(got == wanted, text, words, wanted, got)
-    for text, rows in link_examples.imports():
-        got = import_answer(text, [])
-        trial.add(rows_of(got.output.decode()) == rows, text, f"wanted {rows}", got)
 
 
 def compare(trial):
@@ -181,4 +174,4 @@ def compare(trial):
     for number in range(trial.options.number):
         made = crossed_chart if number % 2 else small_chart
         search(trial, made(trial.pick, trial.options.lines, trial.options.messages))
-        compare_imported(trial, with_comments(trial.pick, diagram(trial.pick).encode()))
+        compare_imported(trial, diagram(trial.pick).encode())

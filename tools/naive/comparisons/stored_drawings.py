@@ -10,10 +10,9 @@ from harness import Answer, joined
 from models import notes
 from models.answers import fault_of, follow_answer
 from models.chart import Chart
-from models.links import LinkFault, parted
+from models.links import LinkFault, of_chart, parted
 from models.marks import fault_of as fault_of_marks
 from models.marks import marks_for
-from models.own import of_chart
 from models.races import study
 from models.rounds import arguments, check_answer
 from models.shown import places_of
@@ -63,14 +62,15 @@ def lines_wanted(words):
     try:
         queues = of_chart(text, given)
     except LinkFault as fault:
-        found = notes.link_answer(text, fault)
+        found = [fault.line()]
         lines = notes.in_file(notes.for_editors(found), file)
-        return Answer(joined(lines), joined(found[:1]), 2)
+        return Answer(joined(lines), joined(found), 2)
     again, told = "--again" in options, text.decode("latin-1")
     if "--accept" in options and fault_of_marks(told):
         return None
     options = [it for it in options if it not in ("--again", "--plain")]
-    options, marks = vars(arguments(__doc__, ["check", *options, "own"])), marks_for(told, queues)
+    options = vars(arguments(__doc__, ["check", *options, given.queues]))
+    marks = marks_for(told, queues)
     if again:
         lines, status = check_answer(told, queues, options, marks)
     else:

@@ -98,9 +98,8 @@ def places_of(row):
     return range(row.start, row.start + len(row.held) + 1)
 
 
-def parted(source, rows):
-    """The lines that are neither empty nor front matter or directives, and whether each is a
-    comment."""
+def counting(source, rows):
+    """The lines that are left: neither empty nor front matter, directives or comments."""
     rows = iter(without_front(source, rows))
     for row in rows:
         begin = after_space(row.held, 0)
@@ -116,22 +115,8 @@ def parted(source, rows):
             nothing_after(source, row.held, places_of(row), end)
         elif row.held.startswith(b"%%", begin):
             check_comment(source, row)
-            yield row, True
         else:
-            yield row, False
-
-
-def counting(source, rows):
-    """The lines that are left: those of these that are no comments."""
-    return (row for row, is_comment in parted(source, rows) if not is_comment)
-
-
-def comments(source, rows):
-    """The text of each line that is a comment, and its place."""
-    for row, is_comment in parted(source, rows):
-        if is_comment:
-            begin = after_space(row.held, 0)
-            yield row.held[begin + 2:], row.start + begin
+            yield row
 
 
 def check_line(source, row, in_markup):
