@@ -8,9 +8,9 @@ The charts are charts/kinds_and_comments.msc and charts/texts_of_actions.msc whe
 and charts/import/websocket_chat.mmd. Each text, or each K-th, is given to `msc read`, and where it
 has a draft also to `msc check` under each architecture, to `msc follow`, `msc draw` and `msc ready`
 under one, and to `check` and `ready` with `--again`. Those of a diagram are given to `msc import`,
-and where a scenario has a draft to `msc check --from`, and compared with these too. Each byte of rules for links is changed too, of a chart and of a
-diagram that stand here. Prints what differs, for each chart how many texts had a draft, and last
-`N passed, M failed`.
+and where a scenario has a draft to `msc check --from`, and compared with these too. Each byte of a
+LINK is changed too, of a chart and of a diagram that stand here. Prints what differs, for each
+chart how many texts had a draft, and last `N passed, M failed`.
 """
 import pathlib
 import sys
