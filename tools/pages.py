@@ -21,6 +21,7 @@ ROOT = pathlib.Path(__file__).resolve().parent.parent
 sys.path.insert(0, str(ROOT / "tools" / "naive"))
 from models.chart import Chart
 from models.executions import PATIENCE, Wrong, is_execution
+from models.links import of_chart, parted
 
 
 def commands(page):
@@ -49,8 +50,8 @@ def is_run(command, answers):
     """Whether each answer, lines and an exit status, is that of an execution of a command's
     chart."""
     words = shlex.split(command)
-    chart = (ROOT / words[-1]).read_bytes().decode("latin-1")
-    drawn = Chart(chart, words[words.index("--queues") + 1])
+    chart = (ROOT / words[-1]).read_bytes()
+    drawn = Chart(chart.decode("latin-1"), of_chart(chart, parted(words)[0]))
     try:
         for lines, status in answers:
             is_execution(drawn, PATIENCE, "".join(f"{line}\n" for line in lines), status)

@@ -19,10 +19,13 @@ import tempfile
 from program import MOST_SECONDS, QUEUES, TOP, Answer, Count, add_commands, arguments, run
 from models.answers import again_answer, check_answer, diagram_check_answer, import_answer
 from models.answers import follow_answer, read_answer
+from models.links import Given
 from limits import of_events
 from refuse import Shim
 
 CHART = (TOP / "charts/two_senders.msc").read_bytes()
+# rules for some of its links
+RULED = Given("pair", [("mailbox", "b"), ("single", "c > b")])
 # what is drawn of it, with its file in charts/two_senders: the words before and behind FILE
 DRAWN = {
     "draw": (["--queues", "mailbox"], [], "mailbox.drawn.txt"),
@@ -73,6 +76,9 @@ class Commands:
                 yield words, Answer(*check_answer(CHART, queues))
             if "run" in self.wanted:
                 yield [program, "run", "--queues", queues, file], None
+        if "check" in self.wanted:
+            words = [program, "check", *RULED.words(), file]
+            yield words, Answer(*check_answer(CHART, RULED))
         if "follow" in self.wanted:
             words = [program, "follow", "--queues", "mailbox", file]
             yield words, Answer(*follow_answer(CHART, "mailbox"))
@@ -150,6 +156,8 @@ def lines_for_editors(count, commands):
         (["check"], b"msc t;", "grammar fault 3 at 6: expected a section"),
         (["check", "--again"], of_events(513), "again fault 1: more than 512 messages"),
         (["check", "--from", "any"], b"pie", "import fault 2 at 1: expected a diagram"),
+        (["check", "--single", "d"], CHART, "link fault 2: no instance d"),
+        (["check", "--from", "any", "--single", "d"], DIAGRAM, "link fault 2: no instance d"),
         (["check"], None, "device fault"),
     ):
         file = "-" if text else "no/such/file"

@@ -7,8 +7,8 @@ and looks at each answer.
 What is printed of a file is what is printed of its text as standard input, with the file's name in
 each place; and of the name each byte below 32, and 127, is `?`, on both streams. A file that is not
 there is told on standard error, its name and the cause with `--places`, and on standard output with
-`--format lines`. Wrong words with such names are refused, and shown in the same way. Prints what
-differs, and last `N passed, M failed`.
+`--format lines`. Wrong words with such names are refused, and shown in the same way; so are rules
+for links. Prints what differs, and last `N passed, M failed`.
 """
 import errno
 import os
@@ -17,8 +17,9 @@ import re
 import sys
 import tempfile
 
-from program import TOP, Answer, Count, arguments, run
+from program import QUEUES, TOP, Answer, Count, arguments, run
 from limits import of_events
+from generators import link_examples
 
 NAMES = ("t.msc", "a b.msc", "gr\u00f6\u00dfe.msc", "\u56f3\u9762.msc", "%s{}`$(x)`.msc",
          "\x1b[31mred\x1b[0m.msc", "\x01\x1f\x7f\t\r\n.msc", "t.msc:1:1: error: none", "x" * 250)
@@ -40,7 +41,7 @@ CHARTS = {
     "part": b"msc t;\ninstance a;\naction 'x' comment 'race ok by';\nendinstance; endmsc;",
     "many": of_events(1025), "rounds": of_events(513), "instances": b"msc t; " + b"".join(
         b"instance i%d; endinstance;\n" % i for i in range(33)) + b"endmsc;",
-    "diagram": DIAGRAM,
+    "diagram": DIAGRAM, "links": link_examples.CELL.encode(),
 }
 DIAGRAMS = {
     "races": DIAGRAM, "no arrow": b"sequenceDiagram\nA=>>B: a",
@@ -57,6 +58,9 @@ ON_CHARTS = (
     ["check", "--queues", "mailbox", "--format", "lines"],
     ["check", "--queues", "mailbox", "--format", "lines", "--accept", "--again"],
     ["check", "--queues", "mailbox", "--format", "count"], ["read", "--places"],
+    ["check", "--queues", "pair", "--single", "base", "--places"],
+    ["check", "--queues", "pair", "--single", "base", "--format", "lines"],
+    ["follow", "--queues", "pair", "--mailbox", "a", "--places"],
     ["follow", "--queues", "pair", "--places"],
     ["check", "--queues", "pair", "--format", "lines", "--again"],
     ["list", "--places"], ["ready", "--queues", "mailbox", "--places", "--again"],
@@ -70,6 +74,8 @@ ON_DIAGRAMS = (
     ["check", "--from", "any", "--queues", "mailbox", "--name", "t", "--places", "--why"],
     ["check", "--from", "any", "--queues", "mailbox", "--format", "lines"],
     ["check", "--from", "any", "--queues", "mailbox", "--format", "count"],
+    ["check", "--from", "any", "--queues", "pair", "--mailbox", "B", "--name", "t", "--places"],
+    ["check", "--from", "any", "--queues", "pair", "--format", "lines", "--single", "B"],
     ["import", "--name", "t", "--places"], ["import", "--name", "t", "--list"],
     ["import", "--name", "t", "--fence", "3", "--places"],
     ["check", "--queues", "pair", "--places"],
@@ -145,6 +151,19 @@ def wrong_words(count, program):
             count.add(is_refused and is_clean(got), "refused, and shown", *map(repr, words))
 
 
+def names_of_links(count, program):
+    """Looks at what is told of rules with such names, which no instance has."""
+    for name in NAMES:
+        wanted = Answer(b"", f"link fault 2: no instance {shown(name)}\n".encode(), 2)
+        for kind in QUEUES:
+            for words in (["check", "--queues", kind], ["run", "--queues", kind],
+                          ["check", "--from", "any", "--queues", kind]):
+                text = DIAGRAM if "--from" in words else link_examples.CELL.encode()
+                for link in (name, f"{name} > base", f"{name}>{name}"):
+                    got = run([program, *words, f"--{kind}", link, "-"], text)
+                    count.compare(got, wanted, *words, kind, repr(link))
+
+
 def main():
     options, count = arguments(__doc__).parse_args(), Count()
     program = str(pathlib.Path(options.program).resolve())
@@ -152,6 +171,7 @@ def main():
         named_files(count, program, pathlib.Path(name))
         missing_files(count, program, pathlib.Path(name))
     wrong_words(count, program)
+    names_of_links(count, program)
     return count.end()
 
 

@@ -9,7 +9,8 @@ and then to a token that may not follow; some are charts with header, kinds, mes
 parameters and coregions, spelled with any white space and notes; some are tokens in any order. Of
 each sort many are then changed: tokens or bytes are taken away, put in, doubled, exchanged, or the
 text is cut. Each text is given to `msc read`, and to `msc check`, `msc follow`, `msc run`, `msc
-draw`, `msc ready` and `msc report` under one architecture: both streams and the status are to be
+draw`, `msc ready` and `msc report` with one kind of queues, a third of them with rules for links,
+which may be faulty, but `draw` and `report`, which take none: both streams and the status are to be
 the same, for a chart that is run the trace has to be a whole run of it, and a report has to be read
 as XML. With `--places` nothing else may be printed but places, and behind the line of a fault what
 is said of it, all of it of bytes that move no cursor. As lines for editors, with marks, all that is
@@ -27,11 +28,12 @@ import sys
 import time
 import xml.etree.ElementTree
 
-from program import QUEUES, Count, add_commands, arguments, check_words, run
-from generators import diagram_checks
+from program import LINKS, QUEUES, Count, add_commands, arguments, check_words, queue_words, run
+from generators import diagram_checks, links
 from generators.charts import chart
 from models.answers import ALL, again_answer, check_answer, diagram_check_answer, draw_answer
 from models.answers import follow_answer, read_answer, ready_answer
+from models.links import Given, of_chart
 from models.reading import PLACES, SUPPORTED, UNSUPPORTED, Draft, Event, tokens
 from whole_runs import Drawn
 
@@ -182,7 +184,19 @@ def text_of(seed, number):
         text = bytes(changed(pick, list(text)))
     if pick.random() < 0.05:
         text = text[:pick.randrange(len(text) + 1)]
-    return text, pick.choice(QUEUES), pick.choice([None, None, 0, 1, 3])
+    queues, show = pick.choice(QUEUES), pick.choice([None, None, 0, 1, 3])
+    other = random.Random(f"{seed} {number} links")
+    rules = some_rules(other) if other.random() < 0.34 else []
+    return text, Given(queues, rules), show
+
+
+def some_rules(pick):
+    """Rules for links."""
+    names = [name.decode() for name in NAMES[:10]]
+    rules = pick.choice([links.rules, links.faulty_rules])(pick, names)
+    if pick.random() < 0.3:
+        rules = [*rules, (pick.choice(QUEUES), pick.choice(LINKS))]
+    return rules
 
 
 def kind_of(answer):
@@ -198,7 +212,7 @@ def wrong_run(text, queues, wanted, got):
         return None if got == wanted else wanted
     if got[1:] != (b"", 0):
         return "a whole run"
-    return Drawn(text).wrong(queues, got.output.decode("latin-1"))
+    return Drawn(text).wrong(of_chart(text, queues), got.output.decode("latin-1"))
 
 
 def wrong_places(wanted, got):
@@ -209,7 +223,8 @@ def wrong_places(wanted, got):
         return wanted
     if status != 2 and got.error:
         return "no fault"
-    return "bytes that are shown" if moves(got.error) else None
+    # the line may have what the command line says
+    return "bytes that are shown" if moves(got.error[len(line):]) else None
 
 
 def moves(stream):
@@ -220,9 +235,10 @@ def moves(stream):
 def wrong_lines(wanted, got):
     """What is wrong with lines for editors, of races that marks do not accept, where this is wanted
     of the text without options, or None."""
-    if moves(got.output) or moves(got.error):
-        return "bytes that are shown"
     line = wanted[1] if wanted[2] == 2 else got.error
+    told = line if line.startswith(b"link ") else b""
+    if moves(got.output.replace(told, b"")) or moves(got.error.replace(told, b"")):
+        return "bytes that are shown"
     if got.error != line or (got.status == 2) != bool(line) or got.status not in (0, 1, 2):
         return wanted
     lines = got.output.splitlines(True)
@@ -259,7 +275,7 @@ def tried(program, seed, number, commands):
     kind of answer."""
     text, queues, show = text_of(seed, number)
     checked = check_answer(text, queues, ALL if show is None else show)
-    told = []
+    told, asked, uniform = [], queue_words(queues), queues.queues
     read, check = [program, "read", "-"], check_words(program, queues, show)
     for words, wanted in ((read, read_answer(text)), (check, checked)):
         got = run(words, text) if words[1] in commands else wanted
@@ -270,7 +286,7 @@ def tried(program, seed, number, commands):
         wrong = wrong_places(checked, got)
         if wrong:
             told.append(([*check[1:], "--places"], text, got, wrong))
-        words = ["check", "--queues", queues, "--accept", "--format", "lines", "-"]
+        words = ["check", *asked, "--accept", "--format", "lines", "-"]
         got = run([program, *words], text)
         wrong = wrong_lines(checked, got)
         if wrong:
@@ -280,27 +296,28 @@ def tried(program, seed, number, commands):
     answers = {"draw": draw_answer, "follow": follow_answer, "ready": ready_answer}
     for command, answered in answers.items():
         if command in commands:
-            words, wanted = [command, "--queues", queues, "-"], answered(text, queues)
+            given = uniform if command == "draw" else queues
+            words, wanted = [command, *queue_words(given), "-"], answered(text, given)
             got = run([program, *words], text)
             if got != wanted:
                 told.append((words, text, got, wanted))
     for command in ("check", "ready") if number % ROUNDS == 0 else ():
         if command in commands:
-            words = [command, "--queues", queues, "--again", "-"]
+            words = [command, *asked, "--again", "-"]
             got, wanted = run([program, *words], text), again_answer(text, command, queues)
             if got != wanted:
                 told.append((words, text, got, wanted))
     if "report" in commands:
-        words = ["report", "--queues", queues, "-"]
+        words = ["report", *queue_words(uniform), "-"]
         got = run([program, *words], text)
-        wrong = wrong_page(checked, got)
+        wrong = wrong_page(check_answer(text, uniform), got)
         if wrong:
             told.append((words, text, got, wrong))
     if "run" in commands:
-        got = run([program, "run", "--queues", queues, "-"], text)
+        got = run([program, "run", *asked, "-"], text)
         wrong = wrong_run(text, queues, checked, got)
         if wrong:
-            told.append((["run", "--queues", queues], text, got, wrong))
+            told.append((["run", *asked], text, got, wrong))
     return told, number, kind_of(checked)
 
 

@@ -6,11 +6,11 @@ memory, and looks whether it answers.
 
 Of a random chart of each of these numbers of events (201, 257 and 300 if none is given) and of a
 diagram whose chart has as many, each command prints what the definitions of tools/naive say, byte
-for byte; SVG and reports are read by tools/picture, and traces by whole_runs.py. Of the largest
-charts that docs/LANGUAGE.md allows each command answers: its status is 0 or 1, standard error is
-empty, and its answer begins as it has to; whole_runs.py reads whether their drawings can happen,
-and `follow` says so within seconds. A run is made only if it is shown. Prints what differs,
-and last `N passed, M failed`.
+for byte, of the second number with rules for links; SVG and reports are read by tools/picture, and
+traces by whole_runs.py. Of the largest charts that docs/LANGUAGE.md allows each command answers:
+its status is 0 or 1, standard error is empty, and its answer begins as it has to; whole_runs.py
+reads whether their drawings can happen, and `follow` says so within seconds. A run is made only if
+it is shown. Prints what differs, and last `N passed, M failed`.
 """
 import random
 import sys
@@ -20,7 +20,7 @@ import xml.etree.ElementTree
 
 from limits import of_events
 from load import INSTANCES, MESSAGES, drawn
-from program import QUEUES, TOP, Answer, Count, arguments, run
+from program import QUEUES, TOP, Answer, Count, arguments, mixed, run
 from whole_runs import Drawn
 from comparisons.explanations import check_placed, check_short
 from generators import charts
@@ -30,6 +30,7 @@ from models.answers import diagram_check_answer, follow_answer, import_answer, l
 from models.answers import read_answer
 from models.chart import Chart, is_enforced
 from models.explanations import Wrong, check
+from models.links import Given, of_chart
 from models.marks import marks_for
 from models.picture import chart_picture, run_picture
 from models.races import listing, study
@@ -100,22 +101,25 @@ def deadlock(events):
     return text + "endmsc;"
 
 
-def answers_on_charts(pick, text, queues, more):
+def answers_on_charts(pick, text, given, queues, more):
     """Words, and what is printed of a chart under an architecture."""
     chart, places = Chart(text, queues), places_of(text.encode())
-    asked, races = ["--queues", queues], chart.races()
+    asked = given.words()
     yield ["read", "-"], read_answer(text.encode())
     for placed in (False, True):
         lines = listing(chart, places, placed)
         yield ["list", *["--places"] * placed, "-"], lines_answer(lines, 0)
     yield ["draw", "-"], lines_answer(chart_picture(chart, False), 0)
-    yield ["draw", *asked, "-"], lines_answer(chart_picture(chart, True), 0)
+    # pictures take no rules
+    plain, usual = Chart(text, given.queues), ["--queues", given.queues]
+    yield ["draw", *usual, "-"], lines_answer(chart_picture(plain, True), 0)
+    e, f = pick.choice(plain.races())
+    told = lines_answer(run_picture(plain, e, f), 0)
+    yield ["reverse", *usual, "-", str(e), str(f)], told
     for words, placed in ((False, False), (True, True)):
         more_words = ["--words"] * words + ["--places"] * placed
         told = follow_answer(text.encode(), queues, words, "-" if placed else None)
         yield ["follow", *asked, *more_words, "-"], told
-    e, f = pick.choice(races)
-    yield ["reverse", *asked, "-", str(e), str(f)], lines_answer(run_picture(chart, e, f), 0)
     for given in STUDIES:
         options, marks = {**rounds.PLAIN, **given}, marks_for(text, queues)
         told = lines_answer(*study(chart, places, options, marks))
@@ -125,9 +129,9 @@ def answers_on_charts(pick, text, queues, more):
     yield ["check", *asked, "--again", "-q", "-"], (b"", b"", told[2])
 
 
-def answers_of_ready(text, queues):
+def answers_of_ready(text, given, queues):
     """Words of `ready`, and what is printed of a chart under an architecture."""
-    asked = ["ready", "--queues", queues]
+    asked = ["ready", *given.words()]
     yield [*asked, "--show", "2", "-"], ready.answer(text, queues, [], 2)
     words = [*asked, "--words", "--places", "--show", "1", "--only", "i1", "-"]
     yield words, ready.answer(text, queues, ["i1"], 1, True, "-")
@@ -135,36 +139,32 @@ def answers_of_ready(text, queues):
     yield words, rounds.ready_answer(text, queues, [], 1)
 
 
-def answers_on_diagrams(text, queues):
+def answers_on_diagrams(text, given):
     """Words, and what is printed of a diagram."""
     for more in OF_DIAGRAMS:
-        words = ["--from", "any", "--queues", queues, *more]
+        words = ["--from", "any", *given.words(), *more]
         yield ["check", *words, "-"], diagram_check_answer(text, words)
     for is_listed in (False, True):
         wanted = import_answer(text, ["--name", "t"], is_listed)
         yield ["import", "--name", "t", *["--list"] * is_listed, "-"], wanted
 
 
-def explanations(count, program, pick, text, queues):
+def explanations(count, program, pick, text, given, queues):
     """Looks at what is told of a race, and of two events that are enforced."""
     chart = Chart(text, queues)
     pairs = [(e, f) for e in chart.all for f in chart.all if is_enforced(chart, e, f)]
     for e, f in (pick.choice(chart.races()), pick.choice(pairs), pick.choice(pairs)[::-1]):
-        words = [program, "explain", "--queues", queues, "-", str(e), str(f)]
+        asked = [program, "explain", *given.words()]
+        words = [*asked, "-", str(e), str(f)]
         plain = run(words, text.encode())
         try:
             check(chart, e, f, plain.output.decode().splitlines())
             wrong = plain[1:] != (b"", int(not is_enforced(chart, e, f)))
-            check_placed(program_of(words), text, places_of(text.encode()), e, f, plain)
-            check_short(program_of(words), text, chart, e, f, plain)
+            check_placed(asked, text, places_of(text.encode()), e, f, plain)
+            check_short(asked, text, chart, e, f, plain)
         except (Wrong, IndexError, ValueError) as told:
             wrong = told
         count.add(not wrong, *words[1:], wrong, plain[1:])
-
-
-def program_of(words):
-    """The program, its command, and the architecture."""
-    return words[:4]
 
 
 def pictures(count, program, pick, text):
@@ -193,18 +193,21 @@ def faults(count, program, text):
 
 def of_size(count, program, pick, place, events):
     """What is answered of a chart and of a diagram of so many events."""
-    text, queues = random_chart(pick, events), QUEUES[place % 3]
-    more = AGAIN[place % len(AGAIN)]
-    tried = [(text, *it) for it in answers_on_charts(pick, text, queues, more)]
+    text, more = random_chart(pick, events), AGAIN[place % len(AGAIN)]
+    given = of_diagram = Given(QUEUES[place % 3])
+    if place % 3 == 1:
+        given, of_diagram = mixed(pick, [f"i{n}" for n in range(16)]), mixed(pick, "ABCDE")
+    queues = of_chart(text.encode(), given)
+    tried = [(text, *it) for it in answers_on_charts(pick, text, given, queues, more)]
     tried += ((text, words, lines_answer(lines, status))
-              for words, (lines, status) in answers_of_ready(text, queues))
+              for words, (lines, status) in answers_of_ready(text, given, queues))
     diagram = random_diagram(pick, events)
-    tried += ((diagram, *it) for it in answers_on_diagrams(diagram.encode(), queues))
-    for given, words, wanted in tried:
-        count.compare(run([program, *words], given.encode()), Answer(*wanted), events, *words)
-    explanations(count, program, pick, text, queues)
+    tried += ((diagram, *it) for it in answers_on_diagrams(diagram.encode(), of_diagram))
+    for held, words, wanted in tried:
+        count.compare(run([program, *words], held.encode()), Answer(*wanted), events, *words)
+    explanations(count, program, pick, text, given, queues)
     pictures(count, program, pick, text)
-    words = ["run", "--queues", queues, "-"]
+    words = ["run", *given.words(), "-"]
     answer = run([program, *words], text.encode())
     wrong = answer[1:] != (b"", 0) or Drawn(text.encode()).wrong(queues, answer.output.decode())
     count.add(not wrong, events, *words, wrong, answer[1:])

@@ -15,9 +15,10 @@ import resource
 import sys
 
 from load import INSTANCES, MESSAGES, drawn
-from program import QUEUES, Answer, Count, add_commands, arguments, check_words, run
+from program import LINKS, QUEUES, Answer, Count, add_commands, arguments, check_words, run
 from generators import diagram_checks, imports
-from models.answers import read_answer
+from models.answers import check_answer, read_answer
+from models.links import Given
 from models.shown import run_lines
 
 LIMIT = 1048576
@@ -116,6 +117,26 @@ def charts():
         (of_events(1023, 1024, 1024), "chart fault 8: input 2046 has no output"),
     ]:
         yield from ((text, queues, None, fault(line)) for queues in QUEUES)
+
+
+def of_links():
+    """Charts of 32 instances, of which each of 1,024 links has a rule of its own; many rules of one
+    link; and words that are no LINKs."""
+    text, names = of_instances(32), [f"i{number}" for number in range(32)]
+    links = [f"{sender}>{receiver}" for sender in names for receiver in names]
+    kinds = [QUEUES[(sender + receiver) % 3] for sender in range(32) for receiver in range(32)]
+    every = list(zip(kinds, links))
+    for some in (every, [*every, *((kind, name) for kind, name in zip(kinds, names))],
+                 [("pair", link) for link in links], [("single", "i0>i1")] * 2000,
+                 [*every, ("pair", links[1])], *([("pair", link)] for link in LINKS)):
+        yield text, Given("single", some)
+
+
+def checks_of_links(count, program):
+    """Compares what is printed of these."""
+    for text, given in of_links():
+        answer, told = run(check_words(program, given), text), " ".join(given.words())
+        count.compare(answer, check_answer(text, given), told[:200], text[:60])
 
 
 def numbers_of_races():
@@ -363,6 +384,7 @@ def main():
         checks_of_drawings(count, program)
     checks_of_rounds(count, program, options.commands)
     if "check" in options.commands:
+        checks_of_links(count, program)
         checks_of_diagrams(count, program)
     stacks(count, program, options.commands)
     return count.end()

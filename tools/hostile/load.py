@@ -4,12 +4,12 @@
     load.py [--beside N] [--times N] [--one-processor] PROGRAM
 
 N runs of `msc run` are started side by side (200 where it is not said), over charts of 2 to 32
-instances and the architectures in turn; then charts of 32 instances with 1,024 messages are run N
-times one after the other (20 where it is not said). With --one-processor all of it has one
-processor. Every instance has to finish, the trace has to be a run in which every event occurs, and
-the status 0; standard error has to be empty. That is looked at by whole_runs.py;
-the model in tools/naive takes too long for charts of this size. Prints what differs, the longest
-times, and last `N passed, M failed`.
+instances and the kinds of queues in turn, every second one with rules for links; then charts of 32
+instances with 1,024 messages are run N times one after the other (20 where it is not said). With
+--one-processor all of it has one processor. Every instance has to finish, the trace has to be a run
+in which every event occurs, and the status 0; standard error has to be empty. That is looked at by
+whole_runs.py; the model in tools/naive takes too long for charts of this size. Prints what differs,
+the longest times, and last `N passed, M failed`.
 """
 import os
 import random
@@ -18,8 +18,9 @@ import sys
 import time
 from subprocess import PIPE
 
-from program import MOST_SECONDS, QUEUES, Answer, Count, arguments, run
+from program import MOST_SECONDS, QUEUES, Answer, Count, arguments, mixed, run
 from whole_runs import Drawn, spoiled
+from models.links import Given, of_chart
 
 # the messages and instances of the largest charts
 MESSAGES, INSTANCES = 1024, 32
@@ -50,6 +51,15 @@ def drawn(pick, instances, messages):
     return f"msc t;{''.join(sections)}endmsc;".encode()
 
 
+def some_queues(pick, number, text, instances):
+    """What is said of the queues of a run: each second one has rules for links; and the
+    architecture."""
+    given = Given(QUEUES[number % 3])
+    if number % 2:
+        given = mixed(pick, [f"i{name}" for name in range(instances)])
+    return given, of_chart(text, given)
+
+
 def judge(count, chart, queues, answer, *told):
     is_done = answer.status == 0 and answer.error == b""
     wrong = chart.wrong(queues, answer.output.decode()) if is_done else answer
@@ -58,11 +68,13 @@ def judge(count, chart, queues, answer, *told):
 
 def side_by_side(count, program, pick, runs):
     """Starts all of them, then looks at each."""
-    texts = [drawn(pick, instances, 8 * instances) for instances in (2, 3, 5, 8, 13, 21, 32)]
+    sizes = (2, 3, 5, 8, 13, 21, 32)
+    texts = [drawn(pick, instances, 8 * instances) for instances in sizes]
     charts, begun = [Drawn(text) for text in texts], []
     for number in range(runs):
-        queues, text = QUEUES[number % 3], texts[number % len(texts)]
-        words = [program, "run", "--queues", queues, "-"]
+        text = texts[number % len(texts)]
+        given, queues = some_queues(pick, number, text, sizes[number % len(sizes)])
+        words = [program, "run", *given.words(), "-"]
         process = subprocess.Popen(words, stdin=PIPE, stdout=PIPE, stderr=PIPE)
         process.stdin.write(text)
         process.stdin.close()
@@ -79,16 +91,17 @@ def side_by_side(count, program, pick, runs):
 
 
 def one_by_one(count, program, pick, times):
-    """Runs charts at the limits; answers the longest time of each architecture. Of one of them is
+    """Runs charts at the limits; answers the longest time of each usual kind. Of one of them is
     looked whether what is no execution of it would be told."""
     longest = dict.fromkeys(QUEUES, 0)
     for number in range(times):
         if number % 50 == 0:
             text = drawn(pick, INSTANCES, MESSAGES)
             chart = Drawn(text)
-        queues, began = QUEUES[number % 3], time.monotonic()
-        answer = run([program, "run", "--queues", queues, "-"], text)
-        longest[queues] = max(longest[queues], time.monotonic() - began)
+        given, queues = some_queues(pick, number, text, INSTANCES)
+        began = time.monotonic()
+        answer = run([program, "run", *given.words(), "-"], text)
+        longest[given.queues] = max(longest[given.queues], time.monotonic() - began)
         judge(count, chart, queues, answer, f"large chart, time {number}")
         if number == 0 and answer.status == 0:
             for wrong in spoiled(answer.output.decode()):

@@ -5,8 +5,9 @@ do so.
     memory.py [--most N] [--every K] [--commands C,..] [--limit] PROGRAM [CHART ..]
 
 Every chart of charts/ and of charts/refused/ is read, and checked, followed, run, drawn, reported
-and asked for sticks under each architecture, and of two rounds under `mailbox`, and every diagram
-of charts/import/ is imported and checked, where these are not given; of the runs with more than N
+and asked for sticks with each kind of queues, checked and run with rules for links, and asked of
+two rounds under `mailbox`, and every diagram of charts/import/ is imported and checked, where these
+are not given; so are, always, a chart and a diagram with more rules. Of the runs with more than N
 allocations (400 where it is not said) each K-th allocation alone is refused. What a refused run has
 to answer says tools/refuse/refuse.py. With --limit no call is refused, but each command has less
 and less address space for a chart at the limits, down to too little for the program to begin.
@@ -15,6 +16,7 @@ well, and last `N passed, M failed`.
 """
 import pathlib
 import random
+import re
 import resource
 import signal
 import sys
@@ -22,7 +24,9 @@ import tempfile
 
 from load import INSTANCES, MESSAGES, drawn
 from program import QUEUES, TOP, Count, add_commands, arguments, run
+from generators import link_examples
 from generators.imports import at_the_limits
+from models.links import Given
 from refuse import Program, Shim, is_well, refuse_each
 from threads import star
 
@@ -30,8 +34,14 @@ from threads import star
 STEP = 256 * 1024
 
 
-def commands(wanted):
-    """The words of each command on charts, and whether it has threads."""
+def ruled(names):
+    """What a command line says of the queues of a chart with these instances."""
+    rules = [("single", names[0]), ("pair", f" {names[-1]} > {names[0]}"), ("pair", names[-1])]
+    return Given("mailbox", rules if len(set(names)) > 1 else rules[:2])
+
+
+def commands(wanted, names=()):
+    """The words of each command on a chart with these instances, and whether it has threads."""
     if "read" in wanted:
         yield ["read", "-"], False
     for command in wanted:
@@ -40,6 +50,8 @@ def commands(wanted):
             yield from (([command, "--queues", queues, "-"], command == "run") for queues in QUEUES)
         if command in ("check", "ready"):
             yield [command, "--queues", "mailbox", "--again", "-"], False
+        if command in ("check", "run") and names:
+            yield [command, *ruled(names).words(), "-"], command == "run"
 
 
 def imports(wanted):
@@ -55,11 +67,24 @@ def imports(wanted):
         yield [*check, "single", "--closest", "--format", "lines", "--limit", "2", "-"]
 
 
-def commands_on(chart, wanted):
-    """The words of each command on a file, and whether it has threads."""
+def commands_on(chart, text, wanted):
+    """The words of each command on a file with this text, and whether it has threads."""
     if chart.suffix == ".mmd":
         return ((words, False) for words in imports(wanted))
-    return commands(wanted)
+    names = re.findall(r"(?i)\binstance\s+(\w+)", text.decode("latin-1"))
+    return commands(wanted, names)
+
+
+def examples(wanted):
+    """A chart and a diagram, and the words of `check` with rules for links, right and faulty."""
+    if "check" not in wanted:
+        return
+    cell = link_examples.CELL.encode()
+    for words in ([], ["--format", "lines"], ["--single", "a>"], ["--single", "a>", "--places"]):
+        yield cell, ["check", *ruled(["radio", "base"]).words(), *words, "-"]
+    lines, check = link_examples.DIAGRAM.format("").encode(), ["check", "--from", "any", "--queues"]
+    for words in (["--single", "b"], ["--single", "b", "--mailbox", "a > b"], ["--pair", "d"]):
+        yield lines, [*check, "pair", *words, "-"]
 
 
 def in_space(most):
@@ -78,7 +103,7 @@ def limit_each(program, wanted):
     taken = (text for text, _ in at_the_limits() if text.count("->>") <= MESSAGES)
     largest = max(taken, key=lambda text: text.count("->>")).encode()
     on_diagrams = ((words, False) for words in imports(wanted))
-    for words, has_threads in [*commands(wanted), *on_diagrams]:
+    for words, has_threads in [*commands(wanted, ["i0", "i1"]), *on_diagrams]:
         messages = MESSAGES // 2 if "--again" in words else MESSAGES
         text = star(INSTANCES) if has_threads else drawn(random.Random(1), INSTANCES, messages)
         is_diagram = words[0] == "import" or "--from" in words
@@ -103,18 +128,27 @@ def limit_each(program, wanted):
     return count.end()
 
 
-def refuse_all(options):
+def tried(options):
+    """Texts, the words of commands on them, their names, and whether a command has threads."""
     diagrams = sorted(TOP.glob("charts/import/*.mmd"))
     charts = options.charts or [*sorted(TOP.glob("charts/**/*.msc")), *diagrams]
+    for chart in map(pathlib.Path, charts):
+        text = chart.read_bytes()
+        for words, has_threads in commands_on(chart, text, options.commands):
+            yield text, words, chart.name, has_threads
+    for text, words in examples(options.commands):
+        yield text, words, "an example of links", False
+
+
+def refuse_all(options):
     passed = failed = 0
     with tempfile.TemporaryDirectory() as folder:
         shim = Shim(folder)
-        for chart in map(pathlib.Path, charts):
-            for words, has_threads in commands_on(chart, options.commands):
-                program = Program([options.program, *words], chart.read_bytes(), shim)
-                told = f"msc {' '.join(words)} < {chart.name}"
-                right, wrong = refuse_each(program, told, has_threads, options.most, options.every)
-                passed, failed = passed + right, failed + wrong
+        for text, words, told, has_threads in tried(options):
+            program = Program([options.program, *words], text, shim)
+            told = f"msc {' '.join(words)} < {told}"
+            right, wrong = refuse_each(program, told, has_threads, options.most, options.every)
+            passed, failed = passed + right, failed + wrong
     print(f"{passed} passed, {failed} failed")
     return int(failed > 0 or passed == 0)
 

@@ -7,7 +7,12 @@ TOP = pathlib.Path(__file__).resolve().parent.parent.parent
 sys.path += [str(TOP / "tools/naive"), str(TOP / "tools/refuse")]
 from harness import MOST_SECONDS, Answer, parser, run
 from models.chart import QUEUES
+from models.links import Given
 
+# words that are to be LINKs, and are none or name no instance
+LINKS = ["", " ", ">", ">a", "a>", "a> ", "a>b>c", "a>>b", ">>", "a,b", "a;b", "'", "A", "-a", "--",
+         "a\tb", "\x01>a", "a>\x1b[31m", "\x7f", "\r\n", "\u00e9", "a>\u7528\u6237", "\u202ea",
+         "\ufeffa", "\u00a0a", "x" * 65, "a>" + "b" * 100000, ">" * 100000, " " * 100000]
 # the commands that are tried
 COMMANDS = ["read", "check", "follow", "run", "draw", "reverse", "report", "ready", "import"]
 
@@ -25,9 +30,21 @@ def add_commands(words):
                        type=lambda text: text.split(","))
 
 
+def queue_words(queues):
+    """The words for an architecture, which are one kind, or what a command line says of queues."""
+    return (queues if isinstance(queues, Given) else Given(queues)).words()
+
+
 def check_words(program, queues, show=None):
     shown = [] if show is None else ["--show", str(show)]
-    return [program, "check", "--queues", queues, *shown, "-"]
+    return [program, "check", *queue_words(queues), *shown, "-"]
+
+
+def mixed(pick, names):
+    """A random usual kind, and rules for some of the links to instances of these names."""
+    links = [*names, *(f"{pick.choice(names)}>{name}" for name in names)]
+    some = pick.sample(links, pick.randint(1, len(links)))
+    return Given(pick.choice(QUEUES), [(pick.choice(QUEUES), link) for link in some])
 
 
 class Count:

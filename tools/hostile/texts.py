@@ -7,10 +7,10 @@ of every byte; compares what the program answers with what the models of tools/n
 The charts are charts/kinds_and_comments.msc and charts/texts_of_actions.msc where none is given,
 and charts/import/websocket_chat.mmd. Each text, or each K-th, is given to `msc read`, and where it
 has a draft also to `msc check` under each architecture, to `msc follow`, `msc draw` and `msc ready`
-under one, and to `check` and `ready` with `--again`.
-Those of a diagram are given to `msc import`, and where a scenario has a draft to `msc check --from`,
-and compared with these too. Prints what differs, for each chart how
-many texts had a draft, and last `N passed, M failed`.
+under one, and to `check` and `ready` with `--again`. Those of a diagram are given to `msc import`,
+and where a scenario has a draft to `msc check --from`, and compared with these too. Each byte of a
+LINK is changed too, of a chart and of a diagram that stand here. Prints what differs, for each
+chart how many texts had a draft, and last `N passed, M failed`.
 """
 import pathlib
 import sys
@@ -18,9 +18,18 @@ import sys
 from program import QUEUES, TOP, Count, arguments, check_words, run
 from models.answers import again_answer, check_answer, diagram_check_answer, draw_answer
 from models.answers import follow_answer, import_answer, read_answer, ready_answer
+from models.links import Given
 
 CHARTS = [TOP / "charts/kinds_and_comments.msc", TOP / "charts/texts_of_actions.msc",
           TOP / "charts/import/websocket_chat.mmd"]
+# a chart and a diagram, and a LINK of theirs; another rule stands next to that for it
+OF_LINKS = [
+    (b"msc t; instance a; out m to b; endinstance; instance b; in m from a; in n from c;"
+     b" endinstance; instance c; out n to b; endinstance; endmsc;", b" a > b", []),
+    (b"sequenceDiagram\nparticipant b as The B\na->>b: m\nc->>b: n\n", b"a >The B",
+     ["--from", "any"]),
+]
+BESIDE = ("mailbox", "b")
 # marks and white space, the first and last bytes of what names are made of with their neighbours,
 # letters that make other words of reserved ones, and bytes that begin no token
 TELLING = b";,:()'/* \t\r\n09AZaz_^@[`{emotEM\0\x0b\x1f.\"\\-\x7f\xc3\xff"
@@ -77,6 +86,23 @@ def compare_diagram(count, program, text):
     return True
 
 
+def compare_link(count, program, text, link, more):
+    """Compares what is answered of a text with a rule for what may be a LINK."""
+    given = Given("pair", [("single", link), BESIDE])
+    wanted = check_answer(text, given)
+    if more:
+        wanted = diagram_check_answer(text, [*given.words(), *more])
+    words = ["check", *given.words(), *more, "-"]
+    count.compare(run([program, *words], text), wanted, *words, text)
+
+
+def words_of(link):
+    """LINKs with a byte changed that a command line can have."""
+    for made in (*cut(link), *left_out(link), *replaced(link, TELLING)):
+        if made.isascii() and b"\0" not in made:
+            yield made.decode()
+
+
 def main():
     assert len(set(TELLING)) == len(set(IN_DIAGRAMS)) == 40
     words = arguments(__doc__)
@@ -91,6 +117,9 @@ def main():
         texts = [*cut(text), *left_out(text), *replaced(text, telling)][::options.every]
         drafts = sum(compare(count, options.program, made) for made in texts)
         print(f"{chart.name}: {len(texts)} texts, {drafts} of them have a draft")
+    for text, link, more in OF_LINKS:
+        for made in list(words_of(link))[::options.every]:
+            compare_link(count, options.program, text, made, more)
     return count.end()
 
 

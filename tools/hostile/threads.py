@@ -3,26 +3,28 @@
 
     threads.py [--instances N ..] [--limit] PROGRAM
 
-For charts of 1 to 32 instances, or of these numbers alone, under each architecture, each thread is
-refused alone, and with all later ones. Each answer has to be the fault line of the instance whose
-thread was refused first, nothing on standard output, and status 4; the process has to end by itself
-at once. Two charts are run for each number: in the one each instance waits for the one before it
-and the first for the last, so each waits for the one that is missing; in the other the last
-instance sends to all others, which act when they have it. A third chart is run once: two instances
-wait for the third, and then for each other. With --limit, as root, no call is refused, but the
-system itself says no: the program runs as a user that may have 1 to 9 processes and threads, and in
-a control group that may, where one can be made; else that is said, and left out. Prints what
-differs, and last `N passed, M failed`.
+For charts of 1 to 32 instances, or of these numbers alone, with each kind of queues, and with
+random rules for links, each thread is refused alone, and with all later ones. Each answer has to be
+the fault line of the instance whose thread was refused first, nothing on standard output, and
+status 4; the process has to end by itself at once. Two charts are run for each number: in the one
+each instance waits for the one before it and the first for the last, so each waits for the one that
+is missing; in the other the last instance sends to all others, which act when they have it. A third
+chart is run once: two instances wait for the third, and then for each other. With --limit, as root,
+no call is refused, but the system itself says no: the program runs as a user that may have 1 to 9
+processes and threads, and in a control group that may, where one can be made; else that is said,
+and left out. Prints what differs, and last `N passed, M failed`.
 """
 import os
 import pathlib
+import random
 import resource
 import shutil
 import sys
 import tempfile
 import time
 
-from program import QUEUES, Answer, Count, arguments, run
+from program import QUEUES, Answer, Count, arguments, mixed, run
+from models.links import Given
 from refuse import Shim
 
 # the most seconds after which an answer comes at once
@@ -70,9 +72,10 @@ def not_started(instance):
 
 def refuse_each(count, program, shim, instances, charts=(ring, star)):
     """Refuses each thread of charts with so many instances."""
+    some = mixed(random.Random(instances), [f"i{number}" for number in range(instances)])
     for chart in charts:
-        for queues in QUEUES:
-            words, text = [program, "run", "--queues", queues, "-"], chart(instances)
+        for queues in (*map(Given, QUEUES), some):
+            words, text = [program, "run", *queues.words(), "-"], chart(instances)
             answer = run(words, text, env=shim.env())
             is_full = answer.status == 0 and shim.made()[1] == instances
             count.add(is_full, chart.__name__, instances, queues, "in full", shim.made(), answer)

@@ -5,6 +5,7 @@ import collections
 import re
 
 from models.chart import action_text
+from models.links import architecture
 from models.reading import Draft, key
 
 
@@ -29,14 +30,20 @@ class Drawn:
                       for e, (line, _, event) in enumerate(self.events)]
         self.known = set(self.lines)
 
+    def head(self, queues):
+        """The lines that an answer begins with."""
+        names = [name.decode() for name in self.names]
+        return [f"chart {self.name}", *architecture(queues).lines(names)]
+
     def queue(self, e, queues):
         sender, receiver = self.keys[e][:2]
-        return {"pair": (sender, receiver), "mailbox": receiver, "single": self.keys[e]}[queues]
+        kind = architecture(queues).kind(*map(self.names.index, (sender, receiver)))
+        return {"pair": (sender, receiver), "mailbox": receiver, "single": self.keys[e]}[kind]
 
     def wrong(self, queues, printed):
         """What is wrong with a printed execution in which all instances finish, or None."""
         ends = [f"instance {name.decode()} finished" for name in self.names]
-        head = [f"chart {self.name}", f"queues {queues}", *ends, f"trace {len(self.events)}"]
+        head = [*self.head(queues), *ends, f"trace {len(self.events)}"]
         *lines, last = printed.split("\n")
         if lines[:len(head)] != head or last:
             return f"another head than {head}"
@@ -69,11 +76,13 @@ class Drawn:
     def wrong_drawing(self, queues, printed):
         """What is wrong with a printed answer on the drawing, or None."""
         *lines, last = printed.split("\n")
-        if lines[:2] != [f"chart {self.name}", f"queues {queues}"] or last:
+        head = self.head(queues)
+        if lines[:len(head)] != head or last:
             return "another head"
-        if lines[2] == "follows" and len(lines) == 4:
-            return self.wrong_following(queues, list(map(int, lines[3].split()[1:])))
-        return self.wrong_ring(queues, lines[3:]) if lines[2] == "never" else "another verdict"
+        verdict, *told = lines[len(head):]
+        if verdict == "follows" and len(told) == 1:
+            return self.wrong_following(queues, list(map(int, told[0].split()[1:])))
+        return self.wrong_ring(queues, told) if verdict == "never" else "another verdict"
 
     def wrong_following(self, queues, run):
         """What is wrong with a run that is to be whole and as drawn, or None."""

@@ -8,13 +8,18 @@ Expected outputs can be taken from it. For instance
 
     tools/naive/print.py chart pair < charts/relay.msc
 
-prints what `msc check --queues pair` prints. The exit status is that of `msc`.
+prints what `msc check --queues pair` prints. RULE is `--pair LINK`, `--mailbox LINK` or `--single
+LINK` there; the line of its fault goes to standard error. The exit status is that of `msc`.
 """
 import importlib
 import pathlib
 import sys
 
 sys.dont_write_bytecode = True
+from harness import put
+from models.answers import refusal
+from models.links import LinkFault
+
 MODELS = pathlib.Path(__file__).resolve().parent / "models"
 
 
@@ -24,7 +29,10 @@ def main():
     model = importlib.import_module(f"models.{sys.argv[1]}")
     if not hasattr(model, "main"):
         sys.exit(f"print: {sys.argv[1]} has no command line")
-    return model.main(sys.argv[2:])
+    try:
+        return model.main(sys.argv[2:])
+    except LinkFault as fault:
+        return put(refusal(fault.line()))
 
 
 if __name__ == "__main__":

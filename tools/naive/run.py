@@ -18,6 +18,7 @@ OPTION is one of these; a comparison that lacks it is refused:
     --lines L       with at most L instances in a chart
     --events E      search the states only of charts with at most E events
     --plain         PROGRAM is a plain program of bench/plain
+    --uniform       give all links of a chart the same kind of queue
     --write         store what the model prints
 
 Each comparison prints what fails, and last a line `NAME: N passed, M failed`, with what else it
@@ -34,7 +35,7 @@ sys.dont_write_bytecode = True
 from harness import MOST_FAILURES, Enough, Trial, parser
 
 HERE = pathlib.Path(__file__).resolve().parent
-SIZES, FLAGS = ("number", "messages", "lines", "events"), ("plain", "write")
+SIZES, FLAGS = ("number", "messages", "lines", "events"), ("plain", "uniform", "write")
 
 
 def comparisons():

@@ -1,7 +1,8 @@
 """What `msc check --from` prints of random Mermaid diagrams, and of diagrams at the limits.
 
 Most of the texts are small diagrams without a mistake; some stand in a file, and some in Markdown.
-Faults have their places and notes. Before these come wrong words.
+Two of three have rules for links. Faults have their places and notes. Before these come wrong
+words.
 """
 import pathlib
 import re
@@ -12,7 +13,7 @@ from harness import Answer
 from models.answers import diagram_check_answer
 
 NEEDS_PROGRAM = True
-OPTIONS = {"number": 600}
+OPTIONS = {"number": 600, "uniform": False}
 
 
 def compare_words(trial):
@@ -25,11 +26,12 @@ def compare_words(trial):
 def compare(trial):
     compare_words(trial)
     with tempfile.TemporaryDirectory() as folder:
-        for text, words, file in tried(trial.pick, trial.options.number):
+        options = trial.options
+        for text, words, file in tried(trial.pick, options.number, options.uniform):
             if file != "-":
                 pathlib.Path(folder, file).write_bytes(text)
             wanted = diagram_check_answer(text, words, file, True)
             trial.compare(["check", *words, file], text, wanted, cwd=folder)
-            found = re.match(rb"import fault \d+", wanted.error)
+            found = re.match(rb"(import|link) fault \d+", wanted.error)
             trial.noted[found[0].decode() if found else ("pass", "races")[wanted.status]] += 1
             trial.noted["races told"] += len(re.findall(rb"^race ", wanted.output, re.M))

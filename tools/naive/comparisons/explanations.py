@@ -1,21 +1,22 @@
 """What `msc explain` prints of every pair of events of random charts, line by line.
 
-Each chart is tried under each architecture, with all pairs of numbers from 0 up to that of its
-events. Each text is checked again without one of its lines, and has to be wrong then. Some pairs
-are tried again with --places, and the events by their lines: only the places may be added. Some are
-tried with --short: only the run may differ.
+Each chart is tried with each kind of queues, in part with rules for links, and with all pairs of
+numbers from 0 up to that of its events. Each text is checked again without one of its lines, and
+has to be wrong then. Some pairs are tried again with --places, and the events by their lines: only
+the places may be added. Some are tried with --short: only the run may differ.
 """
 import functools
 
 from generators.charts import chart
+from generators.links import some_queues
 from harness import run
-from models.chart import QUEUES, Chart, is_enforced
+from models.chart import Chart, is_enforced
 from models.explanations import Wrong, check, fault, name_of, with_places
 from models.short_runs import short_witness
 from models.shown import places_of
 
 NEEDS_PROGRAM = True
-OPTIONS = {"number": 24, "messages": 6}
+OPTIONS = {"number": 24, "messages": 6, "uniform": False}
 
 
 def is_refused_without(drawn, e, f, lines, place):
@@ -88,10 +89,10 @@ def compare(trial):
         end = trial.pick.choice(["", "\n", "\r\n  "])
         text = chart(trial.pick, trial.options.messages, True).replace(";", ";" + end)
         places = places_of(text.encode("latin-1"))
-        for queues in QUEUES:
+        for given, queues in some_queues(trial.pick, text, trial.options.uniform):
             drawn = Chart(text, queues)
             drawn.witness = functools.cache(drawn.witness)
-            asked = [trial.program, "explain", "--queues", queues]
+            asked = [trial.program, "explain", *given.words()]
             numbers = range(len(drawn.events) + 1)
             for e, f in ((e, f) for e in numbers for f in numbers):
                 check_one(trial, asked, text, places, drawn, e, f)

@@ -1,15 +1,16 @@
 """What `msc follow` prints, and what lines for editors say of drawings, by the model of drawings.
 
-Random charts and those of charts/ are tried under each architecture: with `follow`, with its
-options, and with `check --format lines` and a random choice of the options of
-generators/check_options.py, which choose races but not whether the drawing can happen; now and then
-with `--again`. Some charts have random line ends, and some have marks. The charts of charts/ are
-files. Of texts with mistakes `follow` prints the fault, and with `--places` its notes.
+Random charts and those of charts/ are tried with each kind of queues, in part with rules for links:
+with `follow`, with its options, and with `check --format lines` and a random choice of the options
+of generators/check_options.py, which choose races but not whether the drawing can happen; now and
+then with `--again`. Some charts have random line ends, and some have marks. The charts of charts/
+are files. Of texts with mistakes `follow` prints the fault, and with `--places` its notes.
 """
 import pathlib
 
 from generators.charts import chart, crossed_chart, marked, small_chart
 from generators.check_options import some_options, words_of
+from generators.links import some_queues
 from generators.mistakes import mistaken
 from harness import Answer, joined
 from models import notes
@@ -23,7 +24,7 @@ from models.rounds import check_answer, fault_of_rounds
 from models.shown import places_of
 
 NEEDS_PROGRAM = True
-OPTIONS = {"number": 150, "messages": 7}
+OPTIONS = {"number": 150, "messages": 7, "uniform": False}
 TOP = pathlib.Path(__file__).resolve().parents[3]
 
 
@@ -35,7 +36,7 @@ def options_for(pick, text, queues):
     return options, pick.random() < 0.3 and not fault_of_rounds(text, queues)
 
 
-def compare_check(trial, text, queues, file):
+def compare_check(trial, text, given, queues, file):
     """Compares the lines for editors of a chart; `text` is one of characters."""
     options, is_again = options_for(trial.pick, text, queues)
     marks = marks_for(text, queues)
@@ -44,20 +45,21 @@ def compare_check(trial, text, queues, file):
     else:
         places = places_of(text.encode("latin-1"))
         lines, status = study(Chart(text, queues), places, options, marks)
-    asked = ["check", "--queues", queues, *["--again"] * is_again, *words_of(options)]
+    asked = ["check", *given.words(), *["--again"] * is_again, *words_of(options)]
     wanted = Answer(joined(notes.in_file(lines, file)), b"", status)
     trial.compare([*asked, file], text.encode("latin-1"), wanted, cwd=TOP)
 
 
 def compare_chart(trial, text, file="-"):
     """Compares what is printed of a chart, on standard input or in a file."""
-    for queues in QUEUES:
+    told = text.decode("latin-1")
+    for given, queues in some_queues(trial.pick, told, trial.options.uniform):
         for words, placed in ((False, False), (True, False), (False, True), (True, True)):
-            asked = ["follow", "--queues", queues, *["--words"] * words, *["--places"] * placed]
+            asked = ["follow", *given.words(), *["--words"] * words, *["--places"] * placed]
             wanted = follow_answer(text, queues, words, file if placed else None)
             trial.compare([*asked, file], text, wanted, cwd=TOP)
         trial.noted["never"] += wanted.status
-        compare_check(trial, text.decode("latin-1"), queues, file)
+        compare_check(trial, told, given, queues, file)
 
 
 def compare_mistaken(trial, text):

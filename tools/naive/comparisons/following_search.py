@@ -1,10 +1,10 @@
 """Drawings that can happen, by a search over all runs of small random charts.
 
-All states of runs that keep the drawn order are looked at under each architecture, without a word
-of steps. A whole one is reached exactly if the steps have no ring. In each state that a whole run
-passes, the events with which such a run goes on are those that may come and to which no step leads
-from one that has not come. The least of them, again and again, are the following run, which is
-whole and keeps the drawn order.
+All states of runs that keep the drawn order are looked at with each kind of queues, in part with
+rules for links, without a word of steps. A whole one is reached exactly if the steps have no ring.
+In each state that a whole run passes, the events with which such a run goes on are those that may
+come and to which no step leads from one that has not come. The least of them, again and again, are
+the following run, which is whole and keeps the drawn order.
 
 A ring is one of different events. By the closed steps no event below its first is on a ring. Of all
 paths that lead from its first event back to it, tried one after the other, none of fewer events is
@@ -16,11 +16,13 @@ tried too: no arrow of a diagram rises, so all can happen.
 """
 from generators.charts import crossed_chart, small_chart
 from generators.diagram_checks import diagram
+from generators.links import some_queues
 from harness import Wrong, want
-from models.chart import QUEUES, Chart, is_enforced
+from models.chart import Chart, is_enforced
 from models.courses import scenarios
 from models.explanations import is_whole_run
 from models.following import Steps, ring_steps
+from models.links import architecture
 from models.mermaid import one_text
 from models.ready import closed
 from models.scenarios import options_of
@@ -29,6 +31,7 @@ from models.source import Refused, source_of
 
 NEEDS_PROGRAM = False
 OPTIONS = {"number": 400, "messages": 5, "lines": 4}
+SINGLE = architecture("single")
 
 
 def kept_states(drawn):
@@ -112,7 +115,7 @@ def examine(trial, drawn):
         want(more == may_follow(steps, state), f"not {more} may follow {state.past:b}")
     want(races or passed, "it passes, and cannot happen")
     words = {steps.word(x, y) for x in steps.all for y in steps.next[x]}
-    want(drawn.queues != "single" or passed and "ahead" not in words, "single")
+    want(drawn.queues != SINGLE or passed and "ahead" not in words, "single")
     if passed:
         check_run(drawn, steps)
     else:
@@ -141,12 +144,12 @@ def compare(trial):
     for number in range(it.number):
         made = crossed_chart if number % 2 else small_chart
         text = made(pick, it.lines, it.messages + 3 * (number % 2))
-        for queues in QUEUES:
+        for given, queues in some_queues(pick, text):
             try:
                 examine(trial, Chart(text, queues))
             except Wrong as wrong:
-                trial.add(False, f"{text}\n{queues}: {wrong}")
+                trial.add(False, f"{text}\n{given}: {wrong}")
         for text in of_diagram(pick):
-            for queues in QUEUES:
-                trial.add(Steps(Chart(text, queues)).ring is None, text, queues, "never happens")
+            for given, queues in some_queues(pick, text):
+                trial.add(Steps(Chart(text, queues)).ring is None, text, given, "never happens")
                 trial.noted["scenarios"] += 1

@@ -2,11 +2,14 @@
 
 The races of a diagram whose loops go 0 and 2 rounds have to be, by their lines, their arrows and
 the ends of these, those with 0 to 3 rounds, and those with 1 and 2 rounds those with 1 to 3.
-Diagrams without a loop, or with more than 300 scenarios, are left out.
+Diagrams without a loop, or with more than 300 scenarios, are left out. Two of three have rules for
+links.
 """
 from generators.diagram_checks import diagram
+from generators.links import some_words
 from models.chart import QUEUES
 from models.courses import scenarios
+from models.links import given_of, of_diagram
 from models.mermaid import one_text
 from models.scenarios import Scenario, options_of
 from models.source import Refused, source_of
@@ -21,10 +24,11 @@ def races(text, rounds, words):
     """The races of a diagram by their lines, arrows and ends, or None where it is refused."""
     options = options_of([*words, "--limit", "300", "--rounds", rounds, "-"])
     try:
-        every = list(scenarios(one_text(source_of(text), options).diagram(options), options))
+        read = one_text(source_of(text), options).diagram(options)
+        every, queues = list(scenarios(read, options)), of_diagram(read, given_of(options))
     except Refused:
         return None
-    every = [Scenario(course, options.queues, "-") for course in every]
+    every = [Scenario(course, queues, "-") for course in every]
     return {scenario.ends(race) for scenario in every for race in scenario.races}
 
 
@@ -34,6 +38,7 @@ def compare(trial):
         text = diagram(pick).encode()
         given = ["--queues", pick.choice(QUEUES), "--self", pick.choice(["action", "message"])]
         given += pick.choice([[], ["--cross", "lost"], ["--cross", "arrives"]])
+        given = some_words(pick, text, given)
         for few, many in ENOUGH.items() if b"\nloop" in text else ():
             wanted = races(text, many, given)
             if wanted is not None:

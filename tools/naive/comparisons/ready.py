@@ -1,21 +1,21 @@
 """What `msc ready` prints of small random charts with its options."""
 from generators.charts import small_chart
+from generators.links import some_queues
 from harness import Answer, joined
-from models.chart import QUEUES
 from models.ready import ALL, answer
 
 NEEDS_PROGRAM = True
-OPTIONS = {"number": 100, "messages": 5, "lines": 4}
+OPTIONS = {"number": 100, "messages": 5, "lines": 4, "uniform": False}
 
 
-def compare_one(trial, text, queues):
+def compare_one(trial, text, given, queues):
     """Compares what is printed of a chart."""
     pick, names = trial.pick, [f"p{i}" for i in range(trial.options.lines)]
     only = [pick.choice(names) for _ in range(pick.choice([0, 0, 1, 2]))]
     show = pick.choice([0, 1, ALL])
     words, placed = pick.random() < 0.5, pick.random() < 0.5
     lines, status = answer(text, queues, only, show, words, "-" if placed else None)
-    asked = ["ready", "--queues", queues, "--show", str(show)]
+    asked = ["ready", *given.words(), "--show", str(show)]
     asked += [word for name in only for word in ("--only", name)]
     asked += ["--words"] * words + ["--places"] * placed + ["-"]
     trial.noted["sticks"] += sum(line.startswith("stick ") for line in lines)
@@ -27,5 +27,5 @@ def compare_one(trial, text, queues):
 def compare(trial):
     for _ in range(trial.options.number):
         text = small_chart(trial.pick, trial.options.lines, trial.options.messages)
-        for queues in QUEUES:
-            compare_one(trial, text, queues)
+        for given, queues in some_queues(trial.pick, text, trial.options.uniform):
+            compare_one(trial, text, given, queues)

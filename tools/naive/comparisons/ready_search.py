@@ -1,17 +1,19 @@
 """Instances that are ready, by a search over all states of runs of small random charts.
 
-All states that ready runs reach are looked at under each architecture, with all instances ready and
-with some: a run sticks exactly where there is a stick; some run is whole exactly where no ring is
-found; some stick is first; each first stick has its run, and the system has stuck after it; once
-its outputs were sent in the other order no continuation is whole; where nothing sticks, the pairs
-of the other lines that runs reverse are those that are named; more ready instances end no sticking;
-a chart that passes never sticks.
+All states that ready runs reach are looked at with each kind of queues, in part with rules for
+links, with all instances ready and with some: a run sticks exactly where there is a stick; some run
+is whole exactly where no ring is found; some stick is first; each first stick has its run, and the
+system has stuck after it; once its outputs were sent in the other order no continuation is whole;
+where nothing sticks, the pairs of the other lines that runs reverse are those that are named; more
+ready instances end no sticking; a chart that passes never sticks.
 """
 import itertools
 
 from generators.charts import small_chart
+from generators.links import some_queues
 from harness import Wrong, want
-from models.chart import QUEUES, Chart
+from models.chart import Chart
+from models.links import architecture
 from models.ready import Ready
 
 NEEDS_PROGRAM = False
@@ -56,7 +58,7 @@ def examine(trial, drawn, ready):
     return stuck
 
 
-def search(trial, text, queues):
+def search(trial, text, given, queues):
     """Looks at a chart, with three choices of ready instances."""
     drawn = Chart(text, queues)
     lines = range(len(drawn.names))
@@ -66,13 +68,13 @@ def search(trial, text, queues):
         stuck = [examine(trial, drawn, ready) for ready in (some, more, set(lines))]
         want(stuck[0] <= stuck[1] <= stuck[2], "more ready end sticking")
         want(drawn.races() or not stuck[2], "a chart that passes sticks")
-        want(queues != "single" or not stuck[2], "single sticks")
+        want(queues != architecture("single") or not stuck[2], "single sticks")
     except Wrong as wrong:
-        trial.add(False, f"{text}\n{queues}, ready {some} and {more}: {wrong}")
+        trial.add(False, f"{text}\n{given}, ready {some} and {more}: {wrong}")
 
 
 def compare(trial):
     for _ in range(trial.options.number):
         text = small_chart(trial.pick, trial.options.lines, trial.options.messages)
-        for queues in QUEUES:
-            search(trial, text, queues)
+        for given, queues in some_queues(trial.pick, text):
+            search(trial, text, given, queues)

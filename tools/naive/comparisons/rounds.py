@@ -4,15 +4,16 @@ The closest races are compared with those that the program prints of the text of
 """
 from generators.charts import chart, marked, small_chart
 from generators.check_options import some_options, words_of
+from generators.links import some_queues
 from harness import Answer, joined
-from models.chart import QUEUES, Chart
+from models.chart import Chart
 from models.marks import fault_of, marks_for
 from models.races import study
 from models.ready import ALL
 from models.rounds import PLAIN, check_answer, ready_answer, repeated
 
 NEEDS_PROGRAM = True
-OPTIONS = {"number": 150, "messages": 6}
+OPTIONS = {"number": 150, "messages": 6, "uniform": False}
 
 
 def closest_words(text, queues):
@@ -21,11 +22,11 @@ def closest_words(text, queues):
     return study(Chart(text, queues), [], options, {})
 
 
-def tasks(pick, text):
+def tasks(pick, text, is_uniform):
     """The words of runs over a chart, the text that is given, its lines and its status."""
     faulty = fault_of(text)
-    for queues in QUEUES:
-        options, asked = some_options(pick), ["--queues", queues, "--again"]
+    for given, queues in some_queues(pick, text, is_uniform):
+        options, asked = some_options(pick), [*given.words(), "--again"]
         options["accept"] = options["accept"] and not faulty
         options["most"] = pick.choice([options["most"], ALL, ALL])
         lines, status = check_answer(text, queues, options, marks_for(text, queues))
@@ -39,7 +40,7 @@ def tasks(pick, text):
         yield ["ready", *asked, *more], text, lines, status
         if pick.random() < 0.3:
             two = repeated(text, 2)
-            words = ["check", "--queues", queues, "--closest", "--why", "--show", "0"]
+            words = ["check", *given.words(), "--closest", "--why", "--show", "0"]
             yield words, two, *closest_words(two, queues)
 
 
@@ -52,7 +53,7 @@ def compare(trial):
             text = chart(pick, messages, True)
         text = text.replace(";", ";" + pick.choice(["", "\n", "\r\n", "\n\t "]))
         text = marked(pick, text) if pick.random() < 0.4 else text
-        for words, asked_of, lines, status in tasks(pick, text):
+        for words, asked_of, lines, status in tasks(pick, text, trial.options.uniform):
             trial.noted["pairs"] += sum(line.startswith("again ") and ":" in line for line in lines)
             told = joined(lines)
             wanted = Answer(b"", told, status) if status == 2 else Answer(told, b"", status)

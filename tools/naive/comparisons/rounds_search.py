@@ -4,14 +4,15 @@ Order within a round is that of the chart, and none leads back to an earlier rou
 are within a round, or between a round and the next, where they are those of two rounds, from the
 last segment of a line to its first. The sticks between a round and the next are those of two
 rounds; more rounds than two stick where two do, and never finish where one round never does. If all
-rounds have few events, all states of runs are searched too, as in ready_search.py.
+rounds have few events, all states of runs are searched too, as in ready_search.py. Two of three
+charts have rules for links, which keep their kinds in every round.
 """
 import itertools
 
 from comparisons.ready_search import examine
 from generators.charts import small_chart
+from generators.links import some_queues
 from harness import Wrong, want
-from models.chart import QUEUES
 from models.ready import Ready
 from models.rounds import Several
 
@@ -73,7 +74,7 @@ def want_sticks(trial, charts, lines):
         want(system.may_finish() == one.may_finish(), f"finishing of {drawn.rounds} rounds")
 
 
-def search(trial, text, queues):
+def search(trial, text, given, queues):
     """Looks at a chart under an architecture."""
     charts = [Several(text, queues, rounds) for rounds in range(1, MOST + 1)]
     lines = range(len(charts[0].names))
@@ -87,7 +88,7 @@ def search(trial, text, queues):
                 if len(drawn.events) <= trial.options.events:
                     examine(trial, drawn, ready_lines)
     except Wrong as wrong:
-        trial.add(False, f"{text}\n{queues}, ready {some}: {wrong}")
+        trial.add(False, f"{text}\n{given}, ready {some}: {wrong}")
     else:
         trial.add(True)
 
@@ -95,5 +96,5 @@ def search(trial, text, queues):
 def compare(trial):
     for _ in range(trial.options.number):
         text = small_chart(trial.pick, trial.options.lines, trial.options.messages)
-        for queues in QUEUES:
-            search(trial, text, queues)
+        for given, queues in some_queues(trial.pick, text):
+            search(trial, text, given, queues)

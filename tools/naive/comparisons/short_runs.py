@@ -4,12 +4,13 @@ Before these come two charts whose short runs were worked out by hand, in one of
 more than the past of its last event.
 """
 from generators.charts import chart
+from generators.links import some_queues
 from harness import Answer, joined
-from models.chart import QUEUES, Chart
+from models.chart import Chart
 from models.short_runs import short_witness, verdict
 
 NEEDS_PROGRAM = True
-OPTIONS = {"number": 60, "messages": 12}
+OPTIONS = {"number": 60, "messages": 12, "uniform": False}
 
 # The past of the second input of k is no run under mailbox: for q to take m2 first, and z m3, the
 # four outputs of a and b would go round in a ring.
@@ -52,11 +53,11 @@ def texts(trial):
 
 def compare(trial):
     for text in texts(trial):
-        for queues in QUEUES:
+        for given, queues in some_queues(trial.pick, text, trial.options.uniform):
             drawn = Chart(text, queues)
             races = drawn.races()
             trial.noted["runs"] += len(races)
             trial.noted["runs of more"] += sum(not short_witness(drawn, *race)[1] for race in races)
             wanted = Answer(joined(verdict(drawn)), b"", int(bool(races)))
-            words = ["check", "--queues", queues, "--short", "-"]
+            words = ["check", *given.words(), "--short", "-"]
             trial.compare(words, text.encode("latin-1"), wanted)

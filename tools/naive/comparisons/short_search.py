@@ -1,11 +1,12 @@
 """Short runs of small random charts, by a search over all states of runs.
 
-Of each chart under each architecture the pairs (e, f) are taken in which e is not f and not
-enforced before it. The short run has to be a run whose last event is f, and that does not have e;
-and where it has just the past of f, no run that has f may be shorter.
+Of each chart with each kind of queues, in part with rules for links, the pairs (e, f) are taken in
+which e is not f and not enforced before it. The short run has to be a run whose last event is f,
+and that does not have e; and where it has just the past of f, no run that has f may be shorter.
 """
 from comparisons.short_runs import texts
-from models.chart import QUEUES, Chart, is_enforced
+from generators.links import some_queues
+from models.chart import Chart, is_enforced
 from models.short_runs import State, is_run, short_witness
 
 NEEDS_PROGRAM = False
@@ -38,11 +39,11 @@ def fault(drawn, e, f, shortest):
 
 def compare(trial):
     for text in texts(trial):
-        for queues in QUEUES:
+        for given, queues in some_queues(trial.pick, text):
             drawn = Chart(text, queues)
             shortest = lengths(drawn)
             for e, f in ((e, f) for e in drawn.all for f in drawn.all):
                 if e != f and not is_enforced(drawn, e, f):
                     wrong = fault(drawn, e, f, shortest)
-                    trial.add(not wrong, f"{text!r}\n{queues}: {wrong}")
+                    trial.add(not wrong, f"{text!r}\n{given}: {wrong}")
                     trial.noted["runs of more"] += not short_witness(drawn, e, f)[1]

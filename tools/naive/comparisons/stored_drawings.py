@@ -10,6 +10,7 @@ from harness import Answer, joined
 from models import notes
 from models.answers import fault_of, follow_answer
 from models.chart import Chart
+from models.links import LinkFault, of_chart, parted
 from models.marks import fault_of as fault_of_marks
 from models.marks import marks_for
 from models.races import study
@@ -35,40 +36,45 @@ def read(words):
 
 
 def options_of(words):
-    """The words before the file, and the architecture."""
-    options = words[: -2 if words[-1].startswith("<") else -1]
-    at = options.index("--queues")
-    return [*options[:at], *options[at + 2:]], options[at + 1]
+    """What the words before the file say of queues, and the others of them."""
+    return parted(words[: -2 if words[-1].startswith("<") else -1])
 
 
 def follow_wanted(words):
     """What `follow` has to print, or None if no model says it."""
     file, text = read(words)
-    options, queues = options_of(words) if text is not None else (None, None)
+    given, options = options_of(words) if text is not None else (None, None)
     if options not in ON_DRAWINGS:
         return None
     placed = file if "--places" in options else None
     if fault_of(text) and placed:
         told = notes.in_file(notes.answer(text, is_check=False), file)
         return Answer(b"", joined(told), 2)
-    return follow_answer(text, queues, "--words" in options, placed)
+    return follow_answer(text, given, "--words" in options, placed)
 
 
 def lines_wanted(words):
     """What `check --format lines` has to print of a chart, or None if no model says it."""
     file, text = read(words)
-    options, queues = options_of(words)
+    given, options = options_of(words)
     if text is None or {it for it in options if it[0] == "-"} - ON_LINES or fault_of(text):
         return None
+    try:
+        queues = of_chart(text, given)
+    except LinkFault as fault:
+        found = [fault.line()]
+        lines = notes.in_file(notes.for_editors(found), file)
+        return Answer(joined(lines), joined(found), 2)
     again, told = "--again" in options, text.decode("latin-1")
     if "--accept" in options and fault_of_marks(told):
         return None
     options = [it for it in options if it not in ("--again", "--plain")]
-    given, marks = vars(arguments(__doc__, ["check", *options, queues])), marks_for(told, queues)
+    options = vars(arguments(__doc__, ["check", *options, given.queues]))
+    marks = marks_for(told, queues)
     if again:
-        lines, status = check_answer(told, queues, given, marks)
+        lines, status = check_answer(told, queues, options, marks)
     else:
-        lines, status = study(Chart(told, queues), places_of(text), given, marks)
+        lines, status = study(Chart(told, queues), places_of(text), options, marks)
     return Answer(joined(notes.in_file(lines, file)), b"", status)
 
 

@@ -7,6 +7,7 @@ import pathlib
 
 from models.chart import Chart
 from models.executions import PATIENCE, Wrong, is_execution
+from models.links import Architecture
 
 NEEDS_PROGRAM = False
 OPTIONS = {}
@@ -86,13 +87,22 @@ trace 1
 0 a out m1 to b
 """)
 
-RIGHT = [RELAY, OVERTAKEN, GIVEN_UP, REVERSED, ACTIONS, NOBODY_TAKES]
+# the same mailbox, of an instance that has connections too
+MIXED = ("two_senders", Architecture("pair", {(0, 1): "mailbox", (2, 1): "mailbox"}), PATIENCE, 0,
+         REVERSED[4].replace("mailbox", "pair\nlink a>b mailbox\nlink c>b mailbox"))
+
+RIGHT = [RELAY, OVERTAKEN, GIVEN_UP, REVERSED, ACTIONS, NOBODY_TAKES, MIXED]
 
 # what is wrong, the right execution, its edits, and what is said of it; behind that may stand other
 # queues, another patience and another status
 WRONG = [
     ("another chart's name", RELAY, [("chart t", "chart u")], "chart's name"),
     ("another architecture's word", RELAY, [("queues mailbox", "queues pair")], "architecture"),
+    ("a link is left out", MIXED, [("link c>b mailbox\n", "")], "architecture"),
+    ("a link has another kind", MIXED, [("c>b mailbox", "c>b single")], "architecture"),
+    ("links in another order", MIXED, [("a>b", "d>b"), ("c>b", "a>b")], "architecture"),
+    ("the mailbox is two connections", MIXED, [("link a>b mailbox\nlink c>b mailbox\n", "")],
+     "a lesser run", "pair"),
     ("an instance is left out", RELAY, [("instance b finished\n", "")], "no line of instance b"),
     ("two instances exchanged", GIVEN_UP,
      [("b starved", "c starved"), ("c impatient", "b impatient")], "no line of instance b"),

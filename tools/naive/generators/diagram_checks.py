@@ -3,6 +3,7 @@ and wrong words.
 """
 from generators import diagrams
 from generators.diagrams import NAMES, in_markdown, items
+from generators.links import some_words
 from models.chart import QUEUES
 from models.races import KINDS
 
@@ -90,16 +91,18 @@ def at_the_limits():
     yield head + "A<<->>B: a\n" * 513, pair
 
 
-def one(pick):
+def one(pick, is_uniform=False):
     """A random text, and random options."""
     text, words = text_of(pick), words_of(pick)
+    words = words if is_uniform else some_words(pick, text, words)
     if pick.random() < 0.25:
         text, more = in_markdown(pick, text)
         words += more
     return text, words
 
 
-def tried(pick, texts):
+def tried(pick, texts, is_uniform):
     """The texts with the words on them, and the file that a text stands in, or `-`."""
     yield from ((text.encode(), words, "-") for text, words in at_the_limits())
-    yield from ((*one(pick), pick.choice(["-", "-", *FILES])) for _ in range(texts))
+    for _ in range(texts):
+        yield *one(pick, is_uniform), pick.choice(["-", "-", *FILES])

@@ -2,12 +2,13 @@
 
 The commands are `msc read -`, `msc check --queues QUEUES --show SHOW -`, `msc follow`, `msc draw`
 and `msc ready`, each with `--queues QUEUES -`, `check` and `ready` with `--again`, `msc import` and
-`msc check --from`.
+`msc check --from`. QUEUES is an architecture, or what a command line says of queues.
 """
 from harness import Answer, joined
 from models import rounds
 from models.chart import Chart
 from models.following import answer as follow_lines
+from models.links import Given, LinkFault, of_chart
 from models.mermaid import answered
 from models.mermaid import options_of as import_options
 from models.picture import chart_picture
@@ -43,44 +44,51 @@ def lines_answer(lines, status):
     return Answer(joined(lines), b"", status)
 
 
-def check_answer(text, queues, show=ALL):
+def on_chart(text, queues, answered):
+    """What is answered of the characters of a chart's text and its architecture, or the fault of
+    the text or of the links."""
     fault = fault_of(text)
     if fault:
         return refusal(fault)
-    chart = Chart(text.decode("latin-1"), queues)
-    return lines_answer(chart.verdict(show), int(bool(chart.races())))
+    try:
+        queues = of_chart(text, queues) if isinstance(queues, Given) else queues
+    except LinkFault as link:
+        return refusal(link.line())
+    return answered(text.decode("latin-1"), queues)
+
+
+def check_answer(text, queues, show=ALL):
+    def answered(told, queues):
+        chart = Chart(told, queues)
+        return lines_answer(chart.verdict(show), int(bool(chart.races())))
+
+    return on_chart(text, queues, answered)
 
 
 def follow_answer(text, queues, words=False, file=None):
     """Of `msc follow`, with `--places` if a file is named; without the notes of a fault."""
-    fault = fault_of(text)
-    if fault:
-        return refusal(fault)
-    return lines_answer(*follow_lines(text.decode("latin-1"), queues, words, file))
+    return on_chart(text, queues, lambda told, queues: lines_answer(
+        *follow_lines(told, queues, words, file)))
 
 
 def draw_answer(text, queues):
-    fault = fault_of(text)
-    if fault:
-        return refusal(fault)
-    return lines_answer(chart_picture(Chart(text.decode("latin-1"), queues), True), 0)
+    return on_chart(text, queues, lambda told, queues: lines_answer(
+        chart_picture(Chart(told, queues), True), 0))
 
 
 def ready_answer(text, queues):
-    fault = fault_of(text)
-    if fault:
-        return refusal(fault)
-    return lines_answer(*ready_lines(text.decode("latin-1"), queues))
+    return on_chart(text, queues, lambda told, queues: lines_answer(*ready_lines(told, queues)))
 
 
 def again_answer(text, command, queues):
     """Of `msc check --again` or `msc ready --again`."""
-    fault, told = fault_of(text), text.decode("latin-1")
-    fault = fault or rounds.fault_of_rounds(told, queues)
-    if fault:
-        return refusal(fault)
-    answered = rounds.check_answer if command == "check" else rounds.ready_answer
-    return lines_answer(*answered(told, queues))
+    lines_of = rounds.check_answer if command == "check" else rounds.ready_answer
+
+    def answered(told, queues):
+        fault = rounds.fault_of_rounds(told, queues)
+        return refusal(fault) if fault else lines_answer(*lines_of(told, queues))
+
+    return on_chart(text, queues, answered)
 
 
 def import_answer(text, words, listed=False):

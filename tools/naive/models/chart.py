@@ -1,22 +1,22 @@
 """Charts, straight from the definitions of docs/MODEL.md: events, the enforced order, races, and
 the run that is chosen for a race.
 
-    tools/naive/print.py chart [--show N] pair|mailbox|single < CHART
+    tools/naive/print.py chart [--show N] [RULE].. pair|mailbox|single < CHART
 
 prints what `msc check` prints. Each definition is a function of its own, written for a reader and
 not for speed; sets of events are numbers, with a bit for each event. It shares nothing with the
 crates, so that expected outputs can be taken from it. The text has to be a chart: it names no
-fault. It is read as bytes, each of which is a character here. The exit status is 0 for `pass`, 1
-for races.
+fault but those of links. It is read as bytes, each of which is a character here. The exit status is
+0 for `pass`, 1 for races.
 """
 import functools
 import re
 import sys
 
 from harness import Answer, joined, parser, put
+from models.links import KINDS as QUEUES
+from models.links import add_queues, architecture, given_of, of_chart
 
-# the architectures
-QUEUES = ("pair", "mailbox", "single")
 TOKEN = re.compile(r"\s+|/\*.*?\*/|(?:'[^']*')+|\w+|.", re.DOTALL | re.ASCII)
 SIGNAL = re.compile(r"(in|out) (\w+)(?: , (\w+))?(?: \( [^)]*\))? (?:from|to) (\w+)", re.IGNORECASE)
 
@@ -68,8 +68,9 @@ class Event:
 
 class Chart:
     def __init__(self, text, queues):
+        """The chart of a text under an architecture, or with one kind for each link."""
         lines = list(statements(text))
-        self.name, self.queues = lines[0][1], queues
+        self.name, self.queues = lines[0][1], architecture(queues)
         self.names = [statement[1] for statement in lines if statement[0].lower() == "instance"]
         self.events = []
         line, segment, shared = -1, 0, False
@@ -112,15 +113,19 @@ class Chart:
         return first.line == second.line and first.segment < second.segment
 
     def queue(self, e):
-        """The queue of the message of e, which is no local event: one for each sender and receiver,
-        for each receiver, or for each message."""
+        """The queue of the message of e, which is no local event: that of its link, the mailbox of
+        its receiver, or one of its own, by the kind of its link."""
         event = self.events[e]
         queues = {
             "pair": (event.sender, event.receiver),
             "mailbox": event.receiver,
             "single": event.key,
         }
-        return queues[self.queues]
+        return queues[self.queues.kind(event.sender, event.receiver)]
+
+    def head(self):
+        """The lines that an answer begins with."""
+        return [f"chart {self.name}", *self.queues.lines(self.names)]
 
     @functools.cached_property
     def enforced(self):
@@ -199,8 +204,7 @@ class Chart:
 
     def verdict(self, show=2 ** 32 - 1):
         """What `msc check` prints, line by line."""
-        yield f"chart {self.name}"
-        yield f"queues {self.queues}"
+        yield from self.head()
         races = self.races()
         yield f"races {len(races)}" if races else "pass"
         runs = {}
@@ -220,7 +224,8 @@ def is_enforced(drawn, e, f):
 def main(given):
     words = parser(__doc__)
     words.add_argument("--show", type=int, default=2 ** 32 - 1, metavar="N")
-    words.add_argument("queues", choices=QUEUES)
+    add_queues(words, "queues")
     options = words.parse_args(given)
-    chart = Chart(sys.stdin.buffer.read().decode("latin-1"), options.queues)
+    text = sys.stdin.buffer.read()
+    chart = Chart(text.decode("latin-1"), of_chart(text, given_of(options)))
     return put(Answer(joined(chart.verdict(options.show)), b"", int(bool(chart.races()))))

@@ -109,6 +109,13 @@ class Names:
         if shown is not None and self.shown[at] is None:
             self.shown[at] = shown
 
+    def find(self, name):
+        """The number of the line with a name: its own, else the shown one, else that of its
+        instance; or None."""
+        shown = [it and it.held for it in self.shown]
+        return next((names.index(name) for names in (self.idents, shown, self.names)
+                     if name in names), None)
+
     def decl(self, at):
         kind = made_of_text(self.shown[at].held, b"") if self.shown[at] else b""
         return self.names[at] + (b" : " + kind if kind not in (b"", self.names[at]) else b"")

@@ -1,7 +1,8 @@
 """What `msc run` may print for a chart, straight from the definitions of docs/MODEL.md ("Runs",
 "Instances", "Executions", "Logs and runs").
 
-    tools/naive/print.py executions [--patience N] [--status S] pair|mailbox|single CHART < PRINTED
+    tools/naive/print.py executions [--patience N] [--status S] [RULE]..
+                                    pair|mailbox|single CHART < PRINTED
 
 prints what is wrong with PRINTED, if anything is; the exit status is 1 then. What `msc run` prints
 depends on the schedule of the threads, so no text can be compared with it. But the trace has all
@@ -14,7 +15,8 @@ import pathlib
 import sys
 
 from harness import parser
-from models.chart import QUEUES, Chart
+from models.chart import Chart
+from models.links import add_queues, given_of, of_chart
 
 # that of `msc run` without --patience
 PATIENCE = 1_000_000_000
@@ -45,8 +47,9 @@ def read(drawn, text):
     expect(text.endswith("\n"), "the last line has no end")
     lines = iter(text.split("\n")[:-1])
     take = lambda: next(lines, "")
-    expect(take() == f"chart {drawn.name}", "the chart's name is another")
-    expect(take() == f"queues {drawn.queues}", "the architecture is another")
+    name, *queues = drawn.head()
+    expect(take() == name, "the chart's name is another")
+    expect(all(take() == line for line in queues), "the architecture is another")
     ends = []
     for name in drawn.names:
         instance, end = take().rpartition(" ")[::2]
@@ -210,10 +213,11 @@ def main(given):
     words = parser(__doc__)
     words.add_argument("--patience", type=int, default=PATIENCE, metavar="N")
     words.add_argument("--status", type=int, default=0, metavar="S")
-    words.add_argument("queues", choices=QUEUES)
+    add_queues(words, "queues")
     words.add_argument("chart", metavar="CHART", type=pathlib.Path)
     options = words.parse_args(given)
-    drawn = Chart(options.chart.read_bytes().decode("latin-1"), options.queues)
+    text = options.chart.read_bytes()
+    drawn = Chart(text.decode("latin-1"), of_chart(text, given_of(options)))
     printed = sys.stdin.buffer.read().decode("latin-1")
     try:
         is_execution(drawn, options.patience, printed, options.status)

@@ -153,8 +153,8 @@ def check_free(reader, e, f):
 def check(drawn, e, f, lines):
     """Raises Wrong where the lines are no right text of the pair."""
     reader = Reader(drawn, lines)
-    reader.take(f"chart {drawn.name}")
-    reader.take(f"queues {drawn.queues}")
+    for line in drawn.head():
+        reader.take(line)
     if is_enforced(drawn, e, f):
         reader.take(reader.named("enforced", e, f))
         reader.shown(e, f)

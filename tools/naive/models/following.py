@@ -1,17 +1,20 @@
 """Whether the drawing of a chart can happen, and what `msc follow` prints, straight from the
 definitions of docs/MODEL.md.
 
-    tools/naive/print.py following [--words] [--places FILE] pair|mailbox|single < CHART
+    tools/naive/print.py following [--words] [--places FILE] [RULE]..
+                                   pair|mailbox|single < CHART
 
 prints what `msc follow` prints. Each definition is a function of its own, written for a reader and
-not for speed. The text has to be a chart: it names no fault. It is read as bytes, each of which is
-a character here. The exit status is 0 if some whole run keeps the drawn order, and 1 if none does.
+not for speed. The text has to be a chart: it names no fault but those of links. It is read as
+bytes, each of which is a character here. The exit status is 0 if some whole run keeps the drawn
+order, and 1 if none does.
 """
 import functools
 import sys
 
 from harness import Answer, joined, parser, put
-from models.chart import QUEUES, Chart
+from models.chart import Chart
+from models.links import add_queues, given_of, of_chart
 from models.shown import pair_line, places_of, run_lines
 from models.short_runs import State
 
@@ -104,10 +107,9 @@ def answer(text, queues, words=False, file=None):
     """The lines of `msc follow`, with places if a file is named, and the exit status."""
     drawn, places = Chart(text, queues), places_of(text.encode("latin-1"))
     steps = Steps(drawn)
-    head = [f"chart {drawn.name}", f"queues {queues}"]
     if steps.ring is None:
-        return [*head, "follows", *run_lines(drawn, steps.following_run(), words)], 0
-    told = [*head, "never"]
+        return [*drawn.head(), "follows", *run_lines(drawn, steps.following_run(), words)], 0
+    told = [*drawn.head(), "never"]
     for x, y in ring_steps(steps.ring):
         told.append(pair_line(drawn, steps.word(x, y), x, y))
         if file is not None:
@@ -129,8 +131,9 @@ def main(given):
     words = parser(__doc__)
     words.add_argument("--words", action="store_true")
     words.add_argument("--places", metavar="FILE")
-    words.add_argument("queues", choices=QUEUES)
+    add_queues(words, "queues")
     it = words.parse_args(given)
-    text = sys.stdin.buffer.read().decode("latin-1")
-    lines, status = answer(text, it.queues, it.words, it.places)
+    text = sys.stdin.buffer.read()
+    queues = of_chart(text, given_of(it))
+    lines, status = answer(text.decode("latin-1"), queues, it.words, it.places)
     return put(Answer(joined(lines), b"", status))

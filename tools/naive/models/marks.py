@@ -2,6 +2,7 @@
 import re
 
 from models.chart import TOKEN, Chart
+from models.links import architecture
 
 ARCHITECTURE = "(?:pair|mailbox|single)"
 IDENT = r"\w+(?:, \w+)?"
@@ -63,12 +64,12 @@ def fault_of(text):
 
 
 def marks_for(text, queues):
-    """The marks of events that are for an architecture: for each the other events, or none where it
-    is for all."""
-    marks = {}
+    """The marks of events that are for an architecture, by its usual kind: for each the other
+    events, or none where it is for all."""
+    marks, usual = {}, architecture(queues).usual
     for e, comment in enumerate(comments(text)):
         said = comment and reading(comment[1])
-        if said and not isinstance(said, int) and (said[0] is None or queues in said[0]):
+        if said and not isinstance(said, int) and (said[0] is None or usual in said[0]):
             marks[e] = said[1]
     return marks
 
@@ -98,8 +99,7 @@ def answer(text, queues):
     races = drawn.races()
     taken, stale = verdict_on(drawn, races, marks_for(text, queues))
     left = [race for race in races if race not in taken]
-    lines = [f"chart {drawn.name}", f"queues {queues}"]
-    lines.append(f"races {len(races)}" if races else "pass")
+    lines = [*drawn.head(), f"races {len(races)}" if races else "pass"]
     lines.append(f"accepted {len(taken)}")
     for e, f in left:
         first, second = drawn.events[e], drawn.events[f]

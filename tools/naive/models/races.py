@@ -124,7 +124,7 @@ def study(drawn, places, options, marks):
         told.append(stale_lines(drawn, places, stale, options))
         return [line for lines in told for line in lines], status
     verdict = f"races {len(races)}" if races else "pass"
-    lines = [f"chart {drawn.name}", f"queues {drawn.queues}", verdict]
+    lines = [*drawn.head(), verdict]
     if options["allow"]:
         lines.append(f"allowed {len(races) - len(named)}")
     if options["accept"]:

@@ -1,21 +1,22 @@
 """Instances that are ready: sticks, and what `msc ready` prints, straight from the definitions.
 
     tools/naive/print.py ready [--only NAME].. [--show N] [--words] [--places FILE]
-                               pair|mailbox|single < CHART
+                               [RULE].. pair|mailbox|single < CHART
 
 prints what `msc ready` prints. An instance that is ready takes a message only when all that is
 drawn before has happened, and leaves the others in their queues. Each definition is a function of
 its own, written for a reader and not for speed. It shares nothing with the crates. The text has to
-be a chart: it names no fault but that of a name that no instance has. It is read as bytes, each of
-which is a character here. The exit status is 0 where the chart finishes without races, 1 where it
-does not, 2 for the fault.
+be a chart: it names no fault but those of links, and that of a name that no instance has. It is
+read as bytes, each of which is a character here. The exit status is 0 where the chart finishes
+without races, 1 where it does not, 2 for a fault.
 """
 import functools
 import itertools
 import sys
 
 from harness import Answer, joined, parser, put
-from models.chart import QUEUES, Chart
+from models.chart import Chart
+from models.links import add_queues, given_of, of_chart
 from models.shown import pair_line, places_of, run_lines
 
 ALL = 2 ** 32 - 1
@@ -193,7 +194,7 @@ def answer(text, queues, only=(), show=ALL, words=False, file=None):
     places = places_of(text.encode("latin-1"))
     lines = {i for i, name in enumerate(drawn.names) if name in only or not only}
     system = Ready(drawn, lines)
-    told = [f"chart {drawn.name}", f"queues {queues}"]
+    told = drawn.head()
 
     def at(*events):
         if file is not None:
@@ -239,9 +240,10 @@ def main(given):
     words.add_argument("--show", type=int, default=ALL, metavar="N")
     words.add_argument("--words", action="store_true")
     words.add_argument("--places", metavar="FILE")
-    words.add_argument("queues", choices=QUEUES)
+    add_queues(words, "queues")
     it = words.parse_args(given)
-    text = sys.stdin.buffer.read().decode("latin-1")
-    lines, status = answer(text, it.queues, it.only, it.show, it.words, it.places)
+    text = sys.stdin.buffer.read()
+    queues, held = of_chart(text, given_of(it)), text.decode("latin-1")
+    lines, status = answer(held, queues, it.only, it.show, it.words, it.places)
     told = joined(lines)
     return put(Answer(b"", told, status) if status == 2 else Answer(told, b"", status))

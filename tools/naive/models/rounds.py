@@ -3,21 +3,22 @@ definitions of docs/MODEL.md.
 
     tools/naive/print.py rounds check [--closest] [--why] [--most N] [--show N] [--allow KIND]
                                       [--accept] [--format F] [-q] [--words] [--short] [--places]
-                                      pair|mailbox|single < CHART
+                                      [RULE].. pair|mailbox|single < CHART
     tools/naive/print.py rounds ready [--only NAME].. [--show N] [--words] [--places]
-                                      pair|mailbox|single < CHART
+                                      [RULE].. pair|mailbox|single < CHART
 
 print what these print. Rounds of a chart are made as a text: each instance has its statements
 again in each round, and each message its round in its message instance name. The chart of that text
 is read by chart.py, and its races, kinds and runs, and its sticks, are those of races.py,
-short_runs.py and ready.py. The text has to be a chart: of faults only those of `--again` itself are
-named.
+short_runs.py and ready.py. The text has to be a chart: of faults only those of links and of
+`--again` itself are named.
 """
 import sys
 
 from harness import Answer, joined, parser, put
 from models import ready
-from models.chart import QUEUES, Chart, is_enforced, statements
+from models.chart import Chart, is_enforced, statements
+from models.links import add_queues, given_of, of_chart
 from models.marks import fault_of, marks_for
 from models.races import KINDS, chosen, closest_of, kind, share_queue, shown_run, study
 from models.ready import ALL, Ready, pair_words, signal
@@ -210,18 +211,18 @@ def fault_of_rounds(text, queues):
 
 def printed(given):
     """The lines of the command that is given, and its status."""
-    text = sys.stdin.buffer.read().decode("latin-1")
+    held = sys.stdin.buffer.read()
+    text, queues = held.decode("latin-1"), of_chart(held, given_of(given))
     fault = given.accept and fault_of(text) if given.command == "check" else None
     if given.command == "ready":
-        lacking = [name for name in given.only if name not in Chart(text, given.queues).names]
+        lacking = [name for name in given.only if name not in Chart(text, queues).names]
         fault = f"ready fault 1: no instance {lacking[0]}" if lacking else None
-    fault = fault or fault_of_rounds(text, given.queues)
+    fault = fault or fault_of_rounds(text, queues)
     if fault:
         return [fault], 2
     if given.command == "check":
-        marks = marks_for(text, given.queues)
-        return check_answer(text, given.queues, vars(given), marks)
-    return ready_answer(text, given.queues, given.only, given.show, given.words, given.places)
+        return check_answer(text, queues, vars(given), marks_for(text, queues))
+    return ready_answer(text, queues, given.only, given.show, given.words, given.places)
 
 
 def arguments(about, given):
@@ -233,7 +234,7 @@ def arguments(about, given):
         command.add_argument("--show", type=int, default=ALL, metavar="N")
         command.add_argument("--words", action="store_true")
         command.add_argument("--places", action="store_true")
-        command.add_argument("queues", choices=QUEUES)
+        add_queues(command, "queues")
         if name == "ready":
             command.add_argument("--only", action="append", default=[], metavar="NAME")
             continue

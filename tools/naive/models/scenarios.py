@@ -1,10 +1,11 @@
 """All scenarios of a diagram, or of those of a text of Markdown, and their races.
 
-    tools/naive/print.py scenarios --queues pair|mailbox|single [--closest] [--why] [--most N]
-                                   [--show N] [--allow KIND] [--format text|count|lines] [--quiet]
-                                   [--words] [--short] [--places] [--from mermaid|any] [--name NAME]
-                                   [--rounds R,R..] [--limit N] [--self action|message]
-                                   [--cross lost|arrives] [--par drawn] [--fence N] FILE
+    tools/naive/print.py scenarios --queues pair|mailbox|single [RULE].. [--closest] [--why]
+                                   [--most N] [--show N] [--allow KIND] [--format text|count|lines]
+                                   [--quiet] [--words] [--short] [--places] [--from mermaid|any]
+                                   [--name NAME] [--rounds R,R..] [--limit N]
+                                   [--self action|message] [--cross lost|arrives] [--par drawn]
+                                   [--fence N] FILE
 
 prints what `msc check --from` prints: the scenarios, and their races, each by its two arrows once;
 or on standard error the line of the first fault, and with `--format lines` on standard output too.
@@ -16,9 +17,10 @@ import pathlib
 import sys
 
 from harness import Answer, put
-from models.chart import QUEUES, Chart
+from models.chart import Chart
 from models.courses import scenarios
 from models.diagrams import made
+from models.links import add_queues, given_of, of_diagram
 from models.mermaid import fault_bytes, texts_of, words_on_diagrams
 from models.races import KINDS, closest_of, editor_lines, kind, race_words, shown_run, why
 from models.shown import run_lines
@@ -57,7 +59,9 @@ class Verdict:
     def __init__(self, diagram, options):
         file = diagram.source.file
         courses = list(scenarios(diagram, options))
-        self.every = [Scenario(course, options.queues, file) for course in courses]
+        self.queues = of_diagram(diagram, given_of(options))
+        self.names = [name.decode() for name in diagram.names.names]
+        self.every = [Scenario(course, self.queues, file) for course in courses]
         self.allow, self.is_closest = options.allow, options.closest
         self.places = {it.ends(race) for it in self.every for race in it.races}
         self.listed = self.first_races(options.closest)
@@ -142,7 +146,7 @@ class Output:
     def whole(self, verdict, name):
         """The lines of text of a diagram."""
         yield f"diagram {name}"
-        yield f"queues {self.options.queues}"
+        yield from verdict.queues.lines(verdict.names)
         yield f"scenarios {len(verdict.every)}"
         yield from verdict.numbers()
         if not verdict.places:
@@ -210,7 +214,7 @@ def answer(text, options):
 def options_of(given):
     """The options of these words."""
     words = words_on_diagrams(__doc__)
-    words.add_argument("--queues", choices=QUEUES, required=True)
+    add_queues(words, "--queues", required=True)
     for option in ("--closest", "--why", "--quiet", "--words", "--short"):
         words.add_argument(option, action="store_true")
     words.add_argument("--most", type=int, default=ALL)

@@ -78,8 +78,7 @@ def short_witness(drawn, e, f):
 def verdict(drawn):
     """What the program prints, line by line."""
     races = drawn.races()
-    yield f"chart {drawn.name}"
-    yield f"queues {drawn.queues}"
+    yield from drawn.head()
     yield f"races {len(races)}" if races else "pass"
     for e, f in races:
         first, second = drawn.events[e], drawn.events[f]

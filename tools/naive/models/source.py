@@ -51,10 +51,17 @@ def found_note(shown):
 
 class Refused(Exception):
     """The first fault of a text: its number, its words, its place if it has one, and its notes."""
+    # what is refused
+    stage = "import"
 
     def __init__(self, number, words, at=None, notes=()):
         super().__init__(words)
         self.number, self.words, self.at, self.notes = number, words, at, list(notes)
+
+    def line(self, at=None):
+        """The line of the fault; `at` is what it says of its place."""
+        place = "" if at is None else f" at {at}"
+        return f"{self.stage} fault {self.number}{place}: {self.words}"
 
 
 def after_space(held, at, end=None):
@@ -146,8 +153,7 @@ class Source:
 
     def fault_line(self, fault):
         """The fixed line of a fault."""
-        line = "" if fault.at is None else f" at {self.place(fault.at).line}"
-        return f"import fault {fault.number}{line}: {fault.words}"
+        return fault.line(None if fault.at is None else self.place(fault.at).line)
 
     def fault_lines(self, fault):
         """The lines of a fault with its place and its notes."""

@@ -1,0 +1,130 @@
+"""Architectures: the kind of each link, what rules say of it, and how it is printed.
+
+A link is an ordered pair of instances, a sender and a receiver. A rule names a LINK and a kind:
+`NAME` stands for all links to an instance, `NAME>NAME` for one of them. Instances are numbers here,
+and the words of rules are bytes.
+"""
+from typing import NamedTuple
+
+from models.reading import Draft
+from models.source import Refused, file_shown
+
+KINDS = ("pair", "mailbox", "single")
+# what may be around LINK and around its names
+BLANKS = b" \t\r\n"
+
+
+class LinkFault(Refused):
+    """The first fault of some rules."""
+    stage = "link"
+
+
+class Architecture(NamedTuple):
+    """The usual kind, and those that rules give: of a link by both of its ends, and of all links to
+    a receiver by None and the receiver."""
+    usual: str
+    kinds: dict = {}
+
+    def kind(self, sender, receiver):
+        """The kind of a link: a rule for the link itself comes before one for its receiver."""
+        of_receiver = self.kinds.get((None, receiver), self.usual)
+        return self.kinds.get((sender, receiver), of_receiver)
+
+    def others(self, names):
+        """The links whose kind is not the usual one, each with its kind; all links to an instance
+        by its name if they have one kind."""
+        found = []
+        for receiver, name in enumerate(names):
+            kinds = [self.kind(sender, receiver) for sender in range(len(names))]
+            if len(set(kinds)) == 1:
+                found.append((name, kinds[0]))
+            else:
+                found += ((f"{other}>{name}", kind) for other, kind in zip(names, kinds))
+        return [(link, kind) for link, kind in found if kind != self.usual]
+
+    def lines(self, names):
+        """The lines on queues in the head of an answer."""
+        return [f"queues {self.usual}", *(f"link {it} {kind}" for it, kind in self.others(names))]
+
+
+def architecture(queues):
+    """An architecture, or the one with this kind for each link."""
+    return queues if isinstance(queues, Architecture) else Architecture(queues)
+
+
+def shown(held):
+    """What is printed of bytes of a command line."""
+    return file_shown(held.decode())
+
+
+def kinds_of(rules, find):
+    """The kinds that these rules give. `find` gives the number of an instance by its name, or
+    None."""
+    kinds = {}
+    for kind, link in rules:
+        link = link.strip(BLANKS)
+        names = [name.strip(BLANKS) for name in link.split(b">")]
+        if len(names) > 2 or not all(names):
+            raise LinkFault(1, f"{shown(link)} is no link")
+        ends = [find(name) for name in names]
+        if None in ends:
+            raise LinkFault(2, f"no instance {shown(names[ends.index(None)])}")
+        if kinds.setdefault((None, *ends)[-2:], kind) != kind:
+            raise LinkFault(3, f"{shown(link)} has two kinds")
+    return kinds
+
+
+class Given(NamedTuple):
+    """What a command line says of queues: the value of `--queues`, and rules, each a kind and a
+    LINK."""
+    queues: str
+    rules: list = []
+
+    def words(self):
+        """The words of the command line."""
+        words = ["--queues", self.queues]
+        for kind, link in self.rules:
+            words += [f"--{kind}={link}"] if link.startswith("-") else [f"--{kind}", link]
+        return words
+
+    def resolved(self, find):
+        """The architecture; rules for `pair` come first, whatever their order."""
+        ordered = sorted(self.rules, key=lambda rule: KINDS.index(rule[0]))
+        rules = [(kind, link.encode()) for kind, link in ordered]
+        return Architecture(self.queues, kinds_of(rules, find))
+
+
+def of_chart(text, given):
+    """The architecture that a command line gives to a chart."""
+    names = Draft(text).instances()
+    return given.resolved(lambda name: names.index(name) if name in names else None)
+
+
+def of_diagram(diagram, given):
+    """The architecture that a command line gives to a diagram."""
+    return given.resolved(diagram.names.find)
+
+
+def parted(words):
+    """What words say of queues, and the other ones; a second `--queues` is one of these."""
+    queues, rules, others, words = None, [], [], iter(words)
+    for word in words:
+        if word == "--queues" and queues is None:
+            queues = next(words)
+        elif word in [f"--{kind}" for kind in KINDS]:
+            rules.append((word[2:], next(words)))
+        else:
+            others.append(word)
+    return Given(queues, rules), others
+
+
+def add_queues(words, name, **more):
+    """Puts the options on queues, of which `name` is the one of the usual kind."""
+    words.add_argument(name, choices=KINDS, **more)
+    for kind in KINDS:
+        words.add_argument(f"--{kind}", action="append", default=[], metavar="LINK")
+
+
+def given_of(options):
+    """What these options say of queues."""
+    return Given(options.queues, [(kind, it) for kind in KINDS for it in vars(options)[kind]])
