@@ -2,6 +2,7 @@
 use Rattle.std.proofs.lemmas.Bool.{false≢true}
 use Rattle.std.proofs.Common.{◌≡◌, ◌≢◌, ◌<◌, ℕ, Bool, true, false, List, [], is_some, length, Bor, Option, Some, None, option_map, Result, Ok, Err, inl, inr, refl, sym, subst, ◌∙◌}
 use Rattle.std.specs.Io.KnownBytes.{Appends, Keeps}
+use Rattle.msc_chart.specs.declared.queue.LinkKind.{LinkKind}
 use Rattle.msc_chart.specs.declared.queue.Queues.{Queues}
 use Rattle.msc_chart.specs.declared.fault.UnrollFault.{UnrollFault}
 use Rattle.msc_chart.specs.declared.fault.UnrollFault.TheVariants as two_rounds
@@ -310,6 +311,13 @@ module _ {W : Type 0} (contents : W → Option (List ℕ)) where
     not_linked (refusals.Link fault) now said = (said, refl)
     not_linked (refusals.Rounds f) now said = absurd said
     not_linked (refusals.Import e) now said = absurd said
+
+    -- the same of a kind and a chart that are these
+    pub not_linked_at : (usual : LinkKind) (d : Drawing) → usual ≡ usual_in ask → d ≡ s.chart → (r : Refusal) (now : W)
+        → IsLinked usual words d (Err r) → Answers contents (PrintsLinked ask words file s) (RefusesLinked ask words s) (Err r) now now
+    not_linked_at usual d kind_is chart_is r now said =
+        not_linked r now (subst (λ (e : Drawing). IsLinked (usual_in ask) words e (Err r)) chart_is
+        (subst (λ (k : LinkKind). IsLinked k words d (Err r)) kind_is said))
 
     module _ (queues : Queues) (linked : AreLinked (usual_in ask) words s.chart queues) where
       -- what is refused under these queues

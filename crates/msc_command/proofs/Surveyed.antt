@@ -148,16 +148,23 @@ module _ {W A : Type 0} (contents : W → Option (List ℕ)) (prints : A → Lis
   none_linked all is (refusals.Rounds f) said = absurd said
   none_linked all is (refusals.Import e) said = absurd said
 
+  -- the same of a text that is this one
+  pub none_linked_in : (all : Scenarios) → imported_all (wanted_of x) text ≡ Ok all → (other : List ℕ) → other ≡ text
+      → (r : Refusal) → IsLinkedArgs x other all.list (Err r) → AnswersWith contents prints begins (RefusesScenarios x text) (Err r) now now
+  none_linked_in all is other same r said = none_linked all is r (subst (λ (t : List ℕ). IsLinkedArgs x t all.list (Err r)) same said)
+
 module _ {W : Type 0} (contents : W → Option (List ℕ)) (c : CheckArgs) (file name : List ℕ) (drawn : Bool) (ss : List Scenario) where
   -- what is told by the status alone
   pub passes_so : (quiet passed : Bool) (now : W) → quiet ≡ true → PassesScenarios ss c.queues c.options.allowed passed
       → AnswersWith contents (PrintsCounted quiet c file name drawn ss) (BeginsAll quiet c file name drawn ss) (λ refusal. ⊥) (Ok (record { status = ended_by passed; listed = 0 })) now now
   passes_so quiet passed now is says = rw is ([], (passed, refl, refl, says, refl), nothing_more _)
 
-  -- what was not written to its end
-  pub not_told : (format : DiagramFormat) → IsFormatOf c file drawn format → (quiet : Bool) → quiet ≡ false → (f : WriteFault) (old new : W)
-      → TellsScenarios contents (JudgesScenarios (diagram_top name (first_chart ss) c.queues) ss c.queues c.options format) (BeginsOf (diagram_top name (first_chart ss) c.queues) ss c.queues c.options format) (Err f) old new
+  -- what was not written to its end, below these first lines
+  pub not_told : (format : DiagramFormat) → IsFormatOf c file drawn format → (top : List ℕ) → top ≡ diagram_top name (first_chart ss) c.queues
+      → (quiet : Bool) → quiet ≡ false → (f : WriteFault) (old new : W)
+      → TellsScenarios contents (JudgesScenarios top ss c.queues c.options format) (BeginsOf top ss c.queues c.options format) (Err f) old new
       → AnswersWith contents (PrintsCounted quiet c file name drawn ss) (BeginsAll quiet c file name drawn ss) (λ refusal. ⊥) (Err (refusals.Fault (of_writing f))) old new
-  not_told format its quiet is writing.Memory old new (inl same) = inl same
-  not_told format its quiet is writing.Memory old new (inr (printed, says, begun)) = inr (printed, rw is (format, its, says), begun)
-  not_told format its quiet is writing.Device old new said = tt
+  not_told format its top top_is quiet is writing.Memory old new (inl same) = inl same
+  not_told format its top top_is quiet is writing.Memory old new (inr (printed, says, begun)) =
+      inr (printed, rw is (format, its, subst (λ (t : List ℕ). BeginsOf t ss c.queues c.options format printed) top_is says), begun)
+  not_told format its top top_is quiet is writing.Device old new said = tt

@@ -261,6 +261,27 @@ fn import_lines(
     Ok(page)
 }
 
+/// The lines of a fault of some phase.
+fn fault_lines(
+    alloc: Global,
+    task: Task<'_>,
+    file: &str,
+    text: &[u8],
+    fault: Fault,
+) -> Result<Page, AllocError>
+    ensures { IfOk result (λ page. IsRefusalText file.now text.now
+        (Refusal.Fault fault) page.bytes.items) }
+{
+    let refusal = Refusal::Fault(fault);
+    match fault {
+        Fault::Parse(fault) => parse_lines(alloc, task, file, text, fault),
+        Fault::Chart(fault) => chart_lines(alloc, file, text, fault),
+        Fault::NotStarted(_) => bare_lines(alloc, file, text, None, refusal),
+        Fault::Memory => bare_lines(alloc, file, text, None, refusal),
+        Fault::Device => bare_lines(alloc, file, text, None, refusal),
+    }
+}
+
 /// The lines of a refusal of the text of a file of this name. An error is a growth of memory that
 /// was refused.
 pub(crate) fn refusal_lines(
@@ -273,10 +294,12 @@ pub(crate) fn refusal_lines(
     ensures { IfOk result (λ page. IsRefusalText file.now text.now refusal.entry page.bytes.items) }
 {
     match refusal {
-        Refusal::Fault(Fault::Parse(fault)) => parse_lines(alloc, task, file, text, fault),
-        Refusal::Fault(Fault::Chart(fault)) => chart_lines(alloc, file, text, fault),
+        Refusal::Fault(fault) => fault_lines(alloc, task, file, text, fault),
         Refusal::Import(refused) => import_lines(alloc, task, file, text, refused),
         Refusal::Mark(fault) => bare_lines(alloc, file, text, mark_place(fault), refusal),
-        _ => bare_lines(alloc, file, text, None, refusal),
+        Refusal::Pair(_) => bare_lines(alloc, file, text, None, refusal),
+        Refusal::Instance(_) => bare_lines(alloc, file, text, None, refusal),
+        Refusal::Link(_) => bare_lines(alloc, file, text, None, refusal),
+        Refusal::Rounds(_) => bare_lines(alloc, file, text, None, refusal),
     }
 }

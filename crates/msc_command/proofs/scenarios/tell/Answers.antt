@@ -1,3 +1,4 @@
+use Rattle.std.proofs.Common.{◌∙◌}
 use Rattle.std.proofs.lemmas.Result.{err_from_is_err_and}
 use Rattle.msc_command.proofs.Surveyed.{not_told, passes_so}
 use Rattle.msc_command.proofs.scenarios.tell.Goals as goal
@@ -10,6 +11,5 @@ returns-then-words g c =
 pub returns-in_err-listed : goal.returns-in_err-listed
 returns-in_err-listed g c =
     let p = err_from_is_err_and c.from_residual-in_err-listed.result c.from_residual-in_err-listed.ensures.1 in
-    let told = rw (c.as_slice-top.ensures.value, c.in_ok-top.ensures) at c.in_err-listed.ensures in
-    rw (p.1, p.2) (not_told g.O.Write.contents c.args.words.check_args c.args.file.now c.args.name.now c.args.drawn c.args.scenarios.now _ c.format_of-format.ensures c.args.words.quiet
-    c.if-words.false _ c.args.output.now _ told)
+    rw (p.1, p.2) (not_told g.O.Write.contents c.args.words.check_args c.args.file.now c.args.name.now c.args.drawn c.args.scenarios.now _ c.format_of-format.ensures
+    _ (c.as_slice-top.ensures.value ∙ c.in_ok-top.ensures) c.args.words.quiet c.if-words.false _ c.args.output.now _ c.in_err-listed.ensures)

@@ -1,6 +1,6 @@
 use Rattle.std.proofs.Common.{map, subst, rules}
 use Rattle.std.proofs.lemmas.Result.{err_from_is_err_and}
-use Rattle.msc_command.proofs.Surveyed.{all_charts, none_linked, told_of_text}
+use Rattle.msc_command.proofs.Surveyed.{all_charts, none_linked_in, told_of_text}
 use Rattle.msc_command.specs.Answering.{AnswersWith}
 use Rattle.msc_command.specs.Charting.{with_chart}
 use Rattle.msc_command.specs.Scenarios.{BeginsAll, PrintsCounted}
@@ -18,8 +18,8 @@ pub returns-in_err-linked : goal.returns-in_err-linked
 returns-in_err-linked g c =
     let p = err_from_is_err_and c.from_residual-in_err-linked.result c.from_residual-in_err-linked.ensures.1 in
     let x = c.args.words in let n = c.args.number in let file = c.args.file.now in let text = c.args.found.now.text in
-    rw (p.1, p.2) (none_linked g.O.Write.contents (PrintsBlock x file text n) (BeginsBlock x file text n)
-    (at_block x n) text c.args.output.now c.in_ok-all.all c.in_ok-all.ensures _ (rw c.text.ensures at c.in_err-linked.ensures))
+    rw (p.1, p.2) (none_linked_in g.O.Write.contents (PrintsBlock x file text n) (BeginsBlock x file text n)
+    (at_block x n) text c.args.output.now c.in_ok-all.all c.in_ok-all.ensures _ c.text.ensures _ c.in_err-linked.ensures)
 
 pub returns : goal.returns
 returns g c =
