@@ -435,9 +435,7 @@ pub(crate) fn file_of<'w>(words: &'w ArgMatches) -> &'w str
 fn named_queues(words: &ArgMatches) -> Option<Queues>
     ensures { result ≡ architecture (found_of words.now) }
 {
-    Some(Queues::Uniform(LinkKind::of(words.get_str(
-        ArgName::Queues.name(),
-    )?)?))
+    Some(Queues::Uniform(LinkKind::of(words.get_str(ArgName::Queues.name())?)?))
 }
 
 /// The architecture that the words name.
@@ -673,7 +671,10 @@ fn follow_of<'w>(queues: Queues, words: &'w ArgMatches) -> Task<'w>
 fn list_of(words: &ArgMatches) -> Task<'static>
     ensures { AsksFor CommandName.List (found_of words.now) result }
 {
-    Task::Chart(ChartCommand::List(is_given(words, ArgName::Places)), NO_LINKS)
+    Task::Chart(
+        ChartCommand::List(is_given(words, ArgName::Places)),
+        NO_LINKS,
+    )
 }
 
 /// The form of a picture.

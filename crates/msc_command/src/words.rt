@@ -109,7 +109,8 @@ const SHOW_HELP: &str =
 const SHOW_STICKS_HELP: &str =
     "Print a run for each of the first N sticks that are first; without it, for all";
 
-const PAIR_HELP: &str = "Give LINK, NAME or 'NAME>NAME', a queue of its own; may be repeated";
+const PAIR_HELP: &str =
+    "Give each link of LINK, NAME or 'NAME>NAME', a queue of its own; may be repeated";
 
 const MAILBOX_HELP: &str = "Let the messages of LINK go to the receiver's mailbox; may be repeated";
 

@@ -3,3 +3,5 @@ pub mod SameLinks
 pub mod Entering
 pub mod Orderings
 pub mod Ruling
+pub mod Reading
+pub mod Clauses

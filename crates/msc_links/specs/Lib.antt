@@ -3,6 +3,7 @@ pub mod Blanks
 pub mod Names
 pub mod Links
 pub mod Rules
+pub mod Comments
 pub mod Laws
 -- what the code keeps
 pub mod Tables

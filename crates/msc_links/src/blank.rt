@@ -5,7 +5,7 @@ ghost use Rattle.std.specs.List.{prefix_len, suffix_len};
 ghost use Rattle.msc_links.specs.Blanks.{after_blanks, before_blanks, is_blank, trimmed};
 
 /// Whether the byte is a space, a tab, or one of those that end a line.
-fn is_blank(byte: u8) -> bool
+pub(crate) fn is_blank(byte: u8) -> bool
     ensures { result ≡ is_blank byte }
 {
     byte == b' ' || byte == b'\t' || byte == b'\n' || byte == b'\r'

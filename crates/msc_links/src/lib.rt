@@ -4,14 +4,18 @@
 //! links to an instance (`NAME`) or one link (`NAME>NAME`). [`queues_of`] returns the architecture
 //! that two lists of rules give, those of a text and those of a command line, or the first fault.
 //!
-//! Lines are numbered from 0, in the order of their names. Nothing here takes memory.
+//! [`own_queues`] reads the rules that a text has in a comment of its own.
+//!
+//! Lines are numbered from 0, in the order of their names. Only the reading of a comment takes
+//! memory.
 //!
 //! # What to change here
 //!
 //! - a form of LINK: [`spelling`], and `specs/Names`;
 //! - which names a line has: [`line`], and `line_of` of `specs/Links`;
 //! - a fault, or the order of faults: [`fault`] and [`link`], `fault_of` of `specs/Rules`;
-//! - which rule wins: [`queues`], and `ruled_kind` of `specs/Rules`.
+//! - which rule wins: [`queues`], and `ruled_kind` of `specs/Rules`;
+//! - what a comment may say: [`comment`], and `specs/Comments`.
 //!
 //! # Choices
 //!
@@ -21,6 +25,7 @@
 #![tactic(auto)]
 
 mod blank;
+mod comment;
 mod fault;
 pub mod laws;
 mod line;
@@ -29,7 +34,10 @@ mod queues;
 mod rule;
 mod spelling;
 mod table;
+#[cfg(test)]
+mod tests;
 
+pub use comment::{OwnFault, OwnQueues, own_queues};
 pub use fault::{LinkFault, RulesFault};
 pub use line::LineNames;
 pub use queues::queues_of;

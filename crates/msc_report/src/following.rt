@@ -9,9 +9,9 @@ ghost use Rattle.msc_report.specs.Following.{follows_text, never_error, never_te
 ghost use Rattle.msc_report.specs.Following.{ring_steps, steps_text, AreStepsOf};
 
 use crate::lines::write_pair;
+use crate::links::write_queues;
 use crate::reasons::{step_word, write_run_in, write_step};
 use crate::style::Style;
-use crate::links::write_queues;
 use crate::verdict::write_name_line;
 use msc_chart::{Chart, Event, Queues};
 use msc_place::EventPositions;

@@ -9,10 +9,10 @@ ghost use Rattle.msc_report.specs.Reasons.{reason_text, showing_text, step_word,
 ghost use Rattle.msc_report.specs.Styles.{run_text};
 
 use crate::lines::{write_placed_pair, write_why};
+use crate::links::write_queues;
 use crate::race::{write_race, write_run};
 use crate::style::{Style, write_at};
 use crate::trace::write_steps;
-use crate::links::write_queues;
 use crate::verdict::write_name_line;
 use msc_chart::{Chart, Event, Queues};
 use msc_place::EventPositions;

@@ -17,11 +17,11 @@ ghost use Rattle.msc_report.specs.Styles.{run_text};
 
 use crate::event_texts::EventTexts;
 use crate::lines::{print_placed_pair, print_places};
+use crate::links::write_queues;
 use crate::names::EventNames;
 use crate::race::{write_events, write_instance, write_pair_place, write_signal};
 use crate::reasons::write_run_in;
 use crate::style::{Style, write_at};
-use crate::links::write_queues;
 use crate::verdict::write_name_line;
 use msc_chart::{Chart, Event, Queues};
 use msc_place::EventPositions;

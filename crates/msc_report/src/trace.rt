@@ -8,8 +8,8 @@ ghost use Rattle.msc_report.specs.Traces.{end_line, end_lines, end_text, event_l
 ghost use Rattle.msc_report.specs.Styles.{steps_text};
 ghost use Rattle.msc_report.specs.Traces.{trace_text};
 
-use crate::race::{write_event_at, write_instance};
 use crate::links::write_queues;
+use crate::race::{write_event_at, write_instance};
 use crate::verdict::write_name_line;
 use itoa::Buffer;
 use msc_chart::{Chart, Event, Queues};
