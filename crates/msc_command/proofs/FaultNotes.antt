@@ -5,7 +5,7 @@ use Rattle.msc_report.specs.declared.fault.Fault.TheVariants.{Parse, Chart, NotS
 use Rattle.msc_diagram.specs.declared.scenario.Scenario.{Scenario}
 use Rattle.std.specs.Io.KnownBytes.{Appends}
 use Rattle.msc_markdown.specs.Markdowns.{Found as Markdown}
-use Rattle.msc_command.specs.Scenarios.{PrintsAll}
+use Rattle.msc_command.specs.Scenarios.{checked_under, PrintsAll}
 use Rattle.msc_command.specs.Surveys.{many_in, Surveys}
 use Rattle.msc_command.specs.declared.tasks.CheckArgs.{CheckArgs}
 use Rattle.msc_command.specs.declared.ending.Refusal.{Refusal}
@@ -44,7 +44,7 @@ RefusesOne printed = (x : ScenarioArgs) × (file : List ℕ) × (text : List ℕ
 
 diagram_refused : (many : Option Markdown) (x : ScenarioArgs) (file text printed : List ℕ) → many_in x text ≡ many
     → PrintsDiagrams many x file text Refused printed → RefusesOne printed
-diagram_refused None x file text printed is (all, of_text, charts, queues, linked, says) = absurd (never_surveyed x.quiet x.check_args file _ _ _ printed says)
+diagram_refused None x file text printed is (all, of_text, charts, queues, linked, says) = absurd (never_surveyed x.quiet (checked_under queues x.check_args) file _ _ _ printed says)
 diagram_refused (Some f) x file text printed is says = (x, file, text, f, is, says)
 
 -- so of what is printed for a task only several diagrams are

@@ -1,6 +1,6 @@
-use Rattle.std.proofs.Common.{ℕ, List, Err, sym, subst, ◌∙◌}
+use Rattle.std.proofs.Common.{ℕ, List, Ok, Err, sym, subst, ◌∙◌}
 use Rattle.std.proofs.lemmas.Result.{err_from_is_err_and}
-use Rattle.msc_command.proofs.AllSurveyed.{refused_block, spent_block, untold_block}
+use Rattle.msc_command.proofs.AllSurveyed.{refused_block, spent_block, surveyed_refused, untold_block}
 use Rattle.msc_command.specs.Answering.{TellsBlock}
 use Rattle.msc_command.proofs.answering.survey_block.Goals as goal
 
@@ -18,3 +18,12 @@ returns-in_err-tell_block g c =
     let told = subst (λ (t : List ℕ). TellsBlock contents x file t n r (Err c.in_err-tell_block.field-0.0) c.check_block.new.output c.tell_block.new.output)
     c.text-text.ensures c.in_err-tell_block.ensures in
     rw (p.1, p.2) (untold_block contents x file text n r c.args.output.now c.check_block.new.output c.tell_block.new.output said c.in_err-tell_block.field-0.0 told)
+
+pub returns : goal.returns
+returns g c =
+    let contents = g.O.Write.contents in let x = c.args.words in let file = c.args.request.file.now in
+    let text = c.args.found.now.text in let n = c.args.number in let r = c.in-Err.refusal in
+    let said = refused_block contents x file text n r c.args.output.now c.check_block.new.output (sym c.is_spent.ensures ∙ c.if-is_spent.false) c.in-Err.ensures in
+    let told = subst (λ (t : List ℕ). TellsBlock contents x file t n r (Ok c.in_ok-tell_block.field-0) c.check_block.new.output c.tell_block.new.output)
+    c.text-text.ensures c.in_ok-tell_block.ensures in
+    surveyed_refused contents x file text n r c.args.output.now c.check_block.new.output c.tell_block.new.output said c.in_ok-tell_block.field-0 told
