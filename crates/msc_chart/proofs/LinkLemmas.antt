@@ -1,14 +1,12 @@
 -- Sets of links as rows of bits, and the kinds that they give.
-use Rattle.std.proofs.Common.{◌≡◌, ℕ, ◌+◌, ◌*◌, ◌/◌, ◌<◌, Bool, true, false, not, ◌&&◌, ◌||◌, cond, List, length, get_or, replicate, inl, inr, refl, sym, ap, ◌∙◌, arith, nat_eq}
+use Rattle.std.proofs.Common.{◌≡◌, ℕ, ◌*◌, ◌<◌, Bool, true, false, not, ◌&&◌, ◌||◌, cond, List, replicate, refl, sym, ap, ◌∙◌, arith, nat_eq}
 use Rattle.std.proofs.lemmas.Bool.{lt-ltb, eq-eqb, eqb-true, and_parts}
 use Rattle.std.proofs.lemmas.Nat.{same_from_place}
-use Rattle.std.proofs.lemmas.List.{get_or-replicate}
 use Rattle.bit_rows.specs.Rows.{all_ones, has}
 use Rattle.bit_rows.proofs.Rows.{has_blank, has_ones}
 use Rattle.msc_chart.specs.declared.queue.LinkKind.{LinkKind}
 use Rattle.msc_chart.specs.declared.queue.LinkKind.TheVariants.{Pair, Mailbox, Single}
-use Rattle.msc_chart.specs.declared.queue.Links.{Links}
-use Rattle.msc_chart.specs.Architectures.{link_kind, link_number}
+use Rattle.msc_chart.specs.Architectures.{link_number}
 use Rattle.msc_chart.proofs.ListLemmas.{by_test}
 
 -- words of ones have each link

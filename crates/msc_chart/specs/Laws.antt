@@ -1,5 +1,5 @@
 -- Laws of charts, for the crates that rest on this one.
-use Rattle.std.specs.Prelude.{◌≡◌, ℕ, ◌+◌, ◌*◌, ◌<◌, ◌≤◌, ◌↔◌, Bool, false, List, length, filter, IsTrue, nat_eq}
+use Rattle.std.specs.Prelude.{◌≡◌, ℕ, ◌+◌, ◌<◌, ◌≤◌, ◌↔◌, Bool, false, List, length, filter, IsTrue, nat_eq}
 use Rattle.msc_chart.specs.declared.TheConstants.{INSTANCE_LIMIT, MESSAGE_LIMIT, QUEUE_LIMIT}
 use Rattle.std.specs.List.{list_any, range_with_len}
 use Rattle.msc_chart.specs.declared.queue.Queues.{Queues}

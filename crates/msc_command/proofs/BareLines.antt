@@ -1,5 +1,5 @@
 -- Refusals that are told by one line.
-use Rattle.std.proofs.Common.{◌≡◌, ℕ, List, [], ◌++◌, Option, None, refl, sym, ap, subst, ◌∙◌}
+use Rattle.std.proofs.Common.{◌≡◌, ℕ, List, [], ◌++◌, Option, sym, ap, subst, ◌∙◌}
 use Rattle.std.proofs.lemmas.List.{append-nil}
 use Rattle.msc_notes.specs.Texts.{error_text, IsFaultPosition}
 use Rattle.msc_place.specs.declared.position.Position.{Position}

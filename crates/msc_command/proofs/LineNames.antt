@@ -1,5 +1,5 @@
 -- The names of lines, one more at a time.
-use Rattle.std.proofs.Common.{◌≡◌, ℕ, ◌+◌, List, [], ◌∷◌, ◌++◌, length, map, ap, ap₂, sym, ◌∙◌, add-one, length-append, arith}
+use Rattle.std.proofs.Common.{◌≡◌, ℕ, ◌+◌, List, [], ◌∷◌, ◌++◌, ap, ap₂, sym, ◌∙◌, add-one, length-append, arith}
 use Rattle.std.proofs.lemmas.List.{map-append}
 use Rattle.msc_links.specs.declared.line.LineNames.{LineNames}
 use Rattle.msc_command.specs.Linked.{listed_below, AreNames}

@@ -1,4 +1,4 @@
-use Rattle.std.proofs.Common.{◌≡◌, ℕ, List, [], ap, sym, ◌∙◌}
+use Rattle.std.proofs.Common.{List, [], ap, sym, ◌∙◌}
 use Rattle.std.proofs.lemmas.Option.{get_or_from_slice_get}
 use Rattle.msc_mermaid.specs.declared.statement.Span.{Span}
 use Rattle.msc_command.specs.Linked.{made_name, own_name, shown_name}

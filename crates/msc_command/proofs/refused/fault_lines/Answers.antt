@@ -1,4 +1,4 @@
-use Rattle.std.proofs.Common.{None, refl, ap, ◌∙◌, sym}
+use Rattle.std.proofs.Common.{None, refl, ap}
 use Rattle.std.proofs.lemmas.Result.{IfOk-weaker}
 use Rattle.msc_command.specs.declared.ending.Refusal.TheVariants as refusals
 use Rattle.msc_command.proofs.BareLines.{bare_text, stands_as}

@@ -1,6 +1,5 @@
-use Rattle.std.proofs.Common.{None, refl, ap, ◌∙◌, sym}
+use Rattle.std.proofs.Common.{None, refl}
 use Rattle.std.proofs.lemmas.Result.{IfOk-weaker}
-use Rattle.msc_command.specs.declared.ending.Refusal.TheVariants as refusals
 use Rattle.msc_command.proofs.BareLines.{bare_text, stands_as}
 use Rattle.msc_command.proofs.refused.refusal_lines.Goals as goal
 

@@ -1,4 +1,4 @@
-use Rattle.std.proofs.Common.{refl, arith}
+use Rattle.std.proofs.Common.{refl}
 use Rattle.msc_chart.specs.Architectures.{link_kind, link_number}
 use Rattle.msc_chart.proofs.LinkLemmas.{every_link, no_link}
 use Rattle.msc_chart.proofs.queue.Links.all.Goals as goal

@@ -1,5 +1,4 @@
-use Rattle.std.proofs.Common.{◌≡◌, ℕ, ◌||◌, nat_eq, Bool, ap, ◌∙◌}
-use Rattle.bit_rows.specs.Rows.{has}
+use Rattle.std.proofs.Common.{◌||◌, nat_eq, Bool, ap, ◌∙◌}
 use Rattle.msc_chart.specs.Architectures.{link_kind, link_number}
 use Rattle.msc_chart.proofs.LinkLemmas.{given_mailbox, given_pair, given_single}
 use Rattle.msc_chart.proofs.queue.Links.give.Goals as goal

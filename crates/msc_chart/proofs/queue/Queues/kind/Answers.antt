@@ -1,4 +1,4 @@
-use Rattle.std.proofs.Common.{refl, sym, rules}
+use Rattle.std.proofs.Common.{refl}
 use Rattle.msc_chart.specs.Architectures.{kind_of}
 use Rattle.msc_chart.proofs.queue.Queues.kind.Goals as goal
 
