@@ -7,7 +7,7 @@ Texts at the limit are read or checked, and texts one past it are refused with t
 texts that are as large as a text may be, each made of one thing, are read (with --quick those of
 few tokens alone, since the naive reader takes its time for the others). Wanted answers are those of
 tools/naive or stand here; the limits of diagrams are met by its comparisons imports and
-diagram_checks too. The largest charts and diagrams are answered the same with a stack of 128
+diagram_checks too. The largest charts and diagrams are answered the same with a stack of 160
 KiB, for each thread too. Prints what differs, and last `N passed, M failed`.
 """
 import random
@@ -23,7 +23,7 @@ from models.shown import run_lines
 
 LIMIT = 1048576
 # bytes of a small stack
-STACK = 128 * 1024
+STACK = 160 * 1024
 TOO_LONG = "lexical fault 1: text longer than 1048576 bytes"
 # the texts of a chart's head, and of its ends
 HEAD, END = b"msc t;", b"endmsc;"
