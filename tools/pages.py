@@ -21,7 +21,8 @@ ROOT = pathlib.Path(__file__).resolve().parent.parent
 sys.path.insert(0, str(ROOT / "tools" / "naive"))
 from models.chart import Chart
 from models.executions import PATIENCE, Wrong, is_execution
-from models.links import of_chart, parted
+from models.links import parted
+from models.own import of_chart
 
 
 def commands(page):

@@ -17,6 +17,8 @@ ROOT = pathlib.Path(__file__).resolve().parent.parent
 DEADLOCK = "charts/refused/deadlock.msc"
 RELAY = "charts/relay.msc"
 ARROW = "charts/import/refused/unknown_arrow.mmd"
+SLIP, NOBODY = "charts/commands/queues_slip.msc", "charts/commands/queues_of_nobody.msc"
+TWO_KINDS = "charts/commands/two_kinds.mmd"
 
 # Words, and whether notes are told where standard error is no terminal, and where it is one.
 FAULTS = [
@@ -39,6 +41,10 @@ FAULTS = [
     (["import", "--places", ARROW], True, True),
     (["check", "--from", "any", "--queues", "pair", ARROW], False, True),
     (["check", "--from", "any", "--queues", "pair", "--plain", ARROW], False, False),
+    (["check", "--queues", "own", SLIP], False, True),
+    (["run", "--queues", "own", "--plain", SLIP], False, False),
+    (["report", "--queues", "own", NOBODY], False, True),
+    (["check", "--from", "any", "--queues", "own", TWO_KINDS], False, True),
     (["check", "--queues", "pair", "no/such/\x1b[31mfile"], False, True),
     (["read", "charts/no_such_chart.msc"], False, True),
     (["read", "--plain", "charts/no_such_chart.msc"], False, False),

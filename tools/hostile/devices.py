@@ -25,7 +25,7 @@ from refuse import Shim
 
 CHART = (TOP / "charts/two_senders.msc").read_bytes()
 # rules for some of its links
-RULED = Given("pair", [("mailbox", "b"), ("single", "c > b")])
+RULED = Given("own", [("mailbox", "b"), ("single", "c > b")])
 # what is drawn of it, with its file in charts/two_senders: the words before and behind FILE
 DRAWN = {
     "draw": (["--queues", "mailbox"], [], "mailbox.drawn.txt"),

@@ -41,7 +41,9 @@ CHARTS = {
     "part": b"msc t;\ninstance a;\naction 'x' comment 'race ok by';\nendinstance; endmsc;",
     "many": of_events(1025), "rounds": of_events(513), "instances": b"msc t; " + b"".join(
         b"instance i%d; endinstance;\n" % i for i in range(33)) + b"endmsc;",
-    "diagram": DIAGRAM, "links": link_examples.CELL.encode(),
+    "diagram": DIAGRAM, "queues": b"msc t\ncomment 'queues pair;\nsingle \x1b\xff'; endmsc;",
+    "slip": b"msc t\ncomment 'queues pairs';\ninstance a; endinstance; endmsc;",
+    "links": link_examples.CELL.encode(),
 }
 DIAGRAMS = {
     "races": DIAGRAM, "no arrow": b"sequenceDiagram\nA=>>B: a",
@@ -50,6 +52,8 @@ DIAGRAMS = {
     "crosses": b"sequenceDiagram\n" + b"A-xB: x\n" * 13, "too long": b" " * 1048577,
     "par": b"sequenceDiagram\npar x\nA->>B: a\nand y\nA->>C: b\nA->>B: c\nend",
     "flow": b"flowchart TD\nA-->B", "front": b"---\ntitle: x", "nothing": b"",
+    "queues": DIAGRAM + b"%% queues pair; pair A; single A", "slip": DIAGRAM + b"%% queues pairs",
+    "links": DIAGRAM + b"%% queues pair; mailbox B",
     "page": b"```mermaid\n" + DIAGRAM + b"```\n\n~~~mermaid\nsequenceDiagram\nA->B\n~~~\n",
 }
 ON_CHARTS = (
@@ -58,9 +62,8 @@ ON_CHARTS = (
     ["check", "--queues", "mailbox", "--format", "lines"],
     ["check", "--queues", "mailbox", "--format", "lines", "--accept", "--again"],
     ["check", "--queues", "mailbox", "--format", "count"], ["read", "--places"],
-    ["check", "--queues", "pair", "--single", "base", "--places"],
-    ["check", "--queues", "pair", "--single", "base", "--format", "lines"],
-    ["follow", "--queues", "pair", "--mailbox", "a", "--places"],
+    ["check", "--queues", "own", "--places"], ["check", "--queues", "own", "--format", "lines"],
+    ["follow", "--queues", "own", "--single", "b", "--places"],
     ["follow", "--queues", "pair", "--places"],
     ["check", "--queues", "pair", "--format", "lines", "--again"],
     ["list", "--places"], ["ready", "--queues", "mailbox", "--places", "--again"],
@@ -74,8 +77,8 @@ ON_DIAGRAMS = (
     ["check", "--from", "any", "--queues", "mailbox", "--name", "t", "--places", "--why"],
     ["check", "--from", "any", "--queues", "mailbox", "--format", "lines"],
     ["check", "--from", "any", "--queues", "mailbox", "--format", "count"],
-    ["check", "--from", "any", "--queues", "pair", "--mailbox", "B", "--name", "t", "--places"],
-    ["check", "--from", "any", "--queues", "pair", "--format", "lines", "--single", "B"],
+    ["check", "--from", "any", "--queues", "own", "--name", "t", "--places"],
+    ["check", "--from", "any", "--queues", "own", "--format", "lines", "--single", "B"],
     ["import", "--name", "t", "--places"], ["import", "--name", "t", "--list"],
     ["import", "--name", "t", "--fence", "3", "--places"],
     ["check", "--queues", "pair", "--places"],
@@ -156,7 +159,7 @@ def names_of_links(count, program):
     for name in NAMES:
         wanted = Answer(b"", f"link fault 2: no instance {shown(name)}\n".encode(), 2)
         for kind in QUEUES:
-            for words in (["check", "--queues", kind], ["run", "--queues", kind],
+            for words in (["check", "--queues", kind], ["run", "--queues", "own"],
                           ["check", "--from", "any", "--queues", kind]):
                 text = DIAGRAM if "--from" in words else link_examples.CELL.encode()
                 for link in (name, f"{name} > base", f"{name}>{name}"):

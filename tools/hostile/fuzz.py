@@ -9,8 +9,8 @@ and then to a token that may not follow; some are charts with header, kinds, mes
 parameters and coregions, spelled with any white space and notes; some are tokens in any order. Of
 each sort many are then changed: tokens or bytes are taken away, put in, doubled, exchanged, or the
 text is cut. Each text is given to `msc read`, and to `msc check`, `msc follow`, `msc run`, `msc
-draw`, `msc ready` and `msc report` with one kind of queues, a third of them with rules for links,
-which may be faulty, but `draw` and `report`, which take none: both streams and the status are to be
+draw`, `msc ready` and `msc report` with one kind of queues, a third of them with rules for links or
+a comment that may name its queues, which may be faulty: both streams and the status are to be
 the same, for a chart that is run the trace has to be a whole run of it, and a report has to be read
 as XML. With `--places` nothing else may be printed but places, and behind the line of a fault what
 is said of it, all of it of bytes that move no cursor. As lines for editors, with marks, all that is
@@ -33,7 +33,8 @@ from generators import diagram_checks, links
 from generators.charts import chart
 from models.answers import ALL, again_answer, check_answer, diagram_check_answer, draw_answer
 from models.answers import follow_answer, read_answer, ready_answer
-from models.links import Given, of_chart
+from models.links import Given
+from models.own import of_chart
 from models.reading import PLACES, SUPPORTED, UNSUPPORTED, Draft, Event, tokens
 from whole_runs import Drawn
 
@@ -48,6 +49,7 @@ SPACES = [b" ", b" ", b" ", b"\n", b"\t", b"\r\n",
 # how many texts a process tries at a time; each which of them has a diagram beside it; and each
 # which of them is asked about two rounds
 BATCH, DIAGRAMS, ROUNDS = 50, 4, 3
+HEAD = re.compile(rb"(\s*msc\s+\w+\s*);", re.IGNORECASE)
 
 
 def spelled(pick, kind):
@@ -186,17 +188,23 @@ def text_of(seed, number):
         text = text[:pick.randrange(len(text) + 1)]
     queues, show = pick.choice(QUEUES), pick.choice([None, None, 0, 1, 3])
     other = random.Random(f"{seed} {number} links")
-    rules = some_rules(other) if other.random() < 0.34 else []
-    return text, Given(queues, rules), show
+    text, queues = with_links(other, text, queues) if other.random() < 0.34 else (text, queues)
+    return text, queues, show
 
 
-def some_rules(pick):
-    """Rules for links."""
-    names = [name.decode() for name in NAMES[:10]]
-    rules = pick.choice([links.rules, links.faulty_rules])(pick, names)
+def with_links(pick, text, queues):
+    """The text, perhaps with a comment that may name its queues, and what is said of them."""
+    names, head = [name.decode() for name in NAMES[:10]], HEAD.match(text)
+    if head and pick.random() < 0.5:
+        held = links.own(pick, names).replace("'", "''").encode()
+        if pick.random() < 0.2:
+            held = random_bytes(pick, held).replace(b"'", b"''")
+        text = head[1] + b" comment '" + held + b"'" + text[head.end() - 1:]
+        queues = "own"
+    rules = pick.choice([lambda *_: [], links.rules, links.faulty_rules])(pick, names)
     if pick.random() < 0.3:
         rules = [*rules, (pick.choice(QUEUES), pick.choice(LINKS))]
-    return rules
+    return text, Given(queues, rules)
 
 
 def kind_of(answer):
@@ -212,7 +220,8 @@ def wrong_run(text, queues, wanted, got):
         return None if got == wanted else wanted
     if got[1:] != (b"", 0):
         return "a whole run"
-    return Drawn(text).wrong(of_chart(text, queues), got.output.decode("latin-1"))
+    queues = of_chart(text, queues) if isinstance(queues, Given) else queues
+    return Drawn(text).wrong(queues, got.output.decode("latin-1"))
 
 
 def wrong_places(wanted, got):
@@ -275,7 +284,7 @@ def tried(program, seed, number, commands):
     kind of answer."""
     text, queues, show = text_of(seed, number)
     checked = check_answer(text, queues, ALL if show is None else show)
-    told, asked, uniform = [], queue_words(queues), queues.queues
+    told, asked = [], queue_words(queues)
     read, check = [program, "read", "-"], check_words(program, queues, show)
     for words, wanted in ((read, read_answer(text)), (check, checked)):
         got = run(words, text) if words[1] in commands else wanted
@@ -296,8 +305,7 @@ def tried(program, seed, number, commands):
     answers = {"draw": draw_answer, "follow": follow_answer, "ready": ready_answer}
     for command, answered in answers.items():
         if command in commands:
-            given = uniform if command == "draw" else queues
-            words, wanted = [command, *queue_words(given), "-"], answered(text, given)
+            words, wanted = [command, *asked, "-"], answered(text, queues)
             got = run([program, *words], text)
             if got != wanted:
                 told.append((words, text, got, wanted))
@@ -308,9 +316,9 @@ def tried(program, seed, number, commands):
             if got != wanted:
                 told.append((words, text, got, wanted))
     if "report" in commands:
-        words = ["report", *queue_words(uniform), "-"]
+        words = ["report", *asked, "-"]
         got = run([program, *words], text)
-        wrong = wrong_page(check_answer(text, uniform), got)
+        wrong = wrong_page(checked, got)
         if wrong:
             told.append((words, text, got, wrong))
     if "run" in commands:

@@ -30,8 +30,9 @@ from models.answers import diagram_check_answer, follow_answer, import_answer, l
 from models.answers import read_answer
 from models.chart import Chart, is_enforced
 from models.explanations import Wrong, check
-from models.links import Given, of_chart
+from models.links import Given
 from models.marks import marks_for
+from models.own import of_chart
 from models.picture import chart_picture, run_picture
 from models.races import listing, study
 from models.shown import places_of
@@ -104,22 +105,19 @@ def deadlock(events):
 def answers_on_charts(pick, text, given, queues, more):
     """Words, and what is printed of a chart under an architecture."""
     chart, places = Chart(text, queues), places_of(text.encode())
-    asked = given.words()
+    asked, races = given.words(), chart.races()
     yield ["read", "-"], read_answer(text.encode())
     for placed in (False, True):
         lines = listing(chart, places, placed)
         yield ["list", *["--places"] * placed, "-"], lines_answer(lines, 0)
     yield ["draw", "-"], lines_answer(chart_picture(chart, False), 0)
-    # pictures take no rules
-    plain, usual = Chart(text, given.queues), ["--queues", given.queues]
-    yield ["draw", *usual, "-"], lines_answer(chart_picture(plain, True), 0)
-    e, f = pick.choice(plain.races())
-    told = lines_answer(run_picture(plain, e, f), 0)
-    yield ["reverse", *usual, "-", str(e), str(f)], told
+    yield ["draw", *asked, "-"], lines_answer(chart_picture(chart, True), 0)
     for words, placed in ((False, False), (True, True)):
         more_words = ["--words"] * words + ["--places"] * placed
         told = follow_answer(text.encode(), queues, words, "-" if placed else None)
         yield ["follow", *asked, *more_words, "-"], told
+    e, f = pick.choice(races)
+    yield ["reverse", *asked, "-", str(e), str(f)], lines_answer(run_picture(chart, e, f), 0)
     for given in STUDIES:
         options, marks = {**rounds.PLAIN, **given}, marks_for(text, queues)
         told = lines_answer(*study(chart, places, options, marks))

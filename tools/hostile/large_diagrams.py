@@ -159,6 +159,46 @@ def pages():
     yield filled(in_html, b"&a"), CHECK, passes(name="diagram#1")
 
 
+def of_queues(queues, *links):
+    """The answer on a diagram that passes with these queues."""
+    told = "".join(f"{line}\n" for line in ["diagram diagram", f"queues {queues}", *links])
+    return Answer(f"{told}scenarios 1\npass\n".encode(), b"", 0)
+
+
+def comments():
+    """Diagrams with comments that name queues, or may seem to."""
+    own, behind, begin = [*CHECK[:-1], "own"], b"\n" + ARROW, HEAD + b"%% queues pair; single "
+    single = of_queues("pair", "link A single")
+    yield filled(begin + b"A", b", A", behind), own, single
+    yield filled(begin + b"A", b";single A", behind), own, single
+    yield filled(begin, b" ", b"A" + behind), own, single
+    yield filled(begin, b" ", b"A" + behind), CHECK, passes()
+    unread, served = fault("link fault 4 at 2: queues expected"), begin + b"A; serves B"
+    rows = ["instance A;", "  out x, 1 to B;", "endinstance;",
+            "instance B;", "  in x, 1 from A;", "endinstance;"]
+    wanted = chart(*rows).output.replace(b"diagram", b"diagram comment 'queues pair; single A'", 1)
+    for before, some in ((begin + b"A", b", A"), (served, b", B")):
+        yield filled(before, some, behind), ["import"], Answer(wanted, b"", 0)
+    yield filled(served, b", B", behind), own, unread
+    for some in (b",", b";", b"; A", b", "):
+        text = filled(begin + b"A", some, behind)
+        yield text, own, unread
+        yield text, ["import"], chart(*rows)
+    for some, told in ((b"A>", "1: {} is no link"), (b"A", "2: no instance {}")):
+        text = filled(begin, some, behind)
+        link = text[len(begin):-len(behind)].decode()
+        yield text, own, fault(f"link fault {told.format(link)}")
+    yield filled(HEAD + b"%%", b" ", b"queues mailbox" + behind), own, of_queues("mailbox")
+    yield filled(HEAD + b"%% queues mailbox", b" ", behind), own, of_queues("mailbox")
+    yield filled(HEAD, b"%% queues single\n", ARROW), own, of_queues("single")
+    on_head = filled(HEAD[:-1], b" ", b"%% queues single\n" + ARROW)
+    yield on_head, own, of_queues("single")
+    for some in (b"%% queues are\n", b"%% queues\n", b"%% queue pair\n"):
+        yield filled(HEAD, some, b"%% queues mailbox" + behind), own, of_queues("mailbox")
+    for some in (b"p", b"pair ", b"%", b" "):
+        yield filled(HEAD + b"%% queues x", some, behind), own, of_queues("pair")
+
+
 def bytes_that_are_no_text():
     """Diagrams with bytes that are no UTF-8, which are letters of names."""
     lines = ["instance p;", "  out m, 1 to p_2;", "endinstance;",
@@ -172,8 +212,8 @@ def bytes_that_are_no_text():
 
 def tried():
     """Texts, words and answers of all kinds."""
-    kinds = texts_of_one_thing, long_lines, many_lines, choices, pages, bytes_that_are_no_text
-    for kind in kinds:
+    kinds = texts_of_one_thing, long_lines, many_lines, choices, pages, comments
+    for kind in (*kinds, bytes_that_are_no_text):
         yield from kind()
 
 

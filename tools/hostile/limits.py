@@ -8,7 +8,7 @@ texts that are as large as a text may be, each made of one thing, are read (with
 few tokens alone, since the naive reader takes its time for the others). Wanted answers are those of
 tools/naive or stand here; the limits of diagrams are met by its comparisons imports and
 diagram_checks too. The largest charts and diagrams are answered the same with a stack of 128
-KiB, and run with 160 KiB, for each thread too. Prints what differs, and last `N passed, M failed`.
+KiB, for each thread too. Prints what differs, and last `N passed, M failed`.
 """
 import random
 import resource
@@ -17,15 +17,13 @@ import sys
 from load import INSTANCES, MESSAGES, drawn
 from program import LINKS, QUEUES, Answer, Count, add_commands, arguments, check_words, run
 from generators import diagram_checks, imports
-from models.answers import check_answer, read_answer
+from models.answers import check_answer, diagram_check_answer, import_answer, read_answer
 from models.links import Given
 from models.shown import run_lines
 
 LIMIT = 1048576
-# bytes of a small stack; `run` calls itself for each instance with a copy of the architecture, so 32
-# instances do not always have enough with 128 KiB
+# bytes of a small stack
 STACK = 128 * 1024
-RUN_STACK = 160 * 1024
 TOO_LONG = "lexical fault 1: text longer than 1048576 bytes"
 # the texts of a chart's head, and of its ends
 HEAD, END = b"msc t;", b"endmsc;"
@@ -121,9 +119,27 @@ def charts():
         yield from ((text, queues, None, fault(line)) for queues in QUEUES)
 
 
-def of_links():
+# comments that fill a text: what comes before and behind many times the same
+COMMENTS = [
+    (b"queues", b" ", b"pair"), (b"queues pair", b";", b""), (b"queues ", b"p", b""),
+    (b"queues pair; single i0", b",", b""), (b"queues pair; single i0", b", i0", b""),
+    (b"queues pair; single i0", b";single i0", b""), (b"", b" ", b"queues pair; mailbox i0"),
+    (b"queues pair; single ", b">", b""), (b"queues pair; single ", b"i", b""),
+    (b"queues pair; single i0>", b"\xff", b""), (b"queues pair; single ", b"''", b""),
+    (b"queues pair; single i0, i1", b" ", b"; mailbox i1"),
+]
+# the same of diagrams, with lines
+LINES = [
+    (b"%% queues mailbox", b" "), (b"%% queues pair; serves A", b",A"), (b"%%", b" "),
+    (b"%% queues pair; single A", b">"), (b"%% queues pair; single A", b", A"),
+    (b"", b"%% queues are\n"), (b"%% queues pair; single ", b"\xc3\xa9"),
+    (b"%% queues pair; mailbox B\n", b"%% queues single\n"),
+]
+
+
+def of_links(is_quick):
     """Charts of 32 instances, of which each of 1,024 links has a rule of its own; many rules of one
-    link; and words that are no LINKs."""
+    link; words that are no LINKs; and comments that fill the text."""
     text, names = of_instances(32), [f"i{number}" for number in range(32)]
     links = [f"{sender}>{receiver}" for sender in names for receiver in names]
     kinds = [QUEUES[(sender + receiver) % 3] for sender in range(32) for receiver in range(32)]
@@ -132,13 +148,28 @@ def of_links():
                  [("pair", link) for link in links], [("single", "i0>i1")] * 2000,
                  [*every, ("pair", links[1])], *([("pair", link)] for link in LINKS)):
         yield text, Given("single", some)
+    queues = "; ".join(f"{kind} {link}" for kind, link in every)
+    for held in (f"queues pair; {queues}", f"queues pair; {queues}; mailbox i0",
+                 f"queues pair; {queues}; pair i0>i1"):
+        yield text.replace(b"msc t", f"msc t comment '{held}'".encode()), Given("own")
+    for before, some, behind in COMMENTS[:2 if is_quick else None]:
+        rest = behind + text.replace(b"msc t;", b"';")
+        yield filled(b"msc t comment '" + before, some, rest), Given("own")
 
 
-def checks_of_links(count, program):
-    """Compares what is printed of these."""
-    for text, given in of_links():
+def checks_of_links(count, program, options):
+    """Compares what is printed of these, and of diagrams with comments."""
+    for text, given in of_links(options.quick):
         answer, told = run(check_words(program, given), text), " ".join(given.words())
         count.compare(answer, check_answer(text, given), told[:200], text[:60])
+    for before, some in LINES[:2 if options.quick else None]:
+        text = filled(b"sequenceDiagram\n" + before, some, b"\nA->>B: a\nC->>B: b\n")
+        words = ["check", "--from", "any", "--queues", "own", "-"]
+        wanted = diagram_check_answer(text, words[1:-1])
+        count.compare(run([program, *words], text), wanted, *words, text[:60])
+        if "import" in options.commands:
+            answer = run([program, "import", "-"], text)
+            count.compare(answer, import_answer(text, []), "import", text[:60])
 
 
 def numbers_of_races():
@@ -312,12 +343,12 @@ def checks_of_diagrams(count, program):
     count.add(got in ends, *words, got)
 
 
-def with_stack(size):
-    """How a process gets a stack of this size."""
-    return {"preexec_fn": lambda: resource.setrlimit(resource.RLIMIT_STACK, (size, size)), "env": {}}
+def small_stack():
+    resource.setrlimit(resource.RLIMIT_STACK, (STACK, STACK))
 
 
-SMALL = with_stack(STACK)
+# how a process has one
+SMALL = {"preexec_fn": small_stack, "env": {}}
 
 
 def stacks(count, program, commands):
@@ -330,10 +361,9 @@ def stacks(count, program, commands):
                 ways += [[program, command, "--queues", queues, "-"] for queues in QUEUES]
         for words in ways:
             full = run(words, text)
-            size = RUN_STACK if words[1] == "run" else STACK
-            small = run(words, text, **with_stack(size))
+            small = run(words, text, **SMALL)
             is_same = small[1:] == (b"", 0) if words[1] == "run" else small == full
-            count.add(is_same, *words[1:], f"with a stack of {size} bytes", small[1:])
+            count.add(is_same, *words[1:], f"with a stack of {STACK} bytes", small[1:])
     for text in (of_events(512, 512), drawn(random.Random(1), INSTANCES, MESSAGES // 2)):
         for command in ("check", "ready") if "ready" in commands else ("check",):
             words = [program, command, "--queues", "mailbox", "--again", "--show", "3", "-"]
@@ -387,7 +417,7 @@ def main():
         checks_of_drawings(count, program)
     checks_of_rounds(count, program, options.commands)
     if "check" in options.commands:
-        checks_of_links(count, program)
+        checks_of_links(count, program, options)
         checks_of_diagrams(count, program)
     stacks(count, program, options.commands)
     return count.end()

@@ -20,7 +20,8 @@ from subprocess import PIPE
 
 from program import MOST_SECONDS, QUEUES, Answer, Count, arguments, mixed, run
 from whole_runs import Drawn, spoiled
-from models.links import Given, of_chart
+from models.links import Given
+from models.own import of_chart
 
 # the messages and instances of the largest charts
 MESSAGES, INSTANCES = 1024, 32

@@ -7,10 +7,10 @@ do so.
 Every chart of charts/ and of charts/refused/ is read, and checked, followed, run, drawn, reported
 and asked for sticks with each kind of queues, checked and run with rules for links, and asked of
 two rounds under `mailbox`, and every diagram of charts/import/ is imported and checked, where these
-are not given; so are, always, a chart and a diagram with more rules. Of the runs with more than N
-allocations (400 where it is not said) each K-th allocation alone is refused. What a refused run has
-to answer says tools/refuse/refuse.py. With --limit no call is refused, but each command has less
-and less address space for a chart at the limits, down to too little for the program to begin.
+are not given; so are, always, a chart and a diagram that name their queues. Of the runs with more
+than N allocations (400 where it is not said) each K-th allocation alone is refused. What a refused
+run has to answer says tools/refuse/refuse.py. With --limit no call is refused, but each command has
+less and less address space for a chart at the limits, down to too little for the program to begin.
 Prints for each run how many allocations it makes or how many limits there are, what does not end
 well, and last `N passed, M failed`.
 """
@@ -34,10 +34,10 @@ from threads import star
 STEP = 256 * 1024
 
 
-def ruled(names):
+def ruled(names, queues="mailbox"):
     """What a command line says of the queues of a chart with these instances."""
     rules = [("single", names[0]), ("pair", f" {names[-1]} > {names[0]}"), ("pair", names[-1])]
-    return Given("mailbox", rules if len(set(names)) > 1 else rules[:2])
+    return Given(queues, rules if len(set(names)) > 1 else rules[:2])
 
 
 def commands(wanted, names=()):
@@ -76,15 +76,19 @@ def commands_on(chart, text, wanted):
 
 
 def examples(wanted):
-    """A chart and a diagram, and the words of `check` with rules for links, right and faulty."""
-    if "check" not in wanted:
-        return
-    cell = link_examples.CELL.encode()
-    for words in ([], ["--format", "lines"], ["--single", "a>"], ["--single", "a>", "--places"]):
-        yield cell, ["check", *ruled(["radio", "base"]).words(), *words, "-"]
-    lines, check = link_examples.DIAGRAM.format("").encode(), ["check", "--from", "any", "--queues"]
-    for words in (["--single", "b"], ["--single", "b", "--mailbox", "a > b"], ["--pair", "d"]):
-        yield lines, [*check, "pair", *words, "-"]
+    """Texts that name their queues, and the words of commands on them, with rules too that are
+    right or faulty."""
+    cell, some = link_examples.CELL.encode(), ruled(["radio", "base"], "own").words()
+    own, faulty = ["--queues", "own"], link_examples.in_chart("queues pair; single a>")
+    for words in (own, some, [*own, "--format", "lines"], [*some, "--single", "a>"],
+                  [*some, "--single", "a>", "--places"]):
+        yield from ((text, ["check", *words, "-"]) for text in (cell, faulty) if "check" in wanted)
+    check = ["check", "--from", "any", *own]
+    for comment in ("%% queues pair; single b, a>b", "%% queues pair; serves c; single b"):
+        text = link_examples.in_diagram(comment)
+        yield from ((text, words) for words in (["import", "-"], [*check, "-"],
+                    [*check, "--mailbox", "b", "-"], [*check, "--pair", "d", "-"])
+                    if words[0] in wanted)
 
 
 def in_space(most):

@@ -8,9 +8,10 @@ The charts are charts/kinds_and_comments.msc and charts/texts_of_actions.msc whe
 and charts/import/websocket_chat.mmd. Each text, or each K-th, is given to `msc read`, and where it
 has a draft also to `msc check` under each architecture, to `msc follow`, `msc draw` and `msc ready`
 under one, and to `check` and `ready` with `--again`. Those of a diagram are given to `msc import`,
-and where a scenario has a draft to `msc check --from`, and compared with these too. Each byte of a
-LINK is changed too, of a chart and of a diagram that stand here. Prints what differs, for each
-chart how many texts had a draft, and last `N passed, M failed`.
+and where a scenario has a draft to `msc check --from`, and compared with these too. A chart and
+diagrams that name their queues stand here: of the comment each byte is changed, and `--queues own`
+reads it. Each byte of a LINK is changed too. Prints what differs, for each chart how many texts had
+a draft, and last `N passed, M failed`.
 """
 import pathlib
 import sys
@@ -22,14 +23,20 @@ from models.links import Given
 
 CHARTS = [TOP / "charts/kinds_and_comments.msc", TOP / "charts/texts_of_actions.msc",
           TOP / "charts/import/websocket_chat.mmd"]
-# a chart and a diagram, and a LINK of theirs; another rule stands next to that for it
-OF_LINKS = [
-    (b"msc t; instance a; out m to b; endinstance; instance b; in m from a; in n from c;"
-     b" endinstance; instance c; out n to b; endinstance; endmsc;", b" a > b", []),
-    (b"sequenceDiagram\nparticipant b as The B\na->>b: m\nc->>b: n\n", b"a >The B",
-     ["--from", "any"]),
+# texts before, in and behind a comment that names queues, and whether they are a diagram; rules of
+# the command line stand with them
+OF_QUEUES = [
+    (b"msc t comment", b" 'queues pair; mailbox b;single a > b, c>b'",
+     b"; instance a; out m to b; endinstance; instance b; in m from a; in n from c; endinstance;"
+     b" instance c; out n to b; endinstance; endmsc;", False),
+    (b"sequenceDiagram\nparticipant b as The B\n", b" %% queues mailbox; pair b, a>The B",
+     b"\na->>b: m\nc->>b: n\n", True),
+    (b"sequenceDiagram", b" %% queues pair;serves b, a; single b", b"\na->>b: m\nc->>b: n\n",
+     True),
 ]
-BESIDE = ("mailbox", "b")
+BESIDE = [("single", "c"), ("pair", "c>b")]
+# a LINK of these texts; a rule for another one stands with it
+LINKS = [(0, " a > b"), (1, "a >The B")]
 # marks and white space, the first and last bytes of what names are made of with their neighbours,
 # letters that make other words of reserved ones, and bytes that begin no token
 TELLING = b";,:()'/* \t\r\n09AZaz_^@[`{emotEM\0\x0b\x1f.\"\\-\x7f\xc3\xff"
@@ -86,18 +93,27 @@ def compare_diagram(count, program, text):
     return True
 
 
-def compare_link(count, program, text, link, more):
-    """Compares what is answered of a text with a rule for what may be a LINK."""
-    given = Given("pair", [("single", link), BESIDE])
-    wanted = check_answer(text, given)
-    if more:
-        wanted = diagram_check_answer(text, [*given.words(), *more])
-    words = ["check", *given.words(), *more, "-"]
-    count.compare(run([program, *words], text), wanted, *words, text)
+def compare_rules(count, program, text, is_diagram, given):
+    """Compares what is answered of a text with these queues."""
+    words = [*given.words(), *["--from", "any"] * is_diagram]
+    wanted = diagram_check_answer(text, words) if is_diagram else check_answer(text, given)
+    count.compare(run([program, "check", *words, "-"], text), wanted, *words, text)
+
+
+def compare_queues(count, program, text, is_diagram):
+    """Compares what is answered of a text that may name its queues; whether it has a draft."""
+    if not is_diagram and read_answer(text)[2] != 0:
+        return False
+    for rules in ([], BESIDE):
+        compare_rules(count, program, text, is_diagram, Given("own", rules))
+    if is_diagram:
+        count.compare(run([program, "import", "-"], text), import_answer(text, []), text)
+    return True
 
 
 def words_of(link):
     """LINKs with a byte changed that a command line can have."""
+    link = link.encode()
     for made in (*cut(link), *left_out(link), *replaced(link, TELLING)):
         if made.isascii() and b"\0" not in made:
             yield made.decode()
@@ -117,9 +133,17 @@ def main():
         texts = [*cut(text), *left_out(text), *replaced(text, telling)][::options.every]
         drafts = sum(compare(count, options.program, made) for made in texts)
         print(f"{chart.name}: {len(texts)} texts, {drafts} of them have a draft")
-    for text, link, more in OF_LINKS:
+    for before, comment, behind, is_diagram in OF_QUEUES:
+        telling = IN_DIAGRAMS if is_diagram else TELLING
+        made = [*cut(comment), *left_out(comment), *replaced(comment, telling)][::options.every]
+        texts = [before + it + behind for it in made]
+        drafts = sum(compare_queues(count, options.program, it, is_diagram) for it in texts)
+        print(f"{comment.decode()}: {len(texts)} texts, {drafts} of them have a draft")
+    for number, link in LINKS:
+        before, comment, behind, is_diagram = OF_QUEUES[number]
         for made in list(words_of(link))[::options.every]:
-            compare_link(count, options.program, text, made, more)
+            given = Given("pair", [("single", made), ("mailbox", "b")])
+            compare_rules(count, options.program, before + comment + behind, is_diagram, given)
     return count.end()
 
 

@@ -32,7 +32,7 @@ def main():
     try:
         return model.main(sys.argv[2:])
     except LinkFault as fault:
-        return put(refusal(fault.line()))
+        return put(refusal(fault.line(fault.at)))
 
 
 if __name__ == "__main__":

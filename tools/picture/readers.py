@@ -1,16 +1,18 @@
 #!/usr/bin/env python3
 """Reads the pictures and reports that a program prints with the readers of Python.
 
-    readers.py [--charts N] [--messages M] [--seed S] PROGRAM
+    readers.py [--charts N] [--messages M] [--seed S] [--uniform] PROGRAM
 
-The charts are those of charts/, and random ones of naive/generators. Of each are read, under each
-architecture, the picture of the chart in SVG, that of a run that reverses one of its races, and the
-report. Each is of the bytes 32 to 126 and LF, is read as XML, and names nothing on the network but
-the name space of SVG; in a report each element is closed in its place for an HTML reader too. A
-picture has a head and an axis for each instance, an arrow for each message, from the axis of its
-sender to that of its receiver and never upwards, a box for each action on its axis, and the names,
-labels and numbers of the chart. A report has the first 50 closest races, and the canonical text.
-Prints how many were read. The exit status is 1 at the first that is wrong, whose chart is printed.
+The charts are those of charts/, and random ones of naive/generators. Of each are read, with each
+kind of queues, and in part with rules for links unless `--uniform` is given, the picture of the
+chart in SVG, that of a run that reverses one of its races, and the report. Each is of the bytes 32
+to 126 and LF, is read as XML, and names nothing on the network but the name space of SVG; in a
+report each element is closed in its place for an HTML reader too. A picture has a head and an axis
+for each instance, an arrow for each message, from the axis of its sender to that of its receiver
+and never upwards, a box for each action on its axis, and the names, labels and numbers of the
+chart. A report has the first 50 closest races, and the canonical text. Both say what the queues
+are. Prints how many were read. The exit status is 1 at the first that is wrong, whose chart is
+printed.
 """
 import argparse
 import collections
@@ -20,7 +22,9 @@ import re
 import sys
 import xml.etree.ElementTree
 
-from pages import QUEUES, drawn_of, printed, texts
+from pages import drawn_of, printed, texts
+from generators.links import some_queues
+from models.links import written
 from models.picture import label
 from models.races import closest_of
 from models.reading import Draft
@@ -110,6 +114,18 @@ def check_picture(tree, drawn):
     expect(shown(tree, "number right", "number left") == numbers, "numbers")
 
 
+def queues_of(drawn):
+    """The queues of a chart in words."""
+    return written(drawn.queues.usual, drawn.queues.others(drawn.names))
+
+
+def check_verdict(tree, drawn, races, closest):
+    """The line below the heading of a picture tells the queues, and how many races there are."""
+    found = f"{len(races)} race{'s' * (len(races) != 1)}, {len(closest)} closest"
+    wanted = f"{queues_of(drawn)}: {found if races else 'pass'}"
+    expect([it.text for it in of_class(tree, "verdict")] == [wanted], "verdict", wanted)
+
+
 def masked(text):
     return "".join(chr(b) if b == 10 or 32 <= b <= 126 else "?" for b in text)
 
@@ -127,17 +143,20 @@ def check_report(page, text, drawn, closest):
         check_picture(figure, drawn)
     expect(bool(figures) == bool(drawn.names), "the picture of the chart")
     expect(tree.find(".//pre").text == masked(Draft(text).canonical()), "the canonical text")
+    expect(f"({queues_of(drawn)})" in of_class(tree, "soft")[0].text, "queues", queues_of(drawn))
 
 
-def check_all(program, text, pick):
+def check_all(program, text, pick, is_uniform=False):
     """Reads what is printed of a chart; answers how many pages that were."""
     pages = 1
     check_picture(read(printed(program, ["draw", "--svg"], text)), drawn_of(text, "pair"))
-    for queues in QUEUES:
-        drawn, asked = drawn_of(text, queues), ["--queues", queues]
+    for given, queues in some_queues(pick, text.decode("latin-1"), is_uniform):
+        drawn, asked = drawn_of(text, queues), given.words()
         races = drawn.races()
         closest = closest_of(drawn, races)
-        check_picture(read(printed(program, ["draw", *asked, "--svg"], text)), drawn)
+        tree = read(printed(program, ["draw", *asked, "--svg"], text))
+        check_picture(tree, drawn)
+        check_verdict(tree, drawn, races, closest)
         check_report(printed(program, ["report", *asked], text), text, drawn, closest)
         if races:
             run = printed(program, ["reverse", *asked, "--svg"], text, pick.choice(races))
@@ -152,12 +171,13 @@ def main():
     words.add_argument("--charts", type=int, default=60, metavar="N")
     words.add_argument("--messages", type=int, default=12, metavar="M")
     words.add_argument("--seed", type=int, default=1, metavar="S")
+    words.add_argument("--uniform", action="store_true")
     words.add_argument("program", metavar="PROGRAM")
     given = words.parse_args()
     pick, pages = random.Random(given.seed), 0
     for text in texts(given.charts, given.messages, given.seed):
         try:
-            pages += check_all(given.program, text, pick)
+            pages += check_all(given.program, text, pick, given.uniform)
         except (Wrong, xml.etree.ElementTree.ParseError) as wrong:
             print(f"{text!r}\n{wrong}")
             return 1

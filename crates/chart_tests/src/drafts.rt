@@ -71,3 +71,23 @@ endmsc;\n";
 fn a_written_draft_is_read_again(rt: HostRuntime) {
     assert!(rt; is_written_as(&rt, TEXT, CANONICAL));
 }
+
+/// The canonical text with a comment, in which an apostrophe is doubled.
+const COMMENTED: &[u8] = b"msc t comment 'queues pair; it''s';\ninst a, b, a;\n\
+instance a;\n  out m to b;\nendinstance;\nendmsc;\n";
+
+/// The canonical text of `TEXT` with a comment.
+fn commented(rt: &impl Host) -> Vec<u8> {
+    let draft = draft_of(rt, TEXT);
+    let comment: &[u8] = b"queues pair; it's";
+    draft
+        .write_with(rt.alloc(), Some(comment))
+        .expect(rt, "memory")
+}
+
+#[test]
+fn a_draft_with_a_comment_is_read_again(rt: HostRuntime) {
+    let written = commented(&rt);
+    assert!(rt; written.as_slice() == COMMENTED);
+    assert!(rt; canonical(&rt, COMMENTED).as_slice() == CANONICAL);
+}

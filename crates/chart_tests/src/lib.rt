@@ -6,6 +6,8 @@
 #[cfg(test)]
 mod actions;
 #[cfg(test)]
+mod architectures;
+#[cfg(test)]
 mod charts;
 #[cfg(test)]
 mod closest;

@@ -1,10 +1,10 @@
-//! Marks: comments of statements on races. The expected values were derived from the texts by hand,
+//! Marks: comments of statements on races; and the comment after a chart's name. The expected values were derived from the texts by hand,
 //! with the section on marks in `docs/MODEL.md`.
 
 use crate::charts::chart_of;
 use crate::host::Host;
 use msc_chart::{Event, Queues};
-use msc_mark::{Accepted, MarkFault, Marks};
+use msc_mark::{Accepted, MarkFault, Marks, chart_comment};
 use msc_race::Enforced;
 
 /// The text before the comment of event 5, and after it.
@@ -203,5 +203,36 @@ fn are_stale(rt: &impl Host, text: &[u8], queues: Queues, wanted: &[Event]) -> b
 fn marks_that_are_stale(rt: HostRuntime) {
     for &(text, queues, wanted) in STALE {
         assert!(rt; are_stale(&rt, text, queues, wanted), "{text:?}");
+    }
+}
+
+/// Charts, and the place and the bytes of the comment after the name.
+const AFTER_NAMES: &[(&[u8], Option<(usize, &[u8])>)] = &[
+    (b"msc t; endmsc;", None),
+    (
+        b"msc t comment 'queues pair'; endmsc;",
+        Some((14, b"queues pair")),
+    ),
+    (
+        b"msc t /* x */ comment /* y */ 'it''s'; endmsc;",
+        Some((30, b"it''s")),
+    ),
+    (b"msc t; instance a comment 'x'; endinstance; endmsc;", None),
+];
+
+/// Whether the comment after the name of a chart is this.
+fn is_after_name(rt: &impl Host, text: &[u8], wanted: Option<(usize, &[u8])>) -> bool {
+    let found = chart_comment(rt.alloc(), text).expect(rt, "memory");
+    match (found, wanted) {
+        (None, None) => true,
+        (Some(comment), Some((at, bytes))) => comment.at == at && comment.bytes == bytes,
+        _ => false,
+    }
+}
+
+#[test]
+fn comments_after_names(rt: HostRuntime) {
+    for &(text, wanted) in AFTER_NAMES {
+        assert!(rt; is_after_name(&rt, text, wanted), "{text:?}");
     }
 }

@@ -298,7 +298,7 @@ module _ {W : Type 0} (contents : W → Option (List ℕ)) where
 
   module _ (ask : ChartCommand) (words : LinkWords) (file : List ℕ) (s : SourceText) where
     -- words that give no queues are answered so
-    pub not_linked : (r : Refusal) (now : W) → IsLinked (usual_in ask) words s.chart (Err r)
+    pub not_linked : (r : Refusal) (now : W) → IsLinked (usual_in ask) words s (Err r)
         → Answers contents (PrintsLinked ask words file s) (RefusesLinked ask words s) (Err r) now now
     not_linked (refusals.Fault (Parse f)) now said = absurd said
     not_linked (refusals.Fault (Chart f)) now said = absurd said
@@ -312,14 +312,13 @@ module _ {W : Type 0} (contents : W → Option (List ℕ)) where
     not_linked (refusals.Rounds f) now said = absurd said
     not_linked (refusals.Import e) now said = absurd said
 
-    -- the same of a kind and a chart that are these
-    pub not_linked_at : (usual : LinkKind) (d : Drawing) → usual ≡ usual_in ask → d ≡ s.chart → (r : Refusal) (now : W)
-        → IsLinked usual words d (Err r) → Answers contents (PrintsLinked ask words file s) (RefusesLinked ask words s) (Err r) now now
-    not_linked_at usual d kind_is chart_is r now said =
-        not_linked r now (subst (λ (e : Drawing). IsLinked (usual_in ask) words e (Err r)) chart_is
-        (subst (λ (k : LinkKind). IsLinked k words d (Err r)) kind_is said))
+    -- the same of a kind that is this
+    pub not_linked_at : (usual : LinkKind) → usual ≡ usual_in ask → (r : Refusal) (now : W)
+        → IsLinked usual words s (Err r) → Answers contents (PrintsLinked ask words file s) (RefusesLinked ask words s) (Err r) now now
+    not_linked_at usual kind_is r now said =
+        not_linked r now (subst (λ (k : LinkKind). IsLinked k words s (Err r)) kind_is said)
 
-    module _ (queues : Queues) (linked : AreLinked (usual_in ask) words s.chart queues) where
+    module _ (queues : Queues) (linked : AreLinked (usual_in ask) words s queues) where
       -- what is refused under these queues
       refused_under : (r : Refusal) → RefusesOf (under queues ask) s r → RefusesLinked ask words s r
       refused_under (refusals.Fault (Parse f)) fails = absurd fails

@@ -57,7 +57,7 @@ printed_refused (tasks.Chart (chart_commands.Follow x) links) file text printed 
 printed_refused (tasks.Chart (chart_commands.Run queues patience) links) file text printed (d, of_text, (under, linked, (finished, same, says))) = absurd (never_finished finished same)
 printed_refused (tasks.Chart (chart_commands.List placed) links) file text printed (d, of_text, (under, linked, (event_positions, are, same, is))) = absurd cc
 printed_refused (tasks.Chart (chart_commands.Ready x) links) file text printed (d, of_text, (under, linked, (only, are, style, its, room, passed, same, says))) = absurd (never_ended passed same)
-printed_refused (tasks.Draw drawn) file text printed (d, is, (same, says)) = absurd cc
+printed_refused (tasks.Draw drawn words) file text printed (d, is, (queues, linked, (same, says))) = absurd cc
 printed_refused (tasks.Import x) file text printed (same, says) = absurd cc
 printed_refused (tasks.Scenarios x) file text printed says = diagram_refused (many_in x text) x file text printed refl says
 

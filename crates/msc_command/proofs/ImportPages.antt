@@ -1,5 +1,5 @@
 -- Why nothing is imported of a text, and what is printed of what is.
-use Rattle.std.proofs.Common.{◌≡◌, ℕ, true, List, Option, Result, Ok, Err, inl, inr, refl, sym, ◌∙◌}
+use Rattle.std.proofs.Common.{◌≡◌, ℕ, true, false, List, [], Option, Result, Ok, Err, inl, inr, refl, sym, ◌∙◌}
 use Rattle.msc_mermaid.specs.declared.fault.ImportFault.{ImportFault}
 use Rattle.msc_mermaid.specs.declared.fault.ImportFault.TheVariants as imports
 use Rattle.msc_import.specs.declared.importing.Imported.{Imported}
@@ -14,7 +14,7 @@ use Rattle.msc_source.specs.declared.fault.SourceFault.{SourceFault}
 use Rattle.msc_source.specs.declared.fault.SourceFault.TheVariants as sources
 use Rattle.msc_command.specs.Answering.{Answers}
 use Rattle.msc_command.specs.Ending.{of_import, of_import_fault}
-use Rattle.msc_command.specs.Importing.{IsChartOrFault, IsImport, IsImportedOn, IsNotImported, IsPageOf, PrintsImportPage, RefusesImport, wanted_of}
+use Rattle.msc_command.specs.Importing.{IsChartOrFault, IsCommentOf, IsImport, IsImportedOn, IsNotImported, IsPageOf, PrintsImportPage, RefusesImport, wanted_of}
 use Rattle.msc_command.specs.declared.ending.Refusal.{Refusal}
 use Rattle.msc_command.specs.declared.ending.Refusal.TheVariants as refusals
 use Rattle.msc_command.specs.declared.tasks.ImportArgs.{ImportArgs}
@@ -65,10 +65,10 @@ module _ (x : ImportArgs) (text file : List ℕ) where
   not_on_page (refusals.Rounds f) said = absurd said
 
   -- the page of what was imported
-  pub on_page : ImportsAreCharts → (is : Imported) (r : Result Page Refusal) → (imported (wanted_of x) text ≡ Ok is) × IsReadAgain is.draft → IsPageOf x.list file is r → IsImportedOn x file text r
+  pub on_page : ImportsAreCharts → (is : Imported) (r : Result Page Refusal) → (imported (wanted_of x) text ≡ Ok is) × IsReadAgain is.draft → IsPageOf x.list file text is r → IsImportedOn x file text r
   on_page charts is (Ok page) of_text prints = (is, of_text.0, of_text.1, prints)
   on_page charts is (Err (refusals.Fault Memory)) of_text said = tt
-  on_page charts is (Err (refusals.Fault (Chart f))) of_text said = absurd (charts (wanted_of x) text is of_text.0 f said.1.stands)
+  on_page charts is (Err (refusals.Fault (Chart f))) of_text said = absurd (charts (wanted_of x) text is of_text.0 f said.stands)
   on_page charts is (Err (refusals.Fault Device)) of_text said = absurd said
   on_page charts is (Err (refusals.Fault (Parse f))) of_text said = absurd said
   on_page charts is (Err (refusals.Fault (NotStarted i))) of_text said = absurd said
@@ -95,7 +95,27 @@ module _ (x : ImportArgs) (text file : List ℕ) where
   unprinted contents (refusals.Import e) now fails = (fails, refl)
 
 -- a draft that is no chart is not listed
-pub not_listed : (file : List ℕ) (is : Imported) (fault : SourceFault) → IsChartOrFault is.draft (Err fault) → IsPageOf true file is (Err (refusals.Fault (of_source fault)))
-not_listed file is (sources.Parse f) said = absurd said
-not_listed file is (sources.Chart f) said = (refl, said)
-not_listed file is sources.Memory said = tt
+pub not_listed : (file text : List ℕ) (is : Imported) (fault : SourceFault) → IsChartOrFault is.draft (Err fault) → IsPageOf true file text is (Err (refusals.Fault (of_source fault)))
+not_listed file text is (sources.Parse f) said = absurd said
+not_listed file text is (sources.Chart f) said = said
+not_listed file text is sources.Memory said = tt
+
+-- nor has its diagram a comment with queues
+pub no_comment : (text : List ℕ) (is : Imported) (fault : SourceFault) → IsChartOrFault is.draft (Err fault) → IsCommentOf text is (Err (refusals.Fault (of_source fault)))
+no_comment text is (sources.Parse f) said = absurd said
+no_comment text is (sources.Chart f) said = said
+no_comment text is sources.Memory said = tt
+
+-- so there is no text of it
+pub no_text : (text : List ℕ) (is : Imported) (refusal : Refusal) → IsCommentOf text is (Err refusal) → IsPageOf false [] text is (Err refusal)
+no_text text is (refusals.Fault Memory) said = tt
+no_text text is (refusals.Fault (Chart f)) said = said
+no_text text is (refusals.Fault Device) said = absurd said
+no_text text is (refusals.Fault (Parse f)) said = absurd said
+no_text text is (refusals.Fault (NotStarted i)) said = absurd said
+no_text text is (refusals.Import e) said = absurd said
+no_text text is (refusals.Pair f) said = absurd said
+no_text text is (refusals.Mark f) said = absurd said
+no_text text is (refusals.Instance name) said = absurd said
+no_text text is (refusals.Link fault) said = absurd said
+no_text text is (refusals.Rounds f) said = absurd said

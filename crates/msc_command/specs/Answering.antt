@@ -26,7 +26,7 @@ use Rattle.msc_text.specs.Judging.{JudgesChart, Passes}
 use Rattle.msc_text.specs.Readying.{PrintsReady}
 use Rattle.msc_text.specs.declared.judging.ChartFormat.{ChartFormat}
 use Rattle.msc_tool.specs.Running.{PrintsExecution}
-use Rattle.msc_command.specs.Drawing.{PrintsPage, RefusesDrawn}
+use Rattle.msc_command.specs.Drawing.{PrintsLinkedPage, RefusesLinkedPage}
 use Rattle.msc_command.specs.Ending.{ended_by, ends_as, finished_by}
 use Rattle.msc_command.specs.Formats.{IsFormat}
 use Rattle.msc_command.specs.Importing.{PrintsImportPage, RefusesImport}
@@ -112,16 +112,16 @@ RefusesOf ask s (refusals.Rounds fault) = RefusesRounds ask s.chart fault
 RefusesOf ask s (refusals.Fault (NotStarted i)) = FailsToStart ask s.chart i
 RefusesOf ask s refusal = ⊥
 
--- what is printed of a chart for a command, under the queues that the rules give
+-- what is printed of a chart for a command, under the queues that the rules and the text give
 abbrev pub PrintsLinked : ChartCommand → LinkWords → List ℕ → SourceText → Status → List ℕ → Type 0
 PrintsLinked ask words file s status printed =
-    (queues : Queues) × AreLinked (usual_in ask) words s.chart queues × PrintsOf (under queues ask) file s status printed
+    (queues : Queues) × AreLinked (usual_in ask) words s queues × PrintsOf (under queues ask) file s status printed
 
--- why there is nothing to print: a rule is faulty, or the command is refused under these queues
+-- why there is nothing to print: there are no queues, or the command is refused under them
 abbrev pub RefusesLinked : ChartCommand → LinkWords → SourceText → Refusal → Type 0
-RefusesLinked ask words s (refusals.Link fault) = HasLinkFault words s.chart fault
+RefusesLinked ask words s (refusals.Link fault) = HasLinkFault words s fault
 RefusesLinked ask words s refusal =
-    (queues : Queues) × AreLinked (usual_in ask) words s.chart queues × RefusesOf (under queues ask) s refusal
+    (queues : Queues) × AreLinked (usual_in ask) words s queues × RefusesOf (under queues ask) s refusal
 
 -- what is printed of the diagrams of a text: of all of them, if it holds such of which all are
 -- checked; else of the one
@@ -147,8 +147,8 @@ Prints Read file text status printed =
     (draft : Tree) × HasDraft text draft × (status ≡ Done) × (printed ≡ canonical draft)
 Prints (Chart ask words) file text status printed =
     (d : Drawing) × IsChartOf text d × PrintsLinked ask words file (source_text MscPr text d) status printed
-Prints (Draw drawn) file text status printed =
-    (d : Drawing) × (is : IsChartOf text d) × PrintsPage drawn is.draft (source_text MscPr text d) status printed
+Prints (Draw drawn words) file text status printed =
+    (d : Drawing) × (is : IsChartOf text d) × PrintsLinkedPage drawn words is.draft (source_text MscPr text d) status printed
 Prints (Import x) file text status printed = PrintsImportPage x file text status printed
 Prints (Scenarios x) file text status printed = PrintsDiagrams (many_in x text) x file text status printed
 
@@ -160,8 +160,8 @@ Refuses (Scenarios x) text refusal = RefusesDiagrams (many_in x text) x text ref
 Refuses task text (refusals.Fault (Parse f)) = HasParseFault text f
 Refuses (Chart ask words) text (refusals.Fault (faults.Chart f)) = (draft : Tree) × HasDraft text draft × IsFirstFault draft f
 Refuses (Chart ask words) text refusal = (d : Drawing) × IsChartOf text d × RefusesLinked ask words (source_text MscPr text d) refusal
-Refuses (Draw drawn) text (refusals.Fault (faults.Chart f)) = (draft : Tree) × HasDraft text draft × IsFirstFault draft f
-Refuses (Draw drawn) text refusal = (d : Drawing) × IsChartOf text d × RefusesDrawn drawn (source_text MscPr text d) refusal
+Refuses (Draw drawn words) text (refusals.Fault (faults.Chart f)) = (draft : Tree) × HasDraft text draft × IsFirstFault draft f
+Refuses (Draw drawn words) text refusal = (d : Drawing) × IsChartOf text d × RefusesLinkedPage drawn words (source_text MscPr text d) refusal
 Refuses Read text refusal = ⊥
 
 -- A task was done, where it is known what is right to print, with how the run ends then, what

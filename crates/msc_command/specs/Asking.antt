@@ -1,5 +1,5 @@
 -- What the words behind a command ask for, by what `clap` found of them.
-use Rattle.std.specs.Prelude.{◌≡◌, ◌<◌, ◌^◌, ◌&&◌, ◌||◌, not, ℕ, Bool, true, false, List, [], ◌++◌, Option, Some, None, codes, map, option_and_then, unwrap_or, cond, option_map, is_some, nat_le}
+use Rattle.std.specs.Prelude.{◌≡◌, ◌<◌, ◌^◌, ◌&&◌, ◌||◌, not, ℕ, Bool, true, false, List, [], ◌++◌, Option, Some, None, codes, map, option_and_then, unwrap_or, cond, option_map, is_some, length, nat_eq, nat_le}
 use Rattle.std.specs.List.{list_any}
 use Rattle.std.specs.Option.{option_map_or}
 use Rattle.std.specs.Str.{bytes_eq}
@@ -7,6 +7,8 @@ use Rattle.std.specs.Str.Parse.{IsNumeral, digits_value, without_leading_plus}
 use Rattle.clap.specs.Matches.{first_value, matched_of, one_text, raw_values}
 use Rattle.clap.specs.declared.parser.matches.Found.{Found}
 use Rattle.msc_chart.specs.Architectures.{link_kind_of_word}
+use Rattle.msc_chart.specs.declared.queue.LinkKind.{LinkKind}
+use Rattle.msc_chart.specs.declared.queue.LinkKind.TheVariants.{Pair}
 use Rattle.msc_chart.specs.declared.queue.Queues.{Queues}
 use Rattle.msc_chart.specs.declared.queue.Queues.TheVariants.{Uniform}
 use Rattle.msc_reason.specs.Causes.{kind_word}
@@ -50,9 +52,22 @@ use Rattle.msc_command.specs.declared.words.ArgName.TheVariants as words
 use Rattle.msc_command.specs.Importing.{gives_choices, gives_rounds, title_of}
 use Rattle.msc_command.specs.Words.{format_of_word, arg_word}
 
+-- the word by which a text is asked for its own queues
+abbrev pub is_own_word : List ℕ → Bool
+is_own_word word = bytes_eq word (codes "own")
+
+-- the kind of the links that no rule names, by a word for an architecture. A text that is asked for
+-- its own queues, and names none, has `pair`
+abbrev pub usual_by : List ℕ → Option LinkKind
+usual_by word = cond (is_own_word word) (Some Pair) (link_kind_of_word word)
+
 -- the architecture that the words name
 abbrev pub architecture : Found → Option Queues
-architecture found = option_map Uniform (option_and_then link_kind_of_word (first_value found (arg_word words.Queues)))
+architecture found = option_map Uniform (option_and_then usual_by (first_value found (arg_word words.Queues)))
+
+-- the words ask the text for its own queues
+abbrev pub asks_own : Found → Bool
+asks_own found = option_map_or is_own_word (first_value found (arg_word words.Queues)) false
 
 -- whether a flag stands among the words
 pub record IsFlag (found : Found) (id : List ℕ) (given : Bool) : Type 0 where
@@ -150,14 +165,26 @@ pub record IsEventStyle (found : Found) (event_style : EventStyle) : Type 0 wher
   pub places : IsFlag found (arg_word words.Places) event_style.places
   pub words_wanted : IsFlag found (arg_word words.Words) event_style.words
 
--- the rules for links that the words give
+-- what the words say of queues besides the architecture: the text is asked for its own, and rules
+-- for links
 pub record AreLinkWords (found : Found) (links : LinkWords) : Type 0 where
+  pub own : links.own ≡ asks_own found
   pub pairs : map (λ word. word.now) links.pairs.now ≡ args_of found (arg_word words.Pair)
   pub mailboxes : map (λ word. word.now) links.mailboxes.now ≡ args_of found (arg_word words.Mailbox)
   pub singles : map (λ word. word.now) links.singles.now ≡ args_of found (arg_word words.Single)
 
+-- the words give a rule of a kind
+abbrev pub has_rule : Found → ArgName → Bool
+has_rule found word = not (nat_eq (length (args_of found (arg_word word))) 0)
+
+-- the words give rules for links, and no architecture
+abbrev pub lacks_queues : Found → Bool
+lacks_queues found =
+    not (is_some (architecture found)) && (has_rule found words.Pair || (has_rule found words.Mailbox || has_rule found words.Single))
+
 -- there are none
 pub record HasNoLinks (links : LinkWords) : Type 0 where
+  pub own : links.own ≡ false
   pub pairs : links.pairs.now ≡ []
   pub mailboxes : links.mailboxes.now ≡ []
   pub singles : links.singles.now ≡ []
@@ -332,9 +359,11 @@ AsksFor command_names.Run found (Chart (Run queues patience) links) =
     × (architecture found ≡ Some queues) × AreLinkWords found links
 AsksFor command_names.List found (Chart (Listing placed) links) =
     IsFlag found (arg_word words.Places) placed × HasNoLinks links
-AsksFor command_names.Draw found (Draw (drawn.Chart queues format)) = (queues ≡ architecture found) × IsDrawnFormat found format
-AsksFor command_names.Reverse found (Draw (drawn.Run r)) = AreReverseArgs found r
-AsksFor command_names.Report found (Draw (drawn.Report queues)) = architecture found ≡ Some queues
+AsksFor command_names.Draw found (Draw (drawn.Chart queues format) links) =
+    (queues ≡ architecture found) × IsDrawnFormat found format × AreLinkWords found links × (lacks_queues found ≡ false)
+AsksFor command_names.Reverse found (Draw (drawn.Run r) links) = AreReverseArgs found r × AreLinkWords found links
+AsksFor command_names.Report found (Draw (drawn.Report queues) links) =
+    (architecture found ≡ Some queues) × AreLinkWords found links
 AsksFor command_names.Ready found (Chart (Ready x) links) = AreReadyArgs found x × AreLinkWords found links
 AsksFor command_names.Import found (Import x) = IsImporting found x
 AsksFor command_name found task = ⊥

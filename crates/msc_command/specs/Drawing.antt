@@ -1,5 +1,9 @@
 -- What is drawn of a chart.
-use Rattle.std.specs.Prelude.{◌≡◌, ℕ, List, Result, Ok, Err, codes}
+use Rattle.std.specs.Prelude.{◌≡◌, ℕ, List, Option, None, Some, Result, Ok, Err, codes}
+use Rattle.msc_chart.specs.declared.queue.LinkKind.{LinkKind}
+use Rattle.msc_chart.specs.declared.queue.LinkKind.TheVariants.{Pair}
+use Rattle.msc_chart.specs.declared.queue.Queues.{Queues}
+use Rattle.msc_chart.specs.Architectures.{usual_of}
 use Rattle.msc_draw.specs.Pictures.{IsNoRace, PrintsPicture, PrintsReversal}
 use Rattle.msc_html.specs.Findings.{PrintsReport}
 use Rattle.msc_print.specs.declared.page.Page.{Page}
@@ -7,6 +11,7 @@ use Rattle.msc_parser.specs.Grammar.{Tree}
 use Rattle.msc_report.specs.declared.fault.Fault.TheVariants.{Memory}
 use Rattle.msc_report.specs.declared.pair.NamedFault.TheVariants.{NoRace}
 use Rattle.msc_source.specs.Texts.{SourceText}
+use Rattle.msc_command.specs.Linked.{AreLinked, HasLinkFault}
 use Rattle.msc_command.specs.Naming.{AreTwoNamed, IsNamedFault}
 use Rattle.msc_command.specs.declared.ending.Refusal.{Refusal}
 use Rattle.msc_command.specs.declared.ending.Refusal.TheVariants as refusals
@@ -14,7 +19,22 @@ use Rattle.msc_command.specs.declared.ending.Status.{Status}
 use Rattle.msc_command.specs.declared.ending.Status.TheVariants.{Done}
 use Rattle.msc_command.specs.declared.tasks.Drawn.{Drawn}
 use Rattle.msc_command.specs.declared.tasks.Drawn.TheVariants.{Chart, Run, Report}
+use Rattle.msc_command.specs.declared.tasks.LinkWords.{LinkWords}
 use Rattle.msc_command.specs.declared.tasks.ReverseArgs.{ReverseArgs}
+
+-- the kind of the links that no rule names
+abbrev pub usual_drawn : Drawn → LinkKind
+usual_drawn (Chart None format) = Pair
+usual_drawn (Chart (Some queues) format) = usual_of queues
+usual_drawn (Run r) = usual_of r.queues
+usual_drawn (Report queues) = usual_of queues
+
+-- the same under another architecture; a chart that is drawn without one stays without one
+abbrev pub drawn_under : Queues → Drawn → Drawn
+drawn_under queues (Chart None format) = Chart None format
+drawn_under queues (Chart (Some other) format) = Chart (Some queues) format
+drawn_under queues (Run r) = Run (record r { queues = queues })
+drawn_under queues (Report other) = Report queues
 
 -- the version of the program
 abbrev pub version : List ℕ
@@ -50,3 +70,14 @@ IsDrawnOn drawn draft s (Err refusal) = RefusesDrawn drawn s refusal
 -- what is printed of it, and how the run ends
 abbrev pub PrintsPage : Drawn → Tree → SourceText → Status → List ℕ → Type 0
 PrintsPage drawn draft s status printed = (status ≡ Done) × PrintsDrawn drawn draft s printed
+
+-- what is printed under the queues that the rules and the text give
+abbrev pub PrintsLinkedPage : Drawn → LinkWords → Tree → SourceText → Status → List ℕ → Type 0
+PrintsLinkedPage drawn words draft s status printed =
+    (queues : Queues) × AreLinked (usual_drawn drawn) words s queues × PrintsPage (drawn_under queues drawn) draft s status printed
+
+-- why nothing is printed: there are no queues, or nothing is drawn under them
+abbrev pub RefusesLinkedPage : Drawn → LinkWords → SourceText → Refusal → Type 0
+RefusesLinkedPage drawn words s (refusals.Link fault) = HasLinkFault words s fault
+RefusesLinkedPage drawn words s refusal =
+    (queues : Queues) × AreLinked (usual_drawn drawn) words s queues × RefusesDrawn (drawn_under queues drawn) s refusal

@@ -2,9 +2,10 @@
 use Rattle.std.specs.Prelude.{ℕ, Bool, true, false, List}
 use Rattle.msc_chart.specs.declared.fault.UnrollFault.{UnrollFault}
 use Rattle.msc_chart.specs.declared.fault.UnrollFault.TheVariants as rounds
+use Rattle.msc_report.specs.declared.link.RulesOf.TheVariants as rules
 use Rattle.msc_report.specs.declared.fault.Fault.{Fault}
 use Rattle.msc_report.specs.declared.fault.Fault.TheVariants.{Parse, Chart, NotStarted, Memory, Device}
-use Rattle.msc_report.specs.Texts.{fault_line, instance_fault_line, link_fault_line, mark_fault_line, pair_fault_line, unroll_fault_line}
+use Rattle.msc_report.specs.Texts.{fault_line, instance_fault_line, link_fault_line, mark_fault_line, pair_fault_line, queues_fault_line, unroll_fault_line}
 use Rattle.msc_diagram.specs.Faults.{import_refusal_line}
 use Rattle.msc_import.specs.Importing.{seen}
 use Rattle.msc_mermaid.specs.declared.fault.ImportFault.{ImportFault}
@@ -12,6 +13,8 @@ use Rattle.msc_mermaid.specs.declared.fault.ImportFault.TheVariants as imports
 use Rattle.msc_import.specs.declared.importing.Refused.{Refused as NotImported}
 use Rattle.msc_mark.specs.declared.fault.MarkFault.{MarkFault}
 use Rattle.msc_mark.specs.declared.fault.MarkFault.TheVariants as marks
+use Rattle.msc_command.specs.declared.own.LinkRefusal.{LinkRefusal}
+use Rattle.msc_command.specs.declared.own.LinkRefusal.TheVariants.{Given, Text, Unclear}
 use Rattle.msc_command.specs.declared.ending.Status.{Status}
 use Rattle.msc_command.specs.declared.ending.Status.TheVariants.{Done, Races, Refused, Unfinished, Failed}
 use Rattle.msc_command.specs.declared.ending.Refusal.{Refusal}
@@ -73,12 +76,18 @@ of_import_fault e fault = refusals.Import e
 abbrev pub of_import : NotImported → Refusal
 of_import e = of_import_fault e e.fault
 
+-- the line of why there are no queues
+abbrev pub link_refusal_line : LinkRefusal → List ℕ
+link_refusal_line (Given fault) = link_fault_line rules.CommandLine fault
+link_refusal_line (Text fault place) = link_fault_line rules.Text fault
+link_refusal_line (Unclear place) = queues_fault_line place.number
+
 -- the line of a refusal
 abbrev pub refusal_line : Refusal → List ℕ
 refusal_line (refusals.Fault f) = fault_line f
 refusal_line (refusals.Pair f) = pair_fault_line f
 refusal_line (refusals.Mark f) = mark_fault_line f
 refusal_line (refusals.Instance name) = instance_fault_line name.now
-refusal_line (refusals.Link fault) = link_fault_line fault
+refusal_line (refusals.Link fault) = link_refusal_line fault
 refusal_line (refusals.Rounds f) = unroll_fault_line f
 refusal_line (refusals.Import e) = import_refusal_line (seen e)

@@ -22,9 +22,9 @@ use Rattle.msc_command.specs.Words.{format_word, value_kind_of, command_word, co
 use Rattle.msc_reason.specs.Causes.{kind_word}
 use Rattle.msc_reason.specs.declared.cause.RaceKind.TheVariants.{Early, Queues, Unordered, Overtaken}
 
--- the words of the architectures
+-- the words of the architectures, and the one for the text's own queues
 abbrev pub architecture_words : List Text
-architecture_words = link_word Pair ∷ link_word Mailbox ∷ link_word Single ∷ []
+architecture_words = link_word Pair ∷ link_word Mailbox ∷ link_word Single ∷ codes "own" ∷ []
 
 -- the words of the kinds of races
 abbrev pub kind_words : List Text

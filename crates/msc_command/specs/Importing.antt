@@ -1,5 +1,6 @@
 -- What is imported of a text, and what is printed of it.
-use Rattle.std.specs.Prelude.{◌≡◌, ◌+◌, ◌-◌, ◌*◌, ◌&&◌, ◌||◌, ◌==◌, nat_le, not, ℕ, zero, suc, ◌++◌, Bool, true, false, cond, List, [], ◌∷◌, length, take, drop, map, Option, None, Some, Result, Ok, Err, codes, option_map, option_and_then, is_some, unwrap_or}
+use Rattle.std.specs.Prelude.{◌≡◌, ◌+◌, ◌-◌, ◌*◌, ◌&&◌, ◌||◌, ◌==◌, nat_le, not, ℕ, zero, suc, ◌++◌, Bool, true, false, cond, List, [], ◌∷◌, length, take, drop, map, Option, None, Some, Result, Ok, Err, codes, option_map, option_and_then, is_some, unwrap_or, MatchOption}
+use Rattle.std.specs.Global.{Vec}
 use Rattle.std.specs.List.{list_all, list_any, slice_split, suffix_len}
 use Rattle.std.specs.Option.{option_map_or}
 use Rattle.std.specs.Str.{bytes_eq}
@@ -10,13 +11,20 @@ use Rattle.msc_import.specs.declared.importing.Imported.{Imported}
 use Rattle.msc_import.specs.Drafting.{IsReadAgain}
 use Rattle.msc_import.specs.Importing.{Refusal as Said, Wanted, imported, seen}
 use Rattle.msc_print.specs.declared.page.Page.{Page}
-use Rattle.msc_parser.specs.Canonical.{canonical}
+use Rattle.msc_links.specs.Comments.{Reading, says_nothing, unreadable, says, own_text, reading_of}
+use Rattle.msc_links.specs.Said.{HasFault, SaysOwn}
+use Rattle.msc_links.specs.declared.comment.OwnQueues.{OwnQueues}
+use Rattle.msc_links.specs.declared.line.LineNames.{LineNames}
+use Rattle.msc_mermaid.specs.declared.statement.Span.{Span}
+use Rattle.msc_parser.specs.Canonical.{canonical_with}
 use Rattle.msc_parser.specs.Grammar.{Tree}
 use Rattle.msc_report.specs.declared.fault.Fault.TheVariants.{Chart, Memory}
 use Rattle.msc_place.specs.EventPositions.{event_positions_in}
 use Rattle.msc_report.specs.Lists.{listed_text}
 use Rattle.msc_source.specs.declared.fault.SourceFault.{SourceFault}
 use Rattle.msc_source.specs.declared.fault.SourceFault.TheVariants as sources
+use Rattle.msc_command.specs.Linked.{AreNamesOf}
+use Rattle.msc_command.specs.Spans.{bytes_at}
 use Rattle.msc_command.specs.declared.ending.Refusal.{Refusal}
 use Rattle.msc_command.specs.declared.ending.Refusal.TheVariants as refusals
 use Rattle.msc_command.specs.declared.ending.Status.{Status}
@@ -132,11 +140,55 @@ wanted_with x choices = record {
 abbrev pub wanted_of : ImportArgs → Wanted
 wanted_of x = wanted_with x.diagram (option_map (λ c. choices_in c.now) x.choose)
 
--- What is printed of what was imported: its canonical text, or of its chart the list of its events,
--- with the places of their arrows in the file.
-abbrev pub PrintsImported : Bool → List ℕ → Imported → List ℕ → Type 0
-PrintsImported false file is printed = printed ≡ canonical is.draft
-PrintsImported true file is printed =
+-- what a comment line says of queues; servers may be named in it
+abbrev pub line_reading : List ℕ → Span → Reading
+line_reading text c = reading_of (drop 2 (bytes_at text c))
+
+-- the first of two readings that says something
+abbrev pub reading_first : Reading → Reading → Reading
+reading_first says_nothing other = other
+reading_first unreadable other = unreadable
+reading_first (says own) other = says own
+
+-- how the first of these comment lines reads that says something
+unfoldable pub first_reading : List ℕ → List Span → Reading
+first_reading text [] = says_nothing
+first_reading text (c ∷ cs) = reading_first (line_reading text c) (first_reading text cs)
+
+-- what the code has found by such a reading: nothing if it says nothing or cannot be read
+abbrev pub IsFirstOwn : Reading → Option OwnQueues → Type 0
+IsFirstOwn says_nothing own = own ≡ None
+IsFirstOwn unreadable own = own ≡ None
+IsFirstOwn (says said) own = (queues : OwnQueues) × (own_text queues ≡ said) × (own ≡ Some queues)
+
+-- The comment with the queues that a diagram names itself, by the reading of its comment lines: it has
+-- the made names of the lines. There is none if the diagram names no queues, or if a rule has a fault.
+abbrev pub IsOwnComment : Reading → List ℕ → Imported → Option (List ℕ) → Type 0
+IsOwnComment says_nothing text is comment = comment ≡ None
+IsOwnComment unreadable text is comment = comment ≡ None
+IsOwnComment (says said) text is comment =
+    (queues : OwnQueues) × (own_text queues ≡ said)
+    × (names : List LineNames) × AreNamesOf text is.spans (chart_of is.draft) names
+    × MatchOption comment (HasFault names queues.rules.items) (SaysOwn names queues)
+
+-- the same of what was imported of a text
+abbrev pub IsCommentIn : List ℕ → Imported → Option (List ℕ) → Type 0
+IsCommentIn text is comment = IsOwnComment (first_reading text is.spans.comments) text is comment
+
+-- that comment, or why there is none: memory ran out, or the draft is no chart
+abbrev pub IsCommentOf : List ℕ → Imported → Result (Option (Vec ℕ)) Refusal → Type 0
+IsCommentOf text is (Ok comment) = IsCommentIn text is (option_map (λ c. c.items) comment)
+IsCommentOf text is (Err (refusals.Fault Memory)) = Unit {0}
+IsCommentOf text is (Err (refusals.Fault (Chart f))) = IsFirstFault is.draft f
+IsCommentOf text is (Err refusal) = ⊥
+
+-- What is printed of what was imported of a text: its canonical text, with the queues that the
+-- diagram names itself; or of its chart the list of its events, with the places of their arrows in
+-- the file.
+abbrev pub PrintsImported : Bool → List ℕ → List ℕ → Imported → List ℕ → Type 0
+PrintsImported false file text is printed =
+    (comment : Option (List ℕ)) × IsCommentIn text is comment × (printed ≡ canonical_with comment is.draft)
+PrintsImported true file text is printed =
     IsFaultless is.draft × (printed ≡ listed_text (chart_of is.draft) (Some (event_positions_in file is.places)))
 
 -- the chart of a draft, or its first fault, or memory ran out
@@ -147,11 +199,11 @@ IsChartOrFault draft (Err sources.Memory) = Unit {0}
 IsChartOrFault draft (Err fault) = ⊥
 
 -- the page with that, or why there is none: memory ran out, or the draft is no chart
-abbrev pub IsPageOf : Bool → List ℕ → Imported → Result Page Refusal → Type 0
-IsPageOf list file is (Ok page) = PrintsImported list file is page.bytes.items
-IsPageOf list file is (Err (refusals.Fault Memory)) = Unit {0}
-IsPageOf list file is (Err (refusals.Fault (Chart f))) = (list ≡ true) × IsFirstFault is.draft f
-IsPageOf list file is (Err refusal) = ⊥
+abbrev pub IsPageOf : Bool → List ℕ → List ℕ → Imported → Result Page Refusal → Type 0
+IsPageOf list file text is (Ok page) = PrintsImported list file text is page.bytes.items
+IsPageOf list file text is (Err (refusals.Fault Memory)) = Unit {0}
+IsPageOf list file text is (Err (refusals.Fault (Chart f))) = IsFirstFault is.draft f
+IsPageOf list file text is (Err refusal) = ⊥
 
 -- why nothing is imported: as this says, or memory ran out
 abbrev pub IsNotImported : {A : Type 0} → Result A Said → Refusal → Type 0
@@ -171,7 +223,7 @@ IsImport x text answer = IsImportAs (wanted_of x) text answer
 -- draft
 abbrev pub PrintsImport : ImportArgs → List ℕ → List ℕ → List ℕ → Type 0
 PrintsImport x file text printed =
-    (is : Imported) × (imported (wanted_of x) text ≡ Ok is) × IsReadAgain is.draft × PrintsImported x.list file is printed
+    (is : Imported) × (imported (wanted_of x) text ≡ Ok is) × IsReadAgain is.draft × PrintsImported x.list file text is printed
 
 -- why nothing is printed: nothing is imported. What is imported is a chart
 abbrev pub RefusesImport : ImportArgs → List ℕ → Refusal → Type 0

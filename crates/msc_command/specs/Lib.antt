@@ -14,6 +14,8 @@ pub mod Drawing
 pub mod Ending
 pub mod Refused
 pub mod Charting
+pub mod Spans
+pub mod Own
 pub mod Linked
 pub mod Scenarios
 pub mod Surveys

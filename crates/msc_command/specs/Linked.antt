@@ -1,5 +1,6 @@
--- The queues of a chart or a diagram by the architecture and the rules of a command line.
-use Rattle.std.specs.Prelude.{◌≡◌, ◌⊎◌, ℕ, zero, suc, Bool, true, ◌&&◌, cond, List, [], ◌∷◌, ◌++◌, get_or, length, map, nat_eq, nat_le, slice_get, slice_range, Option, None, Some, Result, Ok, Err}
+-- The queues of a chart or a diagram by the architecture and the rules of a command line, and by what
+-- the text itself says of them.
+use Rattle.std.specs.Prelude.{◌≡◌, ◌⊎◌, ℕ, zero, suc, Bool, true, not, ◌&&◌, List, [], ◌∷◌, ◌++◌, get_or, length, map, nat_eq, slice_get, Option, None, Some, Result, Ok, Err}
 use Rattle.msc_chart.specs.declared.queue.LinkKind.{LinkKind}
 use Rattle.msc_chart.specs.declared.queue.LinkKind.TheVariants as kinds
 use Rattle.msc_chart.specs.declared.queue.Queues.{Queues}
@@ -10,12 +11,20 @@ use Rattle.msc_import.specs.declared.drawings.Scenario.{Scenario as Drawn}
 use Rattle.msc_import.specs.declared.spanning.TextSpans.{TextSpans}
 use Rattle.msc_links.specs.declared.fault.LinkFault.{LinkFault}
 use Rattle.msc_links.specs.declared.fault.RulesFault.{RulesFault}
-use Rattle.msc_links.specs.declared.fault.RulesFault.TheVariants.{Text, Given}
+use Rattle.msc_links.specs.declared.fault.RulesFault.TheVariants as faults
 use Rattle.msc_links.specs.declared.line.LineNames.{LineNames}
 use Rattle.msc_links.specs.declared.rule.Rule.{Rule}
+use Rattle.msc_links.specs.Comments.{OwnText, own_text, plain_rules}
 use Rattle.msc_links.specs.Rules.{AreRuled, IsRulesFault}
 use Rattle.msc_mermaid.specs.declared.statement.Span.{Span}
 use Rattle.msc_report.specs.declared.fault.Fault.TheVariants.{Memory}
+use Rattle.msc_source.specs.Texts.{SourceText}
+use Rattle.msc_command.specs.Own.{OwnSaid, silent, unclear, named, said_in, SaysIf, SaysInChart, ShowsInChart, ShowsInDiagram}
+use Rattle.msc_command.specs.Spans.{bytes_at, bytes_if}
+use Rattle.msc_command.specs.declared.own.LinkRefusal.{LinkRefusal}
+use Rattle.msc_command.specs.declared.own.LinkRefusal.TheVariants as refused
+use Rattle.msc_command.specs.declared.own.OwnComment.{OwnComment}
+use Rattle.msc_command.specs.declared.own.OwnPlace.{OwnPlace}
 use Rattle.msc_command.specs.declared.ending.Refusal.{Refusal}
 use Rattle.msc_command.specs.declared.ending.Refusal.TheVariants as refusals
 use Rattle.msc_command.specs.declared.tasks.ChartCommand.{ChartCommand}
@@ -57,16 +66,6 @@ made_name d i = get_or d.instances i []
 abbrev pub AreNamesIn : Drawing → List LineNames → Type 0
 AreNamesIn d names = AreNames (made_name d) (made_name d) (made_name d) (length d.instances) names
 
--- the bytes of a text in a span, or none if the text is shorter
-abbrev pub bytes_at : List ℕ → Span → List ℕ
-bytes_at text span =
-    cond (nat_le span.first span.past && nat_le span.past (length text)) (slice_range text span.first span.past) []
-
--- the bytes in a span if there is one
-abbrev pub bytes_if : List ℕ → Option Span → List ℕ
-bytes_if text None = []
-bytes_if text (Some span) = bytes_at text span
-
 -- the name by which a text calls line i
 abbrev pub own_name : List ℕ → List Span → ℕ → List ℕ
 own_name text names i = bytes_if text (slice_get names i)
@@ -88,76 +87,135 @@ AreNamesOf text spans d names =
 
 -- the fault of a rule, in whichever list it is
 abbrev pub link_fault : RulesFault → LinkFault
-link_fault (Text fault) = fault
-link_fault (Given fault) = fault
+link_fault (faults.Text fault) = fault
+link_fault (faults.Given fault) = fault
 
 -- the rules of a command line, of which this is said
 abbrev pub OfRules : LinkWords → (List Rule → Type 0) → Type 0
 OfRules words says = (rules : List Rule) × (seen_rules rules ≡ rules_in words) × says rules
 
--- the queues that these words give for lines with these names
-abbrev pub AreRuledBy : LinkKind → LinkWords → List LineNames → Queues → Type 0
-AreRuledBy usual words names queues = OfRules words (λ rules. AreRuled usual [] rules names queues)
+-- the rules that a text names itself, of which this is said
+abbrev pub OfOwn : OwnText → (List Rule → Type 0) → Type 0
+OfOwn own says = (rules : List Rule) × (plain_rules rules ≡ own.rules) × says rules
 
--- the words have this fault, the first one, for lines with these names
-abbrev pub HasRuleFault : LinkWords → List LineNames → LinkFault → Type 0
-HasRuleFault words names fault =
-    OfRules words (λ rules. (found : RulesFault) × (link_fault found ≡ fault) × IsRulesFault [] rules names found)
+-- the queues that the words and the rules of a text give for lines with these names
+abbrev pub AreRuledWith : OwnText → LinkWords → List LineNames → Queues → Type 0
+AreRuledWith own words names queues =
+    OfOwn own (λ text. OfRules words (λ given. AreRuled own.usual text given names queues))
 
--- the queues for lines with these names, or why the words give none
-abbrev pub IsRuledBy : LinkKind → LinkWords → List LineNames → Result Queues Refusal → Type 0
-IsRuledBy usual words names (Ok queues) = AreRuledBy usual words names queues
-IsRuledBy usual words names (Err (refusals.Link fault)) = HasRuleFault words names fault
-IsRuledBy usual words names (Err (refusals.Fault Memory)) = Unit {0}
-IsRuledBy usual words names (Err refusal) = ⊥
+-- the words have this fault, and the rules of the text have none
+abbrev pub HasGivenFaultWith : OwnText → LinkWords → List LineNames → LinkFault → Type 0
+HasGivenFaultWith own words names fault =
+    OfOwn own (λ text. OfRules words (λ given. IsRulesFault text given names (faults.Given fault)))
 
--- the queues of a chart by these words: links that no rule names are of the usual kind
-abbrev pub AreLinked : LinkKind → LinkWords → Drawing → Queues → Type 0
-AreLinked usual words d queues = (names : List LineNames) × AreNamesIn d names × AreRuledBy usual words names queues
+-- the rules of the text have this fault, the first one
+abbrev pub HasTextFault : OwnText → LinkWords → List LineNames → LinkFault → Type 0
+HasTextFault own words names fault =
+    OfOwn own (λ text. OfRules words (λ given. IsRulesFault text given names (faults.Text fault)))
 
--- the words have this fault, the first one, for a chart
-abbrev pub HasLinkFault : LinkWords → Drawing → LinkFault → Type 0
-HasLinkFault words d fault = (names : List LineNames) × AreNamesIn d names × HasRuleFault words names fault
+-- the queues by what the text says. If it names none, links are of the usual kind of the command line
+abbrev pub AreRuledBy : LinkKind → OwnSaid → LinkWords → List LineNames → Queues → Type 0
+AreRuledBy usual silent words names queues = OfRules words (λ given. AreRuled usual [] given names queues)
+AreRuledBy usual (unclear at) words names queues = ⊥
+AreRuledBy usual (named at own) words names queues = AreRuledWith own words names queues
 
--- the queues of a chart, or why the words give none
-abbrev pub IsLinked : LinkKind → LinkWords → Drawing → Result Queues Refusal → Type 0
-IsLinked usual words d (Ok queues) = AreLinked usual words d queues
-IsLinked usual words d (Err (refusals.Link fault)) = HasLinkFault words d fault
-IsLinked usual words d (Err (refusals.Fault Memory)) = Unit {0}
-IsLinked usual words d (Err refusal) = ⊥
+-- the words have this fault, the first one of all
+abbrev pub HasGivenFault : OwnSaid → LinkWords → List LineNames → LinkFault → Type 0
+HasGivenFault silent words names fault =
+    OfRules words (λ given. (found : RulesFault) × (link_fault found ≡ fault) × IsRulesFault [] given names found)
+HasGivenFault (unclear at) words names fault = ⊥
+HasGivenFault (named at own) words names fault = HasGivenFaultWith own words names fault
 
--- the same of a diagram by one of its scenarios
-abbrev pub AreLinkedAt : LinkKind → LinkWords → List ℕ → Drawn → Queues → Type 0
-AreLinkedAt usual words text s queues =
-    (names : List LineNames) × AreNamesOf text s.spans (chart_of s.draft) names × AreRuledBy usual words names queues
+-- what rules give lines with these names if the text names no queues
+abbrev pub IsRuledWithout : LinkKind → LinkWords → List LineNames → Result Queues Refusal → Type 0
+IsRuledWithout usual words names (Ok queues) = AreRuledBy usual silent words names queues
+IsRuledWithout usual words names (Err (refusals.Link (refused.Given fault))) = HasGivenFault silent words names fault
+IsRuledWithout usual words names (Err (refusals.Fault Memory)) = Unit {0}
+IsRuledWithout usual words names (Err refusal) = ⊥
 
-abbrev pub HasLinkFaultAt : LinkWords → List ℕ → Drawn → LinkFault → Type 0
-HasLinkFaultAt words text s fault =
-    (names : List LineNames) × AreNamesOf text s.spans (chart_of s.draft) names × HasRuleFault words names fault
+-- what rules give them if it names queues in the comment that the code has found
+abbrev pub IsRuledWith : OwnComment → LinkWords → List LineNames → Result Queues Refusal → Type 0
+IsRuledWith own words names (Ok queues) = AreRuledWith (own_text own.queues) words names queues
+IsRuledWith own words names (Err (refusals.Link (refused.Given fault))) = HasGivenFaultWith (own_text own.queues) words names fault
+IsRuledWith own words names (Err (refusals.Link (refused.Text fault place))) =
+    (place ≡ own.place) × HasTextFault (own_text own.queues) words names fault
+IsRuledWith own words names (Err (refusals.Fault Memory)) = Unit {0}
+IsRuledWith own words names (Err refusal) = ⊥
 
+-- what rules give them, whether it names queues or not
+abbrev pub IsRuledBy : LinkKind → Option OwnComment → LinkWords → List LineNames → Result Queues Refusal → Type 0
+IsRuledBy usual None words names result = IsRuledWithout usual words names result
+IsRuledBy usual (Some own) words names result = IsRuledWith own words names result
+
+-- The queues of lines. What the text says and which names the lines have is given.
+abbrev pub AreLinkedBy : (OwnSaid → Type 0) → (List LineNames → Type 0) → LinkKind → LinkWords → Queues → Type 0
+AreLinkedBy says are_names usual words queues =
+    (said : OwnSaid) × says said × (names : List LineNames) × are_names names × AreRuledBy usual said words names queues
+
+-- Why the words and the text give no queues. How a place is shown is given, too.
+abbrev pub HasFaultBy : (OwnSaid → Type 0) → (ℕ → OwnPlace → Type 0) → (List LineNames → Type 0) → LinkWords → LinkRefusal → Type 0
+HasFaultBy says shows are_names words (refused.Given fault) =
+    (said : OwnSaid) × says said × (names : List LineNames) × are_names names × HasGivenFault said words names fault
+HasFaultBy says shows are_names words (refused.Text fault place) =
+    (at : ℕ) × (own : OwnText) × says (named at own) × shows at place
+    × (names : List LineNames) × are_names names × HasTextFault own words names fault
+HasFaultBy says shows are_names words (refused.Unclear place) = (at : ℕ) × says (unclear at) × shows at place
+
+-- the queues of lines, or why there are none
+abbrev pub IsLinkedBy : (OwnSaid → Type 0) → (ℕ → OwnPlace → Type 0) → (List LineNames → Type 0) → LinkKind → LinkWords → Result Queues Refusal → Type 0
+IsLinkedBy says shows are_names usual words (Ok queues) = AreLinkedBy says are_names usual words queues
+IsLinkedBy says shows are_names usual words (Err (refusals.Link fault)) = HasFaultBy says shows are_names words fault
+IsLinkedBy says shows are_names usual words (Err (refusals.Fault Memory)) = Unit {0}
+IsLinkedBy says shows are_names usual words (Err refusal) = ⊥
+
+-- what a text says that has this chart, if it is asked
+abbrev pub ChartSays : LinkWords → SourceText → OwnSaid → Type 0
+ChartSays words s = SaysIf words.own (SaysInChart s.text)
+
+-- the queues of a chart: links that no rule names are of the usual kind
+abbrev pub AreLinked : LinkKind → LinkWords → SourceText → Queues → Type 0
+AreLinked usual words s queues = AreLinkedBy (ChartSays words s) (AreNamesIn s.chart) usual words queues
+
+-- why a chart has no queues
+abbrev pub HasLinkFault : LinkWords → SourceText → LinkRefusal → Type 0
+HasLinkFault words s fault = HasFaultBy (ChartSays words s) (ShowsInChart s.text) (AreNamesIn s.chart) words fault
+
+-- the queues of a chart, or why there are none
+abbrev pub IsLinked : LinkKind → LinkWords → SourceText → Result Queues Refusal → Type 0
+IsLinked usual words s result =
+    IsLinkedBy (ChartSays words s) (ShowsInChart s.text) (AreNamesIn s.chart) usual words result
+
+-- what the text of a diagram says by one of its scenarios, if it is asked
+abbrev pub DiagramSays : LinkWords → List ℕ → Drawn → OwnSaid → Type 0
+DiagramSays words text s = SaysIf words.own (λ said. said ≡ said_in text s.spans.comments)
+
+-- the names of the lines of a diagram by one of its scenarios
+abbrev pub AreNamesAt : List ℕ → Drawn → List LineNames → Type 0
+AreNamesAt text s names = AreNamesOf text s.spans (chart_of s.draft) names
+
+-- the queues of a diagram by one of its scenarios, or why there are none
 abbrev pub IsLinkedAt : LinkKind → LinkWords → List ℕ → Drawn → Result Queues Refusal → Type 0
-IsLinkedAt usual words text s (Ok queues) = AreLinkedAt usual words text s queues
-IsLinkedAt usual words text s (Err (refusals.Link fault)) = HasLinkFaultAt words text s fault
-IsLinkedAt usual words text s (Err (refusals.Fault Memory)) = Unit {0}
-IsLinkedAt usual words text s (Err refusal) = ⊥
+IsLinkedAt usual words text s result =
+    IsLinkedBy (DiagramSays words text s) (ShowsInDiagram text) (AreNamesAt text s) usual words result
 
--- the words give no rules
+-- the words give no rules, and the text is not asked for its own
 abbrev pub has_none : LinkWords → Bool
 has_none words =
-    (nat_eq (length words.pairs.now) 0 && nat_eq (length words.mailboxes.now) 0) && nat_eq (length words.singles.now) 0
+    not words.own && ((nat_eq (length words.pairs.now) 0 && nat_eq (length words.mailboxes.now) 0) && nat_eq (length words.singles.now) 0)
 
 -- the queues of a diagram with these scenarios: those by the first one, or the usual kind without rules
 abbrev pub AreLinkedIn : LinkKind → LinkWords → List ℕ → List Drawn → Queues → Type 0
 AreLinkedIn usual words text [] queues = queues ≡ Uniform usual
 AreLinkedIn usual words text (s ∷ scenarios) queues =
-    ((has_none words ≡ true) × (queues ≡ Uniform usual)) ⊎ AreLinkedAt usual words text s queues
+    ((has_none words ≡ true) × (queues ≡ Uniform usual)) ⊎ IsLinkedAt usual words text s (Ok queues)
 
--- the words have this fault, the first one, for a diagram with these scenarios
-abbrev pub HasLinkFaultIn : LinkWords → List ℕ → List Drawn → LinkFault → Type 0
+-- why a diagram with these scenarios has no queues
+abbrev pub HasLinkFaultIn : LinkWords → List ℕ → List Drawn → LinkRefusal → Type 0
 HasLinkFaultIn words text [] fault = ⊥
-HasLinkFaultIn words text (s ∷ scenarios) fault = HasLinkFaultAt words text s fault
+HasLinkFaultIn words text (s ∷ scenarios) fault =
+    HasFaultBy (DiagramSays words text s) (ShowsInDiagram text) (AreNamesAt text s) words fault
 
--- the queues of a diagram, or why the words give none
+-- the queues of a diagram, or why there are none
 abbrev pub IsLinkedIn : LinkKind → LinkWords → List ℕ → List Drawn → Result Queues Refusal → Type 0
 IsLinkedIn usual words text scenarios (Ok queues) = AreLinkedIn usual words text scenarios queues
 IsLinkedIn usual words text scenarios (Err (refusals.Link fault)) = HasLinkFaultIn words text scenarios fault

@@ -4,7 +4,7 @@ use Rattle.std.specs.Borrow.{Bor}
 use Rattle.clap.specs.Matches.{first_value}
 use Rattle.clap.specs.declared.parser.matches.Found.{Found}
 use Rattle.msc_report.specs.declared.pair.EventName.{EventName}
-use Rattle.msc_command.specs.Asking.{architecture, default_limit, is_limit, is_of_scenarios, lacks_from, lacks_rounds, IsEventWord, IsFlag, IsNoName, IsOptionNumber, IsTwofold}
+use Rattle.msc_command.specs.Asking.{architecture, default_limit, is_limit, is_of_scenarios, lacks_from, lacks_queues, lacks_rounds, IsEventWord, IsFlag, IsNoName, IsOptionNumber, IsTwofold}
 use Rattle.msc_command.specs.Importing.{gives_choices, gives_rounds}
 use Rattle.msc_command.specs.Words.{arg_word}
 use Rattle.msc_command.specs.declared.misuse.Misuse.{Misuse}
@@ -93,7 +93,7 @@ pub record IsImportMisuse (found : Found) (misuse : Misuse) : Type 0 where
 abbrev pub IsWordMisuse : CommandName → Found → Misuse → Type 0
 IsWordMisuse command_names.Read found misuse = ⊥
 IsWordMisuse command_names.List found misuse = ⊥
-IsWordMisuse command_names.Draw found misuse = ⊥
+IsWordMisuse command_names.Draw found misuse = (misuse ≡ NoQueues) × (lacks_queues found ≡ true)
 IsWordMisuse command_names.Import found misuse = IsImportMisuse found misuse
 IsWordMisuse command_names.Check found misuse = IsQueuesMisuse found misuse ⊎ IsCheckMisuse found misuse
 IsWordMisuse command_names.Explain found misuse = IsQueuesMisuse found misuse ⊎ IsPairMisuse found misuse

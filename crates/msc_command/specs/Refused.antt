@@ -8,9 +8,12 @@ use Rattle.msc_notes.specs.Faults.{parse_place, IsChartPlace}
 use Rattle.msc_notes.specs.Texts.{error_text, IsFaultPosition}
 use Rattle.msc_parser.specs.Grammar.{Tree}
 use Rattle.msc_parser.specs.Parsing.{HasDraft, HasParseFault}
+use Rattle.msc_place.specs.EventPositions.{beginning}
 use Rattle.msc_place.specs.declared.position.Position.{Position}
 use Rattle.msc_report.specs.declared.fault.Fault.TheVariants.{Parse, Chart, Memory, Device}
 use Rattle.msc_command.specs.Ending.{refusal_line}
+use Rattle.msc_command.specs.declared.own.LinkRefusal.{LinkRefusal}
+use Rattle.msc_command.specs.declared.own.LinkRefusal.TheVariants.{Given, Text, Unclear}
 use Rattle.msc_command.specs.declared.ending.Refusal.{Refusal}
 use Rattle.msc_command.specs.declared.ending.Refusal.TheVariants as refusals
 use Rattle.msc_command.specs.declared.tasks.ChartCommand.TheVariants.{Check}
@@ -32,10 +35,18 @@ IsPlaceOf text (refusals.Fault (Chart f)) place = (t : Tree) → HasDraft text t
 IsPlaceOf text (refusals.Mark f) place = place ≡ mark_place f
 IsPlaceOf text refusal place = place ≡ None
 
+-- this is the position of why there are no queues: the beginning of the text if the command line is
+-- faulty, else that of the comment in which the text names its queues
+abbrev pub IsLinkPosition : LinkRefusal → Position → Type 0
+IsLinkPosition (Given fault) p = p ≡ beginning
+IsLinkPosition (Text fault place) p = p ≡ place.position
+IsLinkPosition (Unclear place) p = p ≡ place.position
+
 -- this is the position of a refusal of the text: of a fault of an import one on its line; else that
 -- of its place, or the beginning of the text where it has none
 abbrev pub IsRefusalPosition : List ℕ → Refusal → Position → Type 0
 IsRefusalPosition text (refusals.Import e) p = p.line ≡ fault_line e.fault
+IsRefusalPosition text (refusals.Link fault) p = IsLinkPosition fault p
 IsRefusalPosition text refusal p = (place : Option ℕ) × IsPlaceOf text refusal place × IsFaultPosition text place p
 
 -- The lines of a refusal of the text of a file: the first is its fixed line behind its position;

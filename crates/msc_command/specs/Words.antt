@@ -120,9 +120,9 @@ args_of Explain = Queues ∷ Pair ∷ Mailbox ∷ Single ∷ Words ∷ Short ∷
 args_of Follow = Queues ∷ Pair ∷ Mailbox ∷ Single ∷ Words ∷ Places ∷ Plain ∷ File ∷ []
 args_of Run = Queues ∷ Pair ∷ Mailbox ∷ Single ∷ Patience ∷ Places ∷ Plain ∷ File ∷ []
 args_of Listing = Places ∷ Plain ∷ File ∷ []
-args_of Draw = QueuesIfAny ∷ Svg ∷ Places ∷ Plain ∷ File ∷ []
-args_of Reverse = Queues ∷ Svg ∷ Places ∷ Plain ∷ File ∷ FirstEvent ∷ SecondEvent ∷ []
-args_of Report = Queues ∷ Places ∷ Plain ∷ File ∷ []
+args_of Draw = QueuesIfAny ∷ Pair ∷ Mailbox ∷ Single ∷ Svg ∷ Places ∷ Plain ∷ File ∷ []
+args_of Reverse = Queues ∷ Pair ∷ Mailbox ∷ Single ∷ Svg ∷ Places ∷ Plain ∷ File ∷ FirstEvent ∷ SecondEvent ∷ []
+args_of Report = Queues ∷ Pair ∷ Mailbox ∷ Single ∷ Places ∷ Plain ∷ File ∷ []
 args_of Ready = Queues ∷ Pair ∷ Mailbox ∷ Single ∷ Only ∷ ShowSticks ∷ Again ∷ Words ∷ Places ∷ Plain ∷ File ∷ []
 args_of Import =
     From ∷ Fence ∷ Choose ∷ Listed ∷ Name ∷ Own ∷ Cross ∷ Par ∷ Places ∷ Plain ∷ File ∷ []

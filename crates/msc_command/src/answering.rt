@@ -6,7 +6,8 @@ ghost use Rattle.msc_chart.specs.Drawings.{chart_of};
 ghost use Rattle.msc_command.specs.Answering.{Answers, AnswersOf, AnswersWith, Delivers, Does};
 ghost use Rattle.msc_command.specs.Answering.{EndsAs, IsPut, PrintsLinked, RefusesLinked};
 ghost use Rattle.msc_command.specs.Answering.{TellsBlock, TellsQuietly};
-ghost use Rattle.msc_command.specs.Drawing.{PrintsPage, RefusesDrawn};
+ghost use Rattle.msc_command.specs.Drawing.{PrintsLinkedPage, PrintsPage, RefusesDrawn};
+ghost use Rattle.msc_command.specs.Drawing.{RefusesLinkedPage};
 ghost use Rattle.msc_command.specs.Ending.{ends_as};
 ghost use Rattle.msc_command.specs.Formats.{IsFormat};
 ghost use Rattle.msc_command.specs.Importing.{PrintsImportPage, RefusesImport};
@@ -309,20 +310,20 @@ fn answer_chart<'w, R: Threads + Wait + Sync, O: Write>(
 }
 
 /// Prints the answer to a task on the chart of a text in the file of this name, under the queues
-/// that the rules give.
+/// that the rules and the text give.
 fn answer_linked<'w, R: Threads + Wait + Sync, O: Write>(
     rt: &R,
     alloc: Global,
     ask: ChartCommand<'w>,
     words: LinkWords<'w>,
     file: &str,
-    source: &Source,
+    source: &Source<'w>,
     output: &mut O,
 ) -> Result<Status, Refusal<'w>>
     ensures { Answers O.contents (PrintsLinked ask.entry words.entry file.now source.now)
         (RefusesLinked ask.entry words.entry source.now) result output.old output.new }
 {
-    let queues = queues_in(alloc, ask.usual(), words, source.chart())?;
+    let queues = queues_in(alloc, ask.usual(), words, source)?;
     answer_chart(rt, alloc, ask.under(queues), file, source, output)
 }
 
@@ -340,6 +341,24 @@ fn draw<O: Write>(
 {
     let page = page_of(alloc, drawn, draft, source)?;
     put(output, &page, Status::Done)
+}
+
+/// Writes a picture of a draft's chart, or its report, under the queues that the rules and the text
+/// give.
+fn draw_linked<'w, O: Write>(
+    alloc: Global,
+    drawn: Drawn,
+    words: LinkWords<'w>,
+    draft: &Draft,
+    source: &Source<'w>,
+    output: &mut O,
+) -> Result<Status, Refusal<'w>>
+    requires { source.now.chart ≡ chart_of draft.now }
+    ensures { Answers O.contents (PrintsLinkedPage drawn words.entry draft.now source.now)
+        (RefusesLinkedPage drawn words.entry source.now) result output.old output.new }
+{
+    let queues = queues_in(alloc, drawn.usual(), words, source)?;
+    draw(alloc, drawn.under(queues), draft, source, output)
 }
 
 /// Writes the import of the text of a file of this name.
@@ -522,7 +541,7 @@ fn survey_block<'w, O: TellsFailure, E: Write>(
     alloc: Global,
     request: Request<'_>,
     words: ScenarioArgs<'w>,
-    found: &Markdown<'_>,
+    found: &Markdown<'w>,
     number: usize,
     output: &mut O,
     faults: &mut E,
@@ -562,7 +581,7 @@ fn survey<'w, O: TellsFailure, E: Write>(
     alloc: Global,
     request: Request<'_>,
     words: ScenarioArgs<'w>,
-    found: &Markdown<'_>,
+    found: &Markdown<'w>,
     output: &mut O,
     faults: &mut E,
 ) -> Result<Status, Refusal<'w>>
@@ -589,11 +608,11 @@ fn check_diagrams<'w, O: TellsFailure, E: Write>(
     alloc: Global,
     request: Request<'_>,
     words: ScenarioArgs<'w>,
-    text: &[u8],
+    text: &'w [u8],
     output: &mut O,
     faults: &mut E,
 ) -> Result<Status, Refusal<'w>>
-    ensures { Does O.contents (Task.Scenarios words.entry) request.entry.file.now text.now result
+    ensures { Does O.contents (Task.Scenarios words.entry) request.entry.file.now text.entry.now result
         output.old output.new }
 {
     let blocks = blocks_of(alloc, words, text)?;
@@ -608,11 +627,11 @@ fn answer<'w, R: Threads + Wait + Sync, O: TellsFailure, E: Write>(
     rt: &R,
     alloc: Global,
     request: Request<'w>,
-    text: &[u8],
+    text: &'w [u8],
     output: &mut O,
     faults: &mut E,
 ) -> Result<Status, Refusal<'w>>
-    ensures { Does O.contents request.entry.task request.entry.file.now text.now result
+    ensures { Does O.contents request.entry.task request.entry.file.now text.entry.now result
         output.old output.new }
 {
     let file = request.file;
@@ -626,10 +645,10 @@ fn answer<'w, R: Threads + Wait + Sync, O: TellsFailure, E: Write>(
             let source = Source::of(alloc, Language::MscPr, text)?;
             answer_linked(rt, alloc, ask, words, file, &source, output)
         }
-        Task::Draw(drawn) => {
+        Task::Draw(drawn, words) => {
             let read = Reading::of(alloc, Language::MscPr, text)?;
             let source = Source::of_reading(alloc, &read)?;
-            draw(alloc, drawn, read.draft(), &source, output)
+            draw_linked(alloc, drawn, words, read.draft(), &source, output)
         }
         Task::Import(words) => import(alloc, words, file, text, output),
         Task::Scenarios(words) => check_diagrams(alloc, request, words, text, output, faults),
@@ -642,11 +661,11 @@ fn deliver<'w, R: Threads + Wait + Sync, O: TellsFailure, E: Write>(
     rt: &R,
     alloc: Global,
     request: Request<'w>,
-    text: &[u8],
+    text: &'w [u8],
     output: &mut O,
     faults: &mut E,
 ) -> Result<Status, Refusal<'w>>
-    ensures { Delivers O.contents request.entry.task request.entry.file.now text.now result
+    ensures { Delivers O.contents request.entry.task request.entry.file.now text.entry.now result
         output.old output.new }
 {
     match answer(rt, alloc, request, text, output, faults) {

@@ -2,25 +2,25 @@
 
 ghost use Rattle.std.specs.Prelude.{◌≡◌, OnOk};
 ghost use Rattle.std.specs.Io.KnownBytes.{Appends};
-ghost use Rattle.msc_command.specs.Ending.{ended_by, ends_as, finished_by, refusal_line};
-ghost use Rattle.msc_command.specs.Ending.{status_code};
+ghost use Rattle.msc_command.specs.Ending.{ended_by, ends_as, finished_by, link_refusal_line};
+ghost use Rattle.msc_command.specs.Ending.{refusal_line, status_code};
 ghost use Rattle.msc_command.specs.Ending.{status_of};
 ghost use Rattle.msc_command.specs.Refused.{is_spent};
 ghost use Rattle.msc_report.specs.Refusals.{of_reading};
 ghost use Rattle.msc_report.specs.Texts.{fault_line};
 
 use crate::notes::write_cause;
+use crate::own::LinkRefusal;
 use msc_chart::UnrollFault;
 use msc_diagram::write_import_fault;
 use msc_ending::RunFault;
 use msc_import::Refused;
-use msc_links::LinkFault;
 use msc_mark::MarkFault;
 use msc_mermaid::ImportFault;
 use msc_print::WriteFault;
 use msc_report::{
-    Fault, NamedFault, write_fault, write_instance_fault, write_link_fault, write_mark_fault,
-    write_pair_fault, write_unroll_fault,
+    Fault, NamedFault, RulesOf, write_fault, write_instance_fault, write_link_fault,
+    write_mark_fault, write_pair_fault, write_queues_fault, write_unroll_fault,
 };
 use msc_source::{ReadFault, SourceFault};
 use std::alloc::AllocError;
@@ -89,8 +89,8 @@ pub(crate) enum Refusal<'w> {
     Mark(MarkFault),
     /// No instance has this name. It is the first such name.
     Instance(&'w str),
-    /// A rule for links is faulty. It is the first such rule.
-    Link(LinkFault<'w>),
+    /// The command line and the text give no queues.
+    Link(LinkRefusal<'w>),
     /// Two rounds of the chart are no chart.
     Rounds(UnrollFault),
     /// The text is not imported.
@@ -234,6 +234,18 @@ pub(crate) fn end_with<E: Write>(faults: &mut E, fault: Fault) -> (Status, io::R
     (status_of(fault), told)
 }
 
+/// Writes the line of why there are no queues.
+fn write_link_refusal<W: Write>(writer: &mut W, refusal: LinkRefusal<'_>) -> io::Result<()>
+    ensures { OnOk result (Appends (W.contents writer.old) (W.contents writer.new)
+        (link_refusal_line refusal.entry)) }
+{
+    match refusal {
+        LinkRefusal::Given(fault) => write_link_fault(writer, RulesOf::CommandLine, fault),
+        LinkRefusal::Text(fault, _) => write_link_fault(writer, RulesOf::Text, fault),
+        LinkRefusal::Unclear(place) => write_queues_fault(writer, place.number),
+    }
+}
+
 /// Writes the line of a refusal.
 pub(crate) fn write_refusal<W: Write>(writer: &mut W, refusal: Refusal<'_>) -> io::Result<()>
     ensures { OnOk result
@@ -244,7 +256,7 @@ pub(crate) fn write_refusal<W: Write>(writer: &mut W, refusal: Refusal<'_>) -> i
         Refusal::Pair(fault) => write_pair_fault(writer, fault),
         Refusal::Mark(fault) => write_mark_fault(writer, fault),
         Refusal::Instance(name) => write_instance_fault(writer, name.as_bytes()),
-        Refusal::Link(fault) => write_link_fault(writer, fault),
+        Refusal::Link(refused) => write_link_refusal(writer, refused),
         Refusal::Rounds(fault) => write_unroll_fault(writer, fault),
         Refusal::Import(refused) => write_import_fault(writer, &refused),
     }

@@ -74,6 +74,7 @@ fn architecture_words(alloc: Global) -> Result<Vec<&'static str>, AllocError>
     for kind in LinkKind::ALL {
         words.push(kind.word())?;
     }
+    words.push("own")?;
     Ok(words)
 }
 

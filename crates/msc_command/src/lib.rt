@@ -39,6 +39,7 @@ mod marked;
 mod misuse;
 mod naming;
 mod notes;
+mod own;
 mod program;
 mod readied;
 mod recorded;

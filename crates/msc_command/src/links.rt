@@ -1,22 +1,30 @@
-//! The queues of a chart or a diagram, by the architecture and the rules of a command line.
+//! The queues of a chart or a diagram, by the architecture and the rules of a command line, and by
+//! what the text itself says of them.
 
-ghost use Rattle.std.specs.Prelude.{◌≡◌, ◌≤◌, ◌++◌, IfOk, OnOk, length, map};
+ghost use Rattle.std.specs.Prelude.{◌≡◌, ◌≤◌, ◌++◌, IfOk, MatchResult, OnOk, length, map};
 ghost use Rattle.msc_chart.specs.Faults.{IsFaultless};
 ghost use Rattle.msc_command.specs.Charting.{AreCharts};
-ghost use Rattle.msc_command.specs.Linked.{bytes_at, has_none, own_name, ruled_by, rules_in};
+ghost use Rattle.msc_links.specs.Rules.{AreRuled, IsRulesFault};
+ghost use Rattle.msc_command.specs.Drawing.{drawn_under, usual_drawn};
+ghost use Rattle.msc_command.specs.Linked.{has_none, own_name, ruled_by, rules_in};
 ghost use Rattle.msc_command.specs.Linked.{seen_rules, shown_name, under, usual_in, AreNamesIn};
 ghost use Rattle.msc_command.specs.Linked.{AreNamesOf, IsLinked, IsLinkedAt, IsLinkedIn};
-ghost use Rattle.msc_command.specs.Linked.{IsRuledBy};
+ghost use Rattle.msc_command.specs.Linked.{IsLinkedBy, IsRuledBy, IsRuledWith, IsRuledWithout};
+ghost use Rattle.msc_command.specs.Linked.{OfRules};
+ghost use Rattle.msc_command.specs.Own.{SaysIf, SaysInChart, ShowsInChart, ShowsInDiagram, said_in};
 
 use crate::ending::Refusal;
 use crate::importing::chart_of;
+use crate::own::{LinkRefusal, OwnComment, bytes_at, own_of_chart, own_of_diagram};
 use crate::tasks::{
-    ChartCommand, CheckArgs, ExplainArgs, FollowArgs, LinkWords, QuietArgs, ReadyArgs,
+    ChartCommand, CheckArgs, Drawn, ExplainArgs, FollowArgs, LinkWords, QuietArgs, ReadyArgs,
+    ReverseArgs,
 };
 use msc_chart::{Chart, INSTANCE_LIMIT, LinkKind, Queues};
-use msc_import::{Drawings, Scenario as Drawn, TextSpans};
+use msc_import::{Drawings, Scenario, TextSpans};
 use msc_links::{LineNames, Rule, RulesFault, queues_of};
 use msc_mermaid::Span;
+use msc_source::Source;
 use std::alloc::{AllocError, Global};
 
 /// Appends a rule of this kind for each of these links.
@@ -64,22 +72,90 @@ fn names_in<'c>(alloc: Global, chart: &'c Chart) -> Result<Vec<LineNames<'c>>, A
     Ok(names)
 }
 
-/// The queues that the rules of a command line give for lines with these names.
-fn queues_by<'w>(
+/// The queues that rules of a text and of a command line give for lines with these names, or their
+/// first fault. An error is a growth of memory that was refused.
+fn ruled<'w>(
+    alloc: Global,
+    usual: LinkKind,
+    text: &[Rule<'w>],
+    words: LinkWords<'w>,
+    names: &[LineNames<'_>],
+) -> Result<Result<Queues, RulesFault<'w>>, AllocError>
+    requires { length names.now ≤ INSTANCE_LIMIT }
+    ensures { IfOk result (λ answer. OfRules words.entry (λ given. MatchResult answer
+        (AreRuled usual text.now given names.now) (IsRulesFault text.now given names.now))) }
+{
+    let rules = rules_in(alloc, words)?;
+    Ok(queues_of(usual, text, rules.as_slice(), names))
+}
+
+/// The queues of lines with these names, if the text names none.
+fn queues_without<'w>(
     alloc: Global,
     usual: LinkKind,
     words: LinkWords<'w>,
     names: &[LineNames<'_>],
 ) -> Result<Queues, Refusal<'w>>
     requires { length names.now ≤ INSTANCE_LIMIT }
-    ensures { IsRuledBy usual words.entry names.now result }
+    ensures { IsRuledWithout usual words.entry names.now result }
 {
-    let rules = rules_in(alloc, words)?;
-    match queues_of(usual, &[], rules.as_slice(), names) {
+    match ruled(alloc, usual, &[], words, names)? {
         Ok(queues) => Ok(queues),
-        Err(RulesFault::Text(fault)) => Err(Refusal::Link(fault)),
-        Err(RulesFault::Given(fault)) => Err(Refusal::Link(fault)),
+        Err(RulesFault::Text(fault)) => Err(Refusal::Link(LinkRefusal::Given(fault))),
+        Err(RulesFault::Given(fault)) => Err(Refusal::Link(LinkRefusal::Given(fault))),
     }
+}
+
+/// The queues of lines with these names, if the text names queues.
+fn queues_with<'w>(
+    alloc: Global,
+    own: &OwnComment<'w>,
+    words: LinkWords<'w>,
+    names: &[LineNames<'_>],
+) -> Result<Queues, Refusal<'w>>
+    requires { length names.now ≤ INSTANCE_LIMIT }
+    ensures { IsRuledWith own.now words.entry names.now result }
+{
+    let text = own.queues.rules.as_slice();
+    match ruled(alloc, own.queues.usual, text, words, names)? {
+        Ok(queues) => Ok(queues),
+        Err(RulesFault::Text(fault)) => Err(Refusal::Link(LinkRefusal::Text(fault, own.place))),
+        Err(RulesFault::Given(fault)) => Err(Refusal::Link(LinkRefusal::Given(fault))),
+    }
+}
+
+/// The queues of lines with these names, by what the text says of them.
+fn queues_by<'w>(
+    alloc: Global,
+    usual: LinkKind,
+    own: Option<OwnComment<'w>>,
+    words: LinkWords<'w>,
+    names: &[LineNames<'_>],
+) -> Result<Queues, Refusal<'w>>
+    requires { length names.now ≤ INSTANCE_LIMIT }
+    ensures { IsRuledBy usual own.entry words.entry names.now result }
+{
+    match own {
+        None => queues_without(alloc, usual, words, names),
+        Some(own) => queues_with(alloc, &own, words, names),
+    }
+}
+
+/// The queues of the chart of a text.
+fn queues_of_chart<'w>(
+    alloc: Global,
+    usual: LinkKind,
+    words: LinkWords<'w>,
+    text: &'w [u8],
+    chart: &Chart,
+) -> Result<Queues, Refusal<'w>>
+    ensures { IsLinkedBy (SaysIf words.entry.own (SaysInChart text.entry.now))
+        (ShowsInChart text.entry.now) (AreNamesIn chart.now) usual words.entry result }
+{
+    chart.facts();
+    let own = own_of_chart(alloc, words.own, text)?;
+    let names = names_in(alloc, chart)?;
+    queues_by(alloc, usual, own, words, names.as_slice())
 }
 
 /// The queues of a chart: links that no rule names are of the usual kind.
@@ -87,24 +163,11 @@ pub(crate) fn queues_in<'w>(
     alloc: Global,
     usual: LinkKind,
     words: LinkWords<'w>,
-    chart: &Chart,
+    source: &Source<'w>,
 ) -> Result<Queues, Refusal<'w>>
-    ensures { IsLinked usual words.entry chart.now result }
+    ensures { IsLinked usual words.entry source.now result }
 {
-    chart.facts();
-    let names = names_in(alloc, chart)?;
-    queues_by(alloc, usual, words, names.as_slice())
-}
-
-/// The bytes of a text in a span, or none if the text is shorter.
-fn bytes_at<'t>(text: &'t [u8], span: Span) -> &'t [u8]
-    ensures { result.now ≡ bytes_at text.entry.now span }
-{
-    if span.first <= span.past && span.past <= text.len() {
-        &text[span.first..span.past]
-    } else {
-        b""
-    }
+    queues_of_chart(alloc, usual, words, source.text(), source.chart())
 }
 
 /// The name by which a text calls line `i`.
@@ -129,7 +192,7 @@ fn shown_name<'t>(text: &'t [u8], spans: &TextSpans, i: usize) -> &'t [u8]
 
 /// The names of a diagram's lines, by one of its scenarios and the chart of this: those of the text
 /// and those of the chart's instances.
-fn names_of<'n>(
+pub(crate) fn names_of<'n>(
     alloc: Global,
     text: &'n [u8],
     spans: &TextSpans,
@@ -149,21 +212,39 @@ fn names_of<'n>(
     Ok(names)
 }
 
+/// The queues of a diagram by the places of its names and the chart of a scenario.
+fn queues_at<'w>(
+    alloc: Global,
+    usual: LinkKind,
+    words: LinkWords<'w>,
+    text: &'w [u8],
+    spans: &TextSpans,
+    chart: &Chart,
+) -> Result<Queues, Refusal<'w>>
+    ensures { IsLinkedBy
+        (SaysIf words.entry.own (λ said. said ≡ said_in text.entry.now spans.now.comments))
+        (ShowsInDiagram text.entry.now) (AreNamesOf text.entry.now spans.now chart.now)
+        usual words.entry result }
+{
+    chart.facts();
+    let own = own_of_diagram(alloc, words.own, text, spans)?;
+    let names = names_of(alloc, text, spans, chart)?;
+    queues_by(alloc, usual, own, words, names.as_slice())
+}
+
 /// The queues of a diagram of which this is a scenario.
 fn queues_of_drawn<'w>(
     alloc: Global,
     usual: LinkKind,
     words: LinkWords<'w>,
-    text: &[u8],
-    drawn: &Drawn,
+    text: &'w [u8],
+    drawn: &Scenario,
 ) -> Result<Queues, Refusal<'w>>
     requires { IsFaultless drawn.now.draft }
-    ensures { IsLinkedAt usual words.entry text.now drawn.now result }
+    ensures { IsLinkedAt usual words.entry text.entry.now drawn.now result }
 {
     let chart = chart_of(alloc, &drawn.draft)?;
-    chart.facts();
-    let names = names_of(alloc, text, &drawn.spans, &chart)?;
-    queues_by(alloc, usual, words, names.as_slice())
+    queues_at(alloc, usual, words, text, &drawn.spans, &chart)
 }
 
 /// The queues of a diagram with these scenarios: links that no rule names are of the usual kind.
@@ -172,11 +253,11 @@ pub(crate) fn queues_of_diagram<'w>(
     alloc: Global,
     usual: LinkKind,
     words: LinkWords<'w>,
-    text: &[u8],
+    text: &'w [u8],
     scenarios: &Drawings<'_>,
 ) -> Result<Queues, Refusal<'w>>
     requires { AreCharts scenarios.now }
-    ensures { IsLinkedIn usual words.entry text.now scenarios.now result }
+    ensures { IsLinkedIn usual words.entry text.entry.now scenarios.now result }
 {
     if has_none(words) || scenarios.len() == 0 {
         return Ok(Queues::Uniform(usual));
@@ -185,11 +266,11 @@ pub(crate) fn queues_of_diagram<'w>(
     queues_of_drawn(alloc, usual, words, text, &drawn)
 }
 
-/// Whether there are no rules.
+/// Whether there are no rules, and the text is not asked for its own.
 fn has_none(words: LinkWords<'_>) -> bool
     ensures { result ≡ has_none words.entry }
 {
-    words.pairs.is_empty() && words.mailboxes.is_empty() && words.singles.is_empty()
+    !words.own && words.pairs.is_empty() && words.mailboxes.is_empty() && words.singles.is_empty()
 }
 
 impl<'w> ChartCommand<'w> {
@@ -220,6 +301,35 @@ impl<'w> ChartCommand<'w> {
             ChartCommand::Run(_, patience) => ChartCommand::Run(queues, patience),
             ChartCommand::List(placed) => ChartCommand::List(placed),
             ChartCommand::Ready(args) => ChartCommand::Ready(ReadyArgs { queues, ..args }),
+        }
+    }
+}
+
+impl Drawn {
+    /// The kind of the links that no rule names.
+    pub(crate) fn usual(self) -> LinkKind
+        ensures { result ≡ usual_drawn self }
+    {
+        match self {
+            Drawn::Chart(None, _) => LinkKind::Pair,
+            Drawn::Chart(Some(queues), _) => queues.usual(),
+            Drawn::Run(reversing) => reversing.queues.usual(),
+            Drawn::Report(queues) => queues.usual(),
+        }
+    }
+
+    /// The same under another architecture; a chart that is drawn without one stays without one.
+    pub(crate) fn under(self, queues: Queues) -> Drawn
+        ensures { result ≡ drawn_under queues self }
+    {
+        match self {
+            Drawn::Chart(None, format) => Drawn::Chart(None, format),
+            Drawn::Chart(Some(_), format) => Drawn::Chart(Some(queues), format),
+            Drawn::Run(reversing) => Drawn::Run(ReverseArgs {
+                queues,
+                ..reversing
+            }),
+            Drawn::Report(_) => Drawn::Report(queues),
         }
     }
 }

@@ -12,6 +12,7 @@ ghost use Rattle.msc_parser.specs.Parsing.{HasParseFault};
 use crate::choices::rounds_of;
 use crate::ending::Refusal;
 use crate::importing::fence_of;
+use crate::own::LinkRefusal;
 use crate::refused::mark_place;
 use crate::tasks::{ChartCommand, Request, Task};
 use listed::Listed;
@@ -21,7 +22,6 @@ use msc_import_notes::{
     block_text, is_sequence_diagram, tell_import, tell_other_way, tell_scenarios, with_block_notes,
     with_plain_lines, with_whole_lines,
 };
-use msc_mark::MarkFault;
 use msc_markdown::Markdown;
 use msc_mermaid::ImportFault;
 use msc_notes::writing::{write_fault_notes, write_further};
@@ -112,20 +112,52 @@ fn write_chart_notes<E: Write>(
     write_further(faults, file.as_bytes(), &lines, &further, write_line)
 }
 
-/// Writes the place of a faulty comment of a text.
-fn write_mark_notes<E: Write>(
+/// Writes a place of a text, if there is one.
+fn write_place_notes<E: Write>(
     alloc: Global,
     faults: &mut E,
     file: &str,
     text: &[u8],
-    fault: MarkFault,
+    place: Option<usize>,
 ) -> io::Result<()> {
     let lines = Lines::of(alloc, text)?;
     let told = FaultNotes {
-        place: mark_place(fault),
+        place,
         notes: Listed::from_vec(Vec::new(alloc)),
     };
     write_told_of(alloc, faults, file, &lines, &told)
+}
+
+/// Writes the place of a comment in which a diagram names its queues. Its lines may end in other
+/// ways than by LF.
+fn write_line_notes<E: Write>(
+    alloc: Global,
+    faults: &mut E,
+    file: &str,
+    text: &[u8],
+    at: usize,
+) -> io::Result<()> {
+    let before = with_plain_lines(alloc, &text[..at.min(text.len())])?;
+    let plain = with_plain_lines(alloc, text)?;
+    write_place_notes(alloc, faults, file, plain.as_slice(), Some(before.len()))
+}
+
+/// Writes the place of why there are no queues, if it has one.
+fn write_link_notes<E: Write>(
+    alloc: Global,
+    faults: &mut E,
+    request: Request<'_>,
+    text: &[u8],
+    refused: LinkRefusal<'_>,
+) -> io::Result<()> {
+    let at = match refused {
+        LinkRefusal::Given(_) => return Ok(()),
+        LinkRefusal::Text(_, place) | LinkRefusal::Unclear(place) => place.at,
+    };
+    match request.task {
+        Task::Scenarios(_) => write_line_notes(alloc, faults, request.file, text, at),
+        _ => write_place_notes(alloc, faults, request.file, text, Some(at)),
+    }
 }
 
 /// The number of the diagram that a task takes from Markdown, if it is given.
@@ -228,7 +260,8 @@ pub(crate) fn write_notes<E: Write>(
         }
         Refusal::Fault(Fault::Chart(fault)) => write_chart_notes(alloc, faults, file, text, fault),
         Refusal::Import(refused) => write_import_notes(alloc, faults, request, text, refused),
-        Refusal::Mark(fault) => write_mark_notes(alloc, faults, file, text, fault),
+        Refusal::Mark(fault) => write_place_notes(alloc, faults, file, text, mark_place(fault)),
+        Refusal::Link(refused) => write_link_notes(alloc, faults, request, text, refused),
         _ => Ok(()),
     }
 }

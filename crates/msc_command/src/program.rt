@@ -171,8 +171,10 @@ pub fn refuse_words<E: Write>(faults: &mut E, error: &io::Error) -> u8
 }
 
 /// Runs the program `msc` with the words of a command line, the program's name first, and answers
-/// its exit status. QUEUES is `pair`, `mailbox` or `single`. FILE `-` is `input`; `rt` opens any
-/// other FILE. Numbers are from 0 to 4294967295. The answer goes to `output`:
+/// its exit status. QUEUES is `pair`, `mailbox` or `single`, or `own` for the queues that the text
+/// names itself; with it, `--pair LINK`, `--mailbox LINK` and `--single LINK` give links a kind.
+/// FILE `-` is `input`; `rt` opens any other FILE. Numbers are from 0 to 4294967295. The answer goes
+/// to `output`:
 ///
 /// - `read FILE`: the canonical text.
 /// - `check --queues QUEUES FILE`: the verdict on the chart, and each race with a run that shows
@@ -197,15 +199,15 @@ pub fn refuse_words<E: Write>(faults: &mut E, error: &io::Error) -> u8
 ///
 /// `--places` prints where events stand, and `--words` prints runs in words.
 ///
-/// Refusals are looked for in this order: the words, opening FILE, reading it, its text, the pair
-/// of events or the names, its rounds, running it. The line of a refusal goes to `faults`, with
+/// Refusals are looked for in this order: the words, opening FILE, reading it, its text, the queues
+/// that it names, the rules for links, the pair of events or the names, its rounds, running it. The line of a refusal goes to `faults`, with
 /// notes if `--places` is given, or if `faults` is a terminal and `--plain` is not given. If that
 /// writing fails, the status stays.
 ///
 /// The status is 0 if the answer or the requested help was written. It is 1 if there are races that
 /// are not left out, if E is not enforced before F, if no run keeps the drawing, or if a system of
-/// ready instances can stick. It is 2 if the words are no command, or if the text, a diagram of a Markdown text, its rounds, the
-/// pair or a name was refused. It is 3 if some instance of an execution has not finished. It is 4
+/// ready instances can stick. It is 2 if the words are no command, or if the text, a diagram of a
+/// Markdown text, its queues, its rounds, the pair or a name was refused. It is 3 if some instance of an execution has not finished. It is 4
 /// if memory ran out, a thread could not be started, a file could not be opened or read, or the
 /// output could not be written.
 pub fn command<R: Files + Threads + Wait + Sync, I: Read, O: TellsFailure, E: Write + IsTerminal>(

@@ -4,13 +4,14 @@
 ghost use Rattle.std.specs.Prelude.{◌≡◌, ℕ, List, [], Option, ◌++◌, IfOk, OnOk};
 ghost use Rattle.msc_command.specs.Ending.{refusal_line};
 ghost use Rattle.msc_command.specs.Extending.{BeginsSo, Extends};
-ghost use Rattle.msc_command.specs.Refused.{mark_place, IsRefusalText};
+ghost use Rattle.msc_command.specs.Refused.{mark_place, IsLinkPosition, IsRefusalText};
 ghost use Rattle.msc_import_notes.specs.Places.{fault_line};
 ghost use Rattle.msc_notes.specs.Texts.{error_text};
 ghost use Rattle.msc_parser.specs.Parsing.{HasDraft};
 
 use crate::ending::{Refusal, write_refusal};
 use crate::notes::{diagram_text, notes_of_import, notes_of_parse};
+use crate::own::LinkRefusal;
 use crate::tasks::Task;
 use msc_chart::ChartFault;
 use msc_import::Refused;
@@ -208,6 +209,29 @@ fn print_position(page: &mut Page, file: &str, position: Position) -> Result<(),
     Ok(())
 }
 
+/// The position of why there are no queues: the beginning of the text, if it has no place.
+fn link_position(refused: LinkRefusal<'_>) -> Position
+    ensures { IsLinkPosition refused.entry result }
+{
+    match refused {
+        LinkRefusal::Given(_) => Position { line: 1, column: 1 },
+        LinkRefusal::Text(_, place) | LinkRefusal::Unclear(place) => place.position,
+    }
+}
+
+/// The line of why there are no queues.
+fn link_lines(alloc: Global, file: &str, refused: LinkRefusal<'_>) -> Result<Page, AllocError>
+    ensures { IfOk result (λ page. (text : List ℕ) → IsRefusalText file.now text
+        (Refusal.Link refused.entry) page.bytes.items) }
+{
+    let mut page = Page::new(alloc);
+    print_position(&mut page, file, link_position(refused))?;
+    match write_refusal(&mut page, Refusal::Link(refused)) {
+        Ok(()) => Ok(page),
+        Err(_) => Err(AllocError),
+    }
+}
+
 /// Appends why a text is not imported to a page: its line after this position.
 fn print_import(
     page: &mut Page,
@@ -299,7 +323,7 @@ pub(crate) fn refusal_lines(
         Refusal::Mark(fault) => bare_lines(alloc, file, text, mark_place(fault), refusal),
         Refusal::Pair(_) => bare_lines(alloc, file, text, None, refusal),
         Refusal::Instance(_) => bare_lines(alloc, file, text, None, refusal),
-        Refusal::Link(_) => bare_lines(alloc, file, text, None, refusal),
+        Refusal::Link(refused) => link_lines(alloc, file, refused),
         Refusal::Rounds(_) => bare_lines(alloc, file, text, None, refusal),
     }
 }

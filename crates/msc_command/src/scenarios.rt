@@ -272,11 +272,11 @@ fn tell_all<O: Write>(
 pub(crate) fn linked<'w>(
     alloc: Global,
     words: ScenarioArgs<'w>,
-    text: &[u8],
+    text: &'w [u8],
     scenarios: &Drawings<'_>,
 ) -> Result<ScenarioArgs<'w>, Refusal<'w>>
     requires { AreCharts scenarios.now }
-    ensures { IsLinkedArgs words.entry text.now scenarios.now result }
+    ensures { IsLinkedArgs words.entry text.entry.now scenarios.now result }
 {
     let usual = words.check_args.queues.usual();
     let queues = queues_of_diagram(alloc, usual, words.links, text, scenarios)?;
@@ -294,12 +294,12 @@ pub(crate) fn check_scenarios<'w, O: Write>(
     alloc: Global,
     words: ScenarioArgs<'w>,
     file: &str,
-    text: &[u8],
+    text: &'w [u8],
     output: &mut O,
 ) -> Result<Status, Refusal<'w>>
-    ensures { AnswersWith O.contents (PrintsScenarios words.entry file.now text.now)
-        (BeginsScenarios words.entry file.now text.now)
-        (RefusesScenarios words.entry text.now) result output.old output.new }
+    ensures { AnswersWith O.contents (PrintsScenarios words.entry file.now text.entry.now)
+        (BeginsScenarios words.entry file.now text.entry.now)
+        (RefusesScenarios words.entry text.entry.now) result output.old output.new }
 {
     imports_are_charts();
     let all = import_of_all(alloc, words, text)?;

@@ -162,7 +162,7 @@ fn numbered(alloc: Global, name: &[u8], number: usize) -> Result<Page, AllocErro
 pub(crate) fn check_block<'w, O: Write>(
     alloc: Global,
     words: ScenarioArgs<'w>,
-    found: &Markdown<'_>,
+    found: &Markdown<'w>,
     file: &str,
     number: usize,
     output: &mut O,

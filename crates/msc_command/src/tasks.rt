@@ -13,6 +13,7 @@ ghost use Rattle.msc_command.specs.Asking.{default_limit, is_limit, is_of_scenar
 ghost use Rattle.msc_command.specs.Asking.{lacks_rounds, stands, IsNumberGiven, IsOfChart};
 ghost use Rattle.msc_command.specs.Asking.{tells_notes, unlimited, AreRunsShown, IsTwofold};
 ghost use Rattle.msc_command.specs.Asking.{IsNameText, IsNoName, IsNoNumber, IsNumberText};
+ghost use Rattle.msc_command.specs.Asking.{asks_own, has_rule, is_own_word, lacks_queues, usual_by};
 ghost use Rattle.msc_command.specs.Asking.{args_of, IsOptionNumber, AreCheckOptions, WantsNotes};
 ghost use Rattle.msc_command.specs.Misuses.{IsCheckMisuse, IsDiagramMisuse, IsEventMisuse};
 ghost use Rattle.msc_command.specs.Misuses.{IsImportMisuse, IsLimitMisuse, IsMisuse, IsPairMisuse};
@@ -135,9 +136,12 @@ pub(crate) struct ReadyArgs<'w> {
     pub event_style: EventStyle,
 }
 
-/// The rules for links in words of the command line: the links of each kind.
+/// What a command line says of queues besides the architecture: the links of each kind for which
+/// it has rules.
 #[derive(Clone, Copy)]
 pub(crate) struct LinkWords<'w> {
+    /// Whether the text is asked for the queues that it names itself.
+    pub own: bool,
     pub pairs: &'w [&'w str],
     pub mailboxes: &'w [&'w str],
     pub singles: &'w [&'w str],
@@ -229,8 +233,8 @@ pub(crate) enum Task<'w> {
     Read,
     /// A command on its chart, and the rules for links.
     Chart(ChartCommand<'w>, LinkWords<'w>),
-    /// A picture of its chart, or a report.
-    Draw(Drawn),
+    /// A picture of its chart, or a report, and the rules for links.
+    Draw(Drawn, LinkWords<'w>),
     /// The chart of a scenario of its diagram.
     Import(ImportArgs<'w>),
     /// The races of all scenarios of its diagram.
@@ -244,7 +248,7 @@ pub(crate) fn format_of(task: Task<'_>) -> Format
     match task {
         Task::Chart(ChartCommand::Check(check_args), _) => check_args.format,
         Task::Scenarios(words) if !words.quiet => words.check_args.format,
-        Task::Read | Task::Chart(..) | Task::Draw(_) => Format::Text,
+        Task::Read | Task::Chart(..) | Task::Draw(..) => Format::Text,
         Task::Import(_) | Task::Scenarios(_) => Format::Text,
     }
 }
@@ -431,11 +435,39 @@ pub(crate) fn file_of<'w>(words: &'w ArgMatches) -> &'w str
     }
 }
 
+/// Whether a word for an architecture asks the text for its own queues.
+fn is_own_word(word: &str) -> bool
+    ensures { result ≡ is_own_word word.now }
+{
+    word == "own"
+}
+
+/// The kind of the links that no rule names, by a word for an architecture. A text that is asked
+/// for its own queues, and names none, has `pair`.
+fn usual_by(word: &str) -> Option<LinkKind>
+    ensures { result ≡ usual_by word.now }
+{
+    if is_own_word(word) {
+        return Some(LinkKind::Pair);
+    }
+    LinkKind::of(word)
+}
+
 /// The architecture that the words name, if they name one.
 fn named_queues(words: &ArgMatches) -> Option<Queues>
     ensures { result ≡ architecture (found_of words.now) }
 {
-    Some(Queues::Uniform(LinkKind::of(words.get_str(ArgName::Queues.name())?)?))
+    Some(Queues::Uniform(usual_by(words.get_str(ArgName::Queues.name())?)?))
+}
+
+/// Whether the words ask the text for its own queues.
+fn asks_own(words: &ArgMatches) -> bool
+    ensures { result ≡ asks_own (found_of words.now) }
+{
+    match words.get_str(ArgName::Queues.name()) {
+        Some(word) => is_own_word(word),
+        None => false,
+    }
 }
 
 /// The architecture that the words name.
@@ -458,16 +490,18 @@ fn texts_of<'w>(words: &'w ArgMatches, word: ArgName) -> &'w [&'w str]
 
 /// No rules for links.
 const NO_LINKS: LinkWords<'static> = LinkWords {
+    own: false,
     pairs: &[],
     mailboxes: &[],
     singles: &[],
 };
 
-/// The rules for links.
+/// What the words say of queues besides the architecture.
 fn link_words_of<'w>(words: &'w ArgMatches) -> LinkWords<'w>
     ensures { AreLinkWords (found_of words.entry.now) result }
 {
     LinkWords {
+        own: asks_own(words),
         pairs: texts_of(words, ArgName::Pair),
         mailboxes: texts_of(words, ArgName::Mailbox),
         singles: texts_of(words, ArgName::Single),
@@ -688,11 +722,34 @@ fn drawn_format(words: &ArgMatches) -> msc_draw::PictureFormat
     }
 }
 
-/// The task of `msc draw`.
-fn draw_of(words: &ArgMatches) -> Task<'static>
-    ensures { AsksFor CommandName.Draw (found_of words.now) result }
+/// Whether the words give a rule of a kind.
+fn has_rule(words: &ArgMatches, word: ArgName) -> bool
+    ensures { result ≡ has_rule (found_of words.now) word }
 {
-    Task::Draw(Drawn::Chart(named_queues(words), drawn_format(words)))
+    !texts_of(words, word).is_empty()
+}
+
+/// Whether the words give rules for links, and no architecture.
+fn lacks_queues(words: &ArgMatches) -> bool
+    ensures { result ≡ lacks_queues (found_of words.now) }
+{
+    let pairs = has_rule(words, ArgName::Pair);
+    let mailboxes = has_rule(words, ArgName::Mailbox);
+    let singles = has_rule(words, ArgName::Single);
+    named_queues(words).is_none() && (pairs || mailboxes || singles)
+}
+
+/// The task of `msc draw`.
+fn draw_of<'w>(words: &'w ArgMatches) -> Result<Task<'w>, Misuse<'w>>
+    ensures task { IfOk result (AsksFor CommandName.Draw (found_of words.entry.now)) }
+    ensures misuse { IfErr result (λ m. (m ≡ Misuse.NoQueues)
+        × (lacks_queues (found_of words.entry.now) ≡ true)) }
+{
+    if lacks_queues(words) {
+        return Err(Misuse::NoQueues);
+    }
+    let drawn = Drawn::Chart(named_queues(words), drawn_format(words));
+    Ok(Task::Draw(drawn, link_words_of(words)))
 }
 
 /// The task of `msc reverse`.
@@ -701,12 +758,21 @@ fn reverse_of<'w>(queues: Queues, words: &'w ArgMatches) -> Result<Task<'w>, Mis
         → IfOk result (AsksFor CommandName.Reverse (found_of words.entry.now)) }
     ensures misuse { IfErr result (IsPairMisuse (found_of words.entry.now)) }
 {
-    Ok(Task::Draw(Drawn::Run(ReverseArgs {
+    let drawn = Drawn::Run(ReverseArgs {
         queues,
         first: event_of(words, ArgName::FirstEvent)?,
         second: event_of(words, ArgName::SecondEvent)?,
         format: drawn_format(words),
-    })))
+    });
+    Ok(Task::Draw(drawn, link_words_of(words)))
+}
+
+/// The task of `msc report`.
+fn report_of<'w>(queues: Queues, words: &'w ArgMatches) -> Task<'w>
+    ensures { architecture (found_of words.entry.now) ≡ Some queues
+        → AsksFor CommandName.Report (found_of words.entry.now) result }
+{
+    Task::Draw(Drawn::Report(queues), link_words_of(words))
 }
 
 /// The task of `msc ready`.
@@ -832,9 +898,9 @@ fn complete_task<'w>(
         CommandName::Follow => Ok(follow_of(queues_of(words)?, words)),
         CommandName::Run => Ok(run_of(queues_of(words)?, words)),
         CommandName::List => Ok(list_of(words)),
-        CommandName::Draw => Ok(draw_of(words)),
+        CommandName::Draw => draw_of(words),
         CommandName::Reverse => reverse_of(queues_of(words)?, words),
-        CommandName::Report => Ok(Task::Draw(Drawn::Report(queues_of(words)?))),
+        CommandName::Report => Ok(report_of(queues_of(words)?, words)),
         CommandName::Ready => Ok(ready_of(queues_of(words)?, words)),
         CommandName::Import => import_of(words),
     }

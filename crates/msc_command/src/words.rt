@@ -109,6 +109,9 @@ const SHOW_HELP: &str =
 const SHOW_STICKS_HELP: &str =
     "Print a run for each of the first N sticks that are first; without it, for all";
 
+const QUEUES_HELP: &str =
+    "A queue for each sender and receiver, each receiver, or each message; or as the text says";
+
 const PAIR_HELP: &str =
     "Give each link of LINK, NAME or 'NAME>NAME', a queue of its own; may be repeated";
 
@@ -193,9 +196,7 @@ impl ArgName {
     pub fn help(self) -> &'static str {
         match self {
             ArgName::File => "The text to read; - is standard input",
-            ArgName::Queues => {
-                "A queue for each sender and receiver, for each receiver, or for each message"
-            }
+            ArgName::Queues => QUEUES_HELP,
             ArgName::QueuesIfAny => {
                 "Mark the closest races, with such queues as `msc check --help` tells"
             }
@@ -326,8 +327,11 @@ const RUN: [ArgName; 8] = [
 ];
 
 /// The words after `draw`, in the order of the help.
-const DRAW: [ArgName; 5] = [
+const DRAW: [ArgName; 8] = [
     ArgName::QueuesIfAny,
+    ArgName::Pair,
+    ArgName::Mailbox,
+    ArgName::Single,
     ArgName::Svg,
     ArgName::Places,
     ArgName::Plain,
@@ -335,14 +339,28 @@ const DRAW: [ArgName; 5] = [
 ];
 
 /// The words after `reverse`, in the order of the help.
-const REVERSE: [ArgName; 7] = [
+const REVERSE: [ArgName; 10] = [
     ArgName::Queues,
+    ArgName::Pair,
+    ArgName::Mailbox,
+    ArgName::Single,
     ArgName::Svg,
     ArgName::Places,
     ArgName::Plain,
     ArgName::File,
     ArgName::FirstEvent,
     ArgName::SecondEvent,
+];
+
+/// The words after `report`, in the order of the help.
+const REPORT: [ArgName; 7] = [
+    ArgName::Queues,
+    ArgName::Pair,
+    ArgName::Mailbox,
+    ArgName::Single,
+    ArgName::Places,
+    ArgName::Plain,
+    ArgName::File,
 ];
 
 /// The words after `ready`, in the order of the help.
@@ -438,12 +456,7 @@ impl CommandName {
             CommandName::Run => &RUN,
             CommandName::Draw => &DRAW,
             CommandName::Reverse => &REVERSE,
-            CommandName::Report => &[
-                ArgName::Queues,
-                ArgName::Places,
-                ArgName::Plain,
-                ArgName::File,
-            ],
+            CommandName::Report => &REPORT,
             CommandName::Ready => &READY,
             CommandName::Import => &IMPORT,
         }

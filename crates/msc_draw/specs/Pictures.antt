@@ -32,7 +32,7 @@ pub record PrintsJudged (draft : Tree) (d : Drawing) (queues : Queues) (picture_
   pub right : IsSceneOf draft d closest scene
   pub text : printed
       ≡ text_in picture_format scene
-      (verdict_text queues (length (races_of (enforced_chart d queues order))) (length closest))
+      (verdict_text d queues (length (races_of (enforced_chart d queues order))) (length closest))
 
 -- the one or the other, as an architecture is named
 abbrev pub PrintsPicture : Tree → Drawing → Option Queues → PictureFormat → List ℕ → Type 0
@@ -47,7 +47,7 @@ pub record PrintsRun (draft : Tree) (d : Drawing) (queues : Queues) (picture_for
   pub scene : Scene
   pub shows : IsPopulated draft d scene
   pub laid_out : IsRunLaidOut (wired queues d) run e f 0 scene
-  pub text : printed ≡ text_in picture_format scene (reversal_text queues e f)
+  pub text : printed ≡ text_in picture_format scene (reversal_text d queues e f)
 
 -- the two events are no race of a chart under an architecture
 abbrev pub IsNoRace : Drawing → Queues → ℕ → ℕ → Type 0

@@ -1,8 +1,9 @@
 -- What stands above a picture of a chart under an architecture, and above one of a run.
 use Rattle.std.specs.Prelude.{ℕ, cond, List, ◌++◌, codes, nat_eq}
 use Rattle.std.specs.Fmt.{decimal}
-use Rattle.msc_chart.specs.Architectures.{queues_word}
+use Rattle.msc_chart.specs.Drawings.{Drawing}
 use Rattle.msc_chart.specs.declared.queue.Queues.{Queues}
+use Rattle.msc_links.specs.Said.{queues_said}
 
 -- the word behind a number of races
 abbrev pub races_word : ℕ → List ℕ
@@ -14,12 +15,12 @@ counts_text races closest =
     ((decimal races ++ races_word races) ++ decimal closest) ++ codes " closest"
 
 -- the verdict over a chart with so many races
-abbrev pub verdict_text : Queues → ℕ → ℕ → List ℕ
-verdict_text queues races closest =
-    (queues_word queues ++ codes ": ")
+abbrev pub verdict_text : Drawing → Queues → ℕ → ℕ → List ℕ
+verdict_text d queues races closest =
+    (queues_said d queues ++ codes ": ")
     ++ cond (nat_eq races 0) (codes "pass") (counts_text races closest)
 
 -- that a run has event f before event e
-abbrev pub reversal_text : Queues → ℕ → ℕ → List ℕ
-reversal_text queues e f =
-    (((queues_word queues ++ codes ": a run with ") ++ decimal f) ++ codes " before ") ++ decimal e
+abbrev pub reversal_text : Drawing → Queues → ℕ → ℕ → List ℕ
+reversal_text d queues e f =
+    (((queues_said d queues ++ codes ": a run with ") ++ decimal f) ++ codes " before ") ++ decimal e

@@ -11,6 +11,7 @@ use crate::picture_format::{PictureFormat, page_in};
 use itoa::Buffer;
 use listed::Listed;
 use msc_chart::{Chart, Queues};
+use msc_links::print_queues;
 use msc_parser::Draft;
 use msc_picture::chart_scene;
 use msc_print::Page;
@@ -40,17 +41,19 @@ fn print_counts(text: &mut Vec<u8>, races: usize, closest: usize) -> Result<(), 
     text.extend_from_slice(b" closest")
 }
 
-/// The verdict above a chart with this number of races. An error is a growth of memory that was
-/// refused.
+/// The verdict above a chart with this number of races, after the architecture. An error is a
+/// growth of memory that was refused.
 pub fn verdict(
     alloc: Global,
+    chart: &Chart,
     queues: Queues,
     races: usize,
     closest: usize,
 ) -> Result<Vec<u8>, AllocError>
-    ensures { IfOk result (λ text. text.items ≡ verdict_text queues races closest) }
+    ensures { IfOk result (λ text. text.items ≡ verdict_text chart.now queues races closest) }
 {
-    let mut text = Vec::from_slice(alloc, queues.word().as_bytes())?;
+    let mut text = Vec::new(alloc);
+    print_queues(&mut text, alloc, chart, &queues)?;
     text.extend_from_slice(b": ")?;
     if races == 0 {
         text.extend_from_slice(b"pass")?;
@@ -77,7 +80,7 @@ fn draw_judged(
     enforced.facts();
     let races = enforced.count_races() as usize;
     let (bars, closest) = closest_bars(alloc, enforced)?;
-    let more = verdict(alloc, queues, races, closest)?;
+    let more = verdict(alloc, chart, queues, races, closest)?;
     let scene = chart_scene(alloc, draft, chart, bars)?;
     let page = page_in(alloc, picture_format, &scene, more.as_slice())?;
     Ok(page)

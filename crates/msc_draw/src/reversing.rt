@@ -13,6 +13,7 @@ ghost use Rattle.msc_draw.specs.Verdicts.{reversal_text};
 use crate::picture_format::{PictureFormat, page_in};
 use itoa::Buffer;
 use msc_chart::{Chart, Event, Queues};
+use msc_links::print_queues;
 use msc_parser::Draft;
 use msc_picture::{Reversed, run_scene};
 use msc_print::Page;
@@ -21,11 +22,18 @@ use msc_reason::is_race;
 use std::alloc::{AllocError, Global};
 
 /// The text above the picture of a run with event `f` before event `e`.
-fn reversal(alloc: Global, queues: Queues, e: Event, f: Event) -> Result<Vec<u8>, AllocError>
-    ensures { IfOk result (λ text. text.items ≡ reversal_text queues e f) }
+fn reversal(
+    alloc: Global,
+    chart: &Chart,
+    queues: Queues,
+    e: Event,
+    f: Event,
+) -> Result<Vec<u8>, AllocError>
+    ensures { IfOk result (λ text. text.items ≡ reversal_text chart.now queues e f) }
 {
     let mut buffer = Buffer::new();
-    let mut text = Vec::from_slice(alloc, queues.word().as_bytes())?;
+    let mut text = Vec::new(alloc);
+    print_queues(&mut text, alloc, chart, &queues)?;
     text.extend_from_slice(b": a run with ")?;
     text.extend_from_slice(buffer.format(f).as_bytes())?;
     text.extend_from_slice(b" before ")?;
@@ -68,8 +76,8 @@ fn draw_run(
         number: 0,
     };
     let wiring = enforced.wiring();
-    let scene = run_scene(alloc, draft, &wiring, run.as_slice(), race)?;
-    let more = reversal(alloc, enforced.queues(), e, f)?;
+    let scene = run_scene(alloc, draft, wiring, run.as_slice(), race)?;
+    let more = reversal(alloc, enforced.chart(), enforced.queues(), e, f)?;
     let page = page_in(alloc, picture_format, &scene, more.as_slice())?;
     Ok(page)
 }

@@ -4,6 +4,7 @@ mod Pictured
 mod OneMore
 mod Always
 mod PlainSentences
+mod PlainQueues
 mod PlainReports
 mod PlainNames
 mod PlainPrinted

@@ -202,11 +202,11 @@ pub one_more : (source : Source) (base page next : List ℕ) (races : List (ℕ 
     → p.told < 50 → GoesOn (ShowsIn source) t p q run → new.told ≡ p.told + 1 → new.room ≡ q.room
     → new.full ≡ q.full → t.number ≡ p.told + 1 → (t.first, t.second) ≡ race
     → IsRightlyTold (wiring_of (judged source)) (article t run)
-    → next ≡ page ++ line_text (article_node source.scene.now (judged source).queues (article t run))
+    → next ≡ page ++ line_text (article_node source.scene.now (judged source).chart (judged source).queues (article t run))
     → HasTold source base next (races ++ race ∷ []) new
 one_more source base page next races race p q new t run h few step told room full number is right put =
     let a = article t run in
-    let node = article_node source.scene.now (judged source).queues in
+    let node = article_node source.scene.now (judged source).chart (judged source).queues in
     let g = goes (ShowsIn source) t p q run h.many h.articles step h.are.drawn h.room h.all h.cut in
     let long : length (h.articles ++ a ∷ []) ≡ length h.articles + 1 = length-append h.articles (a ∷ []) in
     record {

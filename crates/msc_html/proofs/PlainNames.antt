@@ -5,7 +5,7 @@ use Rattle.std.specs.Prelude.{codes, slice_get, IfSome}
 use Rattle.std.proofs.lemmas.Bool.{and_parts, and_from}
 use Rattle.msc_chart.specs.Charting.{messages_from}
 use Rattle.msc_chart.specs.Drawings.{chart_of, no_message}
-use Rattle.msc_chart.specs.Events.{Act, MessageEnd, acts_of, drawn, end_by, events_of, events_of_item, events_of_items, events_of_sections, next_segment, DraftEvent}
+use Rattle.msc_chart.specs.Events.{Act, MessageEnd, acts_of, drawn, end_by, events_of, events_of_item, events_of_items, events_of_sections, instances_of, next_segment, DraftEvent}
 use Rattle.msc_chart.specs.Events.Act.{OfMessage, Action}
 use Rattle.msc_chart.specs.declared.message.Message.{Message}
 use Rattle.msc_lexer.specs.Bytes.{is_run_byte}
@@ -24,6 +24,7 @@ use Rattle.msc_picture.specs.declared.scene.Head.{Head}
 use Rattle.msc_picture.specs.Plain.{HasPlainNames, IsPlain, is_plain, is_plain_byte}
 use Rattle.msc_picture.specs.Scenes.{head_of, kind_text, message_text, next_name, number_text}
 use Rattle.msc_picture.proofs.PlainBytes.{plain_by, plain_join}
+use Rattle.msc_html.specs.Plain.{HasPlainInstances}
 
 -- a byte of a name is plain
 byte_plain : (b : ℕ) → is_run_byte b ≡ true → is_plain_byte b ≡ true
@@ -62,6 +63,18 @@ heads_plain (s ∷ ss) zero h (is, all) same =
     let here : head_of s ≡ h = cc in
     subst (λ (x : Head). IsPlain x.name × IsPlain x.kind) here (name_plain s.decl.name is.decl.name, kind_plain s.decl.kind is.decl.kind)
 heads_plain (s ∷ ss) (suc i) h (is, all) same = heads_plain ss i h all same
+
+-- the names of sections are plain
+names_of_sections : (ss : List Section) (i : ℕ) → AllByRecursion IsSectionNamed ss
+    → is_plain (get_or (map (λ s. s.decl.name) ss) i []) ≡ true
+names_of_sections [] i all = plain_by [] refl
+names_of_sections (s ∷ ss) zero (is, all) = name_plain s.decl.name is.decl.name
+names_of_sections (s ∷ ss) (suc i) (is, all) = names_of_sections ss i all
+
+-- so are those of a draft's instances
+pub instances_plain : (draft : Tree) → IsDraft draft → HasPlainInstances (chart_of draft)
+unfolding instances_of
+instances_plain draft is = λ i. names_of_sections draft.sections i is.sections
 
 -- the names of the message of an act are names
 abbrev IsNamedAct : Act → Type 0

@@ -3,8 +3,7 @@ use Rattle.std.proofs.Common.{◌≡◌, ℕ, zero, suc, true, List, [], ◌∷�
 use Rattle.std.specs.Prelude.{codes}
 use Rattle.std.specs.Fmt.{decimal}
 use Rattle.std.proofs.lemmas.Bool.{cases_lt}
-use Rattle.msc_chart.specs.Architectures.{queues_word}
-use Rattle.msc_chart.specs.Drawings.{chart_of}
+use Rattle.msc_chart.specs.Drawings.{Drawing, chart_of}
 use Rattle.msc_chart.specs.Lists.{StandsAt}
 use Rattle.msc_chart.specs.declared.queue.Queues.{Queues}
 use Rattle.msc_draw.specs.PictureFormats.{text_in}
@@ -12,6 +11,7 @@ use Rattle.msc_draw.specs.Pictures.{PrintsPicture, PrintsReversal}
 use Rattle.msc_draw.specs.Verdicts.{reversal_text}
 use Rattle.msc_draw.specs.declared.picture_format.PictureFormat.{PictureFormat}
 use Rattle.msc_draw.specs.declared.picture_format.PictureFormat.TheVariants.{Text, Svg}
+use Rattle.msc_links.specs.Said.{queues_said}
 use Rattle.msc_parser.specs.Canonical.{canonical}
 use Rattle.msc_parser.specs.Drafts.{IsDraft}
 use Rattle.msc_parser.specs.Grammar.{Tree}
@@ -24,17 +24,18 @@ use Rattle.msc_race.specs.Wired.{enforced_chart}
 use Rattle.msc_svg.specs.Laws.{SvgPicturesArePlain}
 use Rattle.msc_html.specs.Articles.{Article}
 use Rattle.msc_html.specs.Findings.{AreDrawn, PrintsReport, ShowsIts}
-use Rattle.msc_html.specs.Plain.{ArePlainRuns}
+use Rattle.msc_html.specs.Plain.{ArePlainRuns, HasPlainInstances}
 use Rattle.msc_html.specs.Reports.{report}
-use Rattle.msc_html.proofs.PlainNames.{names_plain}
+use Rattle.msc_html.proofs.PlainNames.{instances_plain, names_plain}
+use Rattle.msc_html.proofs.PlainQueues.{said_plain}
 use Rattle.msc_html.proofs.PlainReports.{over_plain, report_plain}
-use Rattle.msc_html.proofs.PlainSentences.{queues_plain}
 
 -- what stands above the picture of a run
-run_over_plain : (queues : Queues) (e f : ℕ) → is_plain (reversal_text queues e f) ≡ true
-run_over_plain queues e f =
+run_over_plain : (d : Drawing) (queues : Queues) (e f : ℕ) → HasPlainInstances d
+    → is_plain (reversal_text d queues e f) ≡ true
+run_over_plain d queues e f names =
     plain_join _ (decimal e) (plain_join _ (codes " before ") (plain_join _ (decimal f)
-    (plain_join (queues_word queues) (codes ": a run with ") (queues_plain queues) (plain_by _ refl))
+    (plain_join (queues_said d queues) (codes ": a run with ") (said_plain d queues names) (plain_by _ refl))
     (plain_decimal f)) (plain_by _ refl)) (plain_decimal e)
 
 -- the texts of the pictures of runs, where each article that has one has plain ones
@@ -58,13 +59,13 @@ module _ (texts : TextsOfPicturesArePlain) (pictures : PicturesArePlain) (svgs :
   picture_printed None form printed says =
       subst IsPlain (sym says.text) (form_plain form says.scene [] says.right.shows (plain_by [] refl))
   picture_printed (Some queues) form printed says =
-      subst IsPlain (sym says.text) (form_plain form says.scene _ says.right.shows (over_plain queues _ _))
+      subst IsPlain (sym says.text) (form_plain form says.scene _ says.right.shows (over_plain (chart_of draft) queues _ _ (instances_plain draft is)))
 
   -- and so is one of a run
   pub reversal_printed : (queues : Queues) (form : PictureFormat) (e f : ℕ) (printed : List ℕ)
       → PrintsReversal draft (chart_of draft) queues form e f printed → IsPlain printed
   reversal_printed queues form e f printed says =
-      subst IsPlain (sym says.run.text) (form_plain form says.run.scene _ says.run.shows (run_over_plain queues e f))
+      subst IsPlain (sym says.run.text) (form_plain form says.run.scene _ says.run.shows (run_over_plain (chart_of draft) queues e f (instances_plain draft is)))
 
   -- the picture of a run in an article
   article_run : (queues : Queues) (many : ℕ) (articles : List Article) → AreDrawn (ShowsIts draft (chart_of draft) queues) many articles
@@ -83,5 +84,6 @@ module _ (texts : TextsOfPicturesArePlain) (pictures : PicturesArePlain) (svgs :
   report_printed queues version printed plain says =
       let races = length (races_of (enforced_chart (chart_of draft) queues says.order)) in
       subst IsPlain (sym says.text) (report_plain
-      (report queues races (length says.closest) says.scene says.articles (canonical draft) version) (scene_plain says.scene says.right.shows)
+      (report (chart_of draft) queues races (length says.closest) says.scene says.articles (canonical draft) version)
+      (instances_plain draft is) (scene_plain says.scene says.right.shows)
       (runs_plain says.articles (article_run queues says.many says.articles says.tell.drawn)) plain)

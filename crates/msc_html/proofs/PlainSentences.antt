@@ -2,10 +2,6 @@
 use Rattle.std.proofs.Common.{◌≡◌, ℕ, Bool, true, false, cond, List, [], ◌∷◌, ◌++◌, Option, None, Some, codes, length, map, nat_lt, refl}
 use Rattle.std.specs.Prelude.{slice_get}
 use Rattle.std.specs.Fmt.{decimal}
-use Rattle.msc_chart.specs.Architectures.{link_word, queues_word, usual_of}
-use Rattle.msc_chart.specs.declared.queue.Queues.{Queues}
-use Rattle.msc_chart.specs.declared.queue.LinkKind.{LinkKind}
-use Rattle.msc_chart.specs.declared.queue.LinkKind.TheVariants.{Pair, Mailbox, Single}
 use Rattle.msc_picture.specs.declared.scene.Act.{Act}
 use Rattle.msc_picture.specs.declared.scene.Act.TheVariants.{Sends, Takes, Does}
 use Rattle.msc_picture.specs.declared.scene.Arrow.{Arrow}
@@ -88,16 +84,6 @@ sentence_plain name style (x ∷ xs) p q =
     (opened_plain name (style_attributes style) p (style_plain style)) (plain_by _ refl))
     (plain_join (node_text (part_node x)) (nodes_text (children (map part_node xs)))
     (tagged_plain x.tag x.text q.0) (parts_plain xs q.1))) (closed_plain name p)
-
--- the word for a kind of links
-link_plain : (kind : LinkKind) → is_plain (link_word kind) ≡ true
-link_plain Pair = plain_by _ refl
-link_plain Mailbox = plain_by _ refl
-link_plain Single = plain_by _ refl
-
--- so is the word for an architecture
-pub queues_plain : (queues : Queues) → is_plain (queues_word queues) ≡ true
-queues_plain queues = link_plain (usual_of queues)
 
 action_plain : (text : List ℕ) → is_plain text ≡ true → is_plain (action_text text) ≡ true
 action_plain text p =

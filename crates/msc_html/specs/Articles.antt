@@ -1,8 +1,9 @@
 -- What is told of one closest race.
 use Rattle.std.specs.Prelude.{ℕ, cond, List, [], ◌∷◌, ◌++◌, Option, None, Some, codes, nat_lt}
 use Rattle.std.specs.Fmt.{decimal}
-use Rattle.msc_chart.specs.Architectures.{queues_word}
+use Rattle.msc_chart.specs.Drawings.{Drawing}
 use Rattle.msc_chart.specs.declared.queue.Queues.{Queues}
+use Rattle.msc_links.specs.Said.{queue_options}
 use Rattle.msc_picture.specs.declared.scene.Scene.{Scene}
 use Rattle.msc_html.specs.declared.article.ShownRace.{ShownRace}
 use Rattle.msc_html.specs.declared.part.SentenceStyle.TheVariants.{Plain}
@@ -27,15 +28,15 @@ abbrev pub run_text : ShownRace → List ℕ
 run_text t = ((codes "A run with event " ++ decimal t.second) ++ codes " before event ") ++ decimal t.first
 
 -- the command that draws the run
-abbrev pub reverse_text : Queues → ShownRace → List ℕ
-reverse_text queues t =
-    ((((codes "msc reverse --queues " ++ queues_word queues) ++ codes " FILE ") ++ decimal t.first)
+abbrev pub reverse_text : Drawing → Queues → ShownRace → List ℕ
+reverse_text d queues t =
+    ((((codes "msc reverse " ++ queue_options d queues) ++ codes " FILE ") ++ decimal t.first)
     ++ codes " ") ++ decimal t.second
 
 -- how to have the run drawn
-abbrev pub run_told : Queues → ShownRace → Node
-run_told queues t =
-    sentence (codes "p") Plain (words (run_text t ++ codes ": ") ∷ code (reverse_text queues t) ∷ [])
+abbrev pub run_told : Drawing → Queues → ShownRace → Node
+run_told d queues t =
+    sentence (codes "p") Plain (words (run_text t ++ codes ": ") ∷ code (reverse_text d queues t) ∷ [])
 
 -- the runs of the first three races are open
 abbrev pub open_attributes : ℕ → List Attribute
@@ -48,9 +49,9 @@ run_drawn t run =
     (children (plain (codes "summary") (run_text t) ∷ figure_of run (run_text t) [] ∷ []))
 
 -- the run, which is drawn or not
-abbrev pub run_node : Queues → ShownRace → Option Scene → Node
-run_node queues t None = run_told queues t
-run_node queues t (Some run) = run_drawn t run
+abbrev pub run_node : Drawing → Queues → ShownRace → Option Scene → Node
+run_node d queues t None = run_told d queues t
+run_node d queues t (Some run) = run_drawn t run
 
 -- where an article is found
 abbrev pub place_text : ℕ → List ℕ
@@ -65,7 +66,7 @@ told_nodes s t =
     ∷ sentence (codes "p") Plain (causes_parts s t.cause) ∷ []
 
 -- the article of a race
-abbrev pub article_node : Scene → Queues → Article → Node
-article_node s queues a =
+abbrev pub article_node : Scene → Drawing → Queues → Article → Node
+article_node s d queues a =
     block (codes "article") (valued (codes "id") (place_text a.told.number) ∷ [])
-    (children (told_nodes s a.told ++ run_node queues a.told a.run ∷ []))
+    (children (told_nodes s a.told ++ run_node d queues a.told a.run ∷ []))

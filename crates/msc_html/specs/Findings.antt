@@ -87,4 +87,4 @@ pub record PrintsReport (draft : Tree) (d : Drawing) (queues : Queues) (version 
   pub many : ℕ
   pub articles : List Article
   pub tell : AreArticles draft d queues closest many articles
-  pub text : printed ≡ report_text (report queues (length (races_of (enforced_chart d queues order))) (length closest) scene articles (canonical draft) version)
+  pub text : printed ≡ report_text (report d queues (length (races_of (enforced_chart d queues order))) (length closest) scene articles (canonical draft) version)

@@ -1,6 +1,6 @@
 -- That pictures and reports are of the bytes 32 to 126 and line ends.
-use Rattle.std.specs.Prelude.{◌≡◌, ℕ, List, [], ◌∷◌, Option, Some}
-use Rattle.msc_chart.specs.Drawings.{chart_of}
+use Rattle.std.specs.Prelude.{◌≡◌, ℕ, List, [], ◌∷◌, Option, Some, get_or}
+use Rattle.msc_chart.specs.Drawings.{Drawing, chart_of}
 use Rattle.msc_chart.specs.declared.queue.Queues.{Queues}
 use Rattle.msc_draw.specs.Pictures.{PrintsPicture, PrintsReversal}
 use Rattle.msc_draw.specs.declared.picture_format.PictureFormat.{PictureFormat}
@@ -18,11 +18,16 @@ ArePlainRuns [] = IsPlain []
 ArePlainRuns (a ∷ articles) =
     ((run : Scene) → a.run ≡ Some run → HasPlainTexts run) × ArePlainRuns articles
 
--- where all texts of its pictures and the version are plain, so is a report
+-- the names of a chart's instances are plain
+abbrev pub HasPlainInstances : Drawing → Type 0
+HasPlainInstances d = (i : ℕ) → IsPlain (get_or d.instances i [])
+
+-- where the names of its chart's instances, all texts of its pictures and the version are plain, so
+-- is a report
 abbrev pub ReportsArePlain : Type 0
 ReportsArePlain =
-    (r : Report) → HasPlainTexts r.scene → ArePlainRuns r.articles → IsPlain r.version
-    → IsPlain (report_text r)
+    (r : Report) → HasPlainInstances r.chart → HasPlainTexts r.scene → ArePlainRuns r.articles
+    → IsPlain r.version → IsPlain (report_text r)
 
 -- a picture of a draft's chart is plain
 abbrev pub PrintedPicturesArePlain : Type 0

@@ -42,7 +42,7 @@ pub record HasTold (source : Source) (base page : List ℕ) (races : List (ℕ �
   pub articles : List Article
   pub many : ℕ
   pub are : AreArticles source.draft.now (judged source).chart (judged source).queues races many articles
-  pub page_is : page ≡ base ++ lines_text (map (article_node source.scene.now (judged source).queues) articles)
+  pub page_is : page ≡ base ++ lines_text (map (article_node source.scene.now (judged source).chart (judged source).queues) articles)
   pub told : p.told ≡ length articles
   pub room : p.room + rows_drawn articles ≡ 1500
   pub all : p.full ≡ false → many ≡ length articles
@@ -59,13 +59,13 @@ pub record TellsRaces (source : Source) (old new : List ℕ) (races closest : �
   pub articles : List Article
   pub many : ℕ
   pub are : AreIts source many articles
-  pub page_is : new ≡ old ++ lines_text (races_nodes (judged source).queues races closest
-      (map (article_node source.scene.now (judged source).queues) articles))
+  pub page_is : new ≡ old ++ lines_text (races_nodes (judged source).chart (judged source).queues races closest
+      (map (article_node source.scene.now (judged source).chart (judged source).queues) articles))
 
 -- the report of these articles
 abbrev pub report_in : Source → ℕ → ℕ → List Article → List ℕ → List ℕ → Report
 report_in source races closest articles text version =
-    report (judged source).queues races closest source.scene.now articles text version
+    report (judged source).chart (judged source).queues races closest source.scene.now articles text version
 
 -- what a page tells stands behind another one
 pub record TellsMain (source : Source) (old new : List ℕ) (races closest : ℕ) (text version : List ℕ) : Type 0 where
@@ -95,5 +95,5 @@ pub record TellsListing (draft : Tree) (s : Selected) (races : ℕ) (version pri
   pub articles : List Article
   pub many : ℕ
   pub are : AreArticles draft s.judged.chart s.judged.queues (listed_of s) many articles
-  pub text : printed ≡ report_text (report s.judged.queues races (length (listed_of s)) scene articles
+  pub text : printed ≡ report_text (report s.judged.chart s.judged.queues races (length (listed_of s)) scene articles
       (canonical draft) version)

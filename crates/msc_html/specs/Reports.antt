@@ -1,11 +1,13 @@
 -- The report of a chart's races as a tree, and its bytes.
 use Rattle.std.specs.Prelude.{ℕ, ◌-◌, cond, List, [], ◌∷◌, ◌++◌, codes, map, nat_eq, nat_lt}
 use Rattle.std.specs.Fmt.{decimal}
-use Rattle.msc_chart.specs.Architectures.{queues_word, usual_of}
+use Rattle.msc_chart.specs.Architectures.{usual_of}
+use Rattle.msc_chart.specs.Drawings.{Drawing}
 use Rattle.msc_chart.specs.declared.queue.Queues.{Queues}
 use Rattle.msc_chart.specs.declared.queue.LinkKind.{LinkKind}
 use Rattle.msc_chart.specs.declared.queue.LinkKind.TheVariants.{Pair, Mailbox, Single}
 use Rattle.msc_draw.specs.Verdicts.{verdict_text}
+use Rattle.msc_links.specs.Said.{queue_options, queues_said}
 use Rattle.msc_picture.specs.declared.scene.Scene.{Scene}
 use Rattle.msc_picture.specs.Scenes.{shown_byte}
 use Rattle.msc_html.specs.declared.part.SentenceStyle.TheVariants.{Plain, Soft, Verdict, Pass, Scrolled}
@@ -17,10 +19,11 @@ use Rattle.msc_tree.specs.Shapes.{plain, valued}
 use Rattle.msc_tree.specs.Trees.{Node, children, line_text}
 use Rattle.msc_tree.specs.Trees.Node.{block}
 
--- What a report tells: the architecture, how many races there are and how many of them are closest,
+-- What a report tells: the chart and the architecture, how many races there are and how many of them are closest,
 -- the picture of the chart, the races that are told one by one, the canonical text, and the version
 -- of the program.
 pub record Report : Type 0 where
+  pub chart : Drawing
   pub queues : Queues
   pub races : ℕ
   pub closest : ℕ
@@ -30,8 +33,9 @@ pub record Report : Type 0 where
   pub version : List ℕ
 
 -- such a report
-abbrev pub report : Queues → ℕ → ℕ → Scene → List Article → List ℕ → List ℕ → Report
-report queues races closest scene articles text version = record {
+abbrev pub report : Drawing → Queues → ℕ → ℕ → Scene → List Article → List ℕ → List ℕ → Report
+report d queues races closest scene articles text version = record {
+  chart = d;
   queues = queues;
   races = races;
   closest = closest;
@@ -52,14 +56,15 @@ abbrev pub queues_text : Queues → List ℕ
 queues_text queues = link_text (usual_of queues)
 
 -- what is checked
-abbrev pub checked_text : Queues → List ℕ
-checked_text queues =
+abbrev pub checked_text : Drawing → Queues → List ℕ
+checked_text d queues =
     (((codes "Message sequence chart, checked with " ++ queues_text queues) ++ codes " (")
-    ++ queues_word queues) ++ codes ")."
+    ++ queues_said d queues) ++ codes ")."
 
 -- what a page is called
-abbrev pub title_text : List ℕ → Queues → ℕ → ℕ → List ℕ
-title_text name queues races closest = (name ++ codes ", ") ++ verdict_text queues races closest
+abbrev pub title_text : List ℕ → Drawing → Queues → ℕ → ℕ → List ℕ
+title_text name d queues races closest =
+    (name ++ codes ", ") ++ verdict_text d queues races closest
 
 -- how many races there are, and how many of them are closest
 abbrev pub count_text : ℕ → ℕ → List ℕ
@@ -102,18 +107,18 @@ abbrev pub left_text : ℕ → List ℕ
 left_text closest = (codes "And " ++ decimal (closest - 50)) ++ codes " more: "
 
 -- the command that tells them
-abbrev pub command_text : Queues → List ℕ
-command_text queues =
-    (codes "msc check --queues " ++ queues_word queues) ++ codes " --closest --why FILE"
+abbrev pub command_text : Drawing → Queues → List ℕ
+command_text d queues =
+    (codes "msc check " ++ queue_options d queues) ++ codes " --closest --why FILE"
 
 -- how to have them told
-abbrev pub more_node : Queues → ℕ → Node
-more_node queues closest =
-    sentence (codes "p") Plain (words (left_text closest) ∷ code (command_text queues) ∷ [])
+abbrev pub more_node : Drawing → Queues → ℕ → Node
+more_node d queues closest =
+    sentence (codes "p") Plain (words (left_text closest) ∷ code (command_text d queues) ∷ [])
 
 -- the same, where there are more than 50 closest races
-abbrev pub more_nodes : Queues → ℕ → List Node
-more_nodes queues closest = cond (nat_lt 50 closest) (more_node queues closest ∷ []) []
+abbrev pub more_nodes : Drawing → Queues → ℕ → List Node
+more_nodes d queues closest = cond (nat_lt 50 closest) (more_node d queues closest ∷ []) []
 
 -- these, where there are races
 abbrev pub if_any : ℕ → List Node → List Node
@@ -124,9 +129,9 @@ abbrev pub races_title : List Node
 races_title = plain (codes "h2") (codes "Closest races") ∷ []
 
 -- the articles, and what stands below them
-abbrev pub races_nodes : Queues → ℕ → ℕ → List Node → List Node
-races_nodes queues races closest articles =
-    ((if_any races races_title ++ articles) ++ more_nodes queues closest)
+abbrev pub races_nodes : Drawing → Queues → ℕ → ℕ → List Node → List Node
+races_nodes d queues races closest articles =
+    ((if_any races races_title ++ articles) ++ more_nodes d queues closest)
     ++ if_any races advice_nodes
 
 -- what is shown of a byte of a text: an end of a line is one
@@ -147,24 +152,24 @@ end_nodes text version =
     plain (codes "h2") (codes "The text") ∷ shown_node text ∷ version_node version ∷ []
 
 -- what the page begins with
-abbrev pub begin_nodes : List ℕ → Queues → List Node
-begin_nodes name queues =
-    plain (codes "h1") name ∷ sentence (codes "p") Soft (words (checked_text queues) ∷ []) ∷ []
+abbrev pub begin_nodes : List ℕ → Drawing → Queues → List Node
+begin_nodes name d queues =
+    plain (codes "h1") name ∷ sentence (codes "p") Soft (words (checked_text d queues) ∷ []) ∷ []
 
 -- the picture of the chart under its title
 abbrev pub chart_nodes : Scene → ℕ → List Node
 chart_nodes s races = plain (codes "h2") (codes "The chart") ∷ chart_node s races ∷ []
 
 -- what the page tells before the races
-abbrev pub front_nodes : Scene → Queues → ℕ → ℕ → List Node
-front_nodes s queues races closest =
-    (begin_nodes s.name queues ++ verdict_nodes races closest) ++ chart_nodes s races
+abbrev pub front_nodes : Scene → Drawing → Queues → ℕ → ℕ → List Node
+front_nodes s d queues races closest =
+    (begin_nodes s.name d queues ++ verdict_nodes races closest) ++ chart_nodes s races
 
 -- what the page tells
 abbrev pub main_nodes : Report → List Node
 main_nodes r =
-    (front_nodes r.scene r.queues r.races r.closest
-    ++ races_nodes r.queues r.races r.closest (map (article_node r.scene r.queues) r.articles))
+    (front_nodes r.scene r.chart r.queues r.races r.closest
+    ++ races_nodes r.chart r.queues r.races r.closest (map (article_node r.scene r.chart r.queues) r.articles))
     ++ end_nodes r.text r.version
 
 -- its body
@@ -177,7 +182,7 @@ body_node r =
 abbrev pub report_node : Report → Node
 report_node r =
     block (codes "html") (valued (codes "lang") (codes "en") ∷ [])
-    (children (head_node (title_text r.scene.name r.queues r.races r.closest) ∷ body_node r ∷ []))
+    (children (head_node (title_text r.scene.name r.chart r.queues r.races r.closest) ∷ body_node r ∷ []))
 
 -- its bytes
 abbrev pub report_text : Report → List ℕ

@@ -11,8 +11,10 @@ ghost use Rattle.msc_tree.specs.Trees.{attribute_text, line_text, lines_text, op
 use crate::figure::put_figure;
 use crate::part::{SentenceStyle, Tag, part_of, put_sentence};
 use crate::telling::{causes_parts, drawn_parts, reason_parts, title_parts};
-use msc_chart::{Event, Queues};
+use msc_chart::Event;
+use msc_links::print_queue_options;
 use msc_picture::Scene;
+use msc_race::Enforced;
 use msc_reason::Cause;
 use msc_tree::{put_attribute, put_decimal, put_plain};
 use std::alloc::{AllocError, Global};
@@ -38,11 +40,12 @@ fn run_text(alloc: Global, told: ShownRace) -> Result<Vec<u8>, AllocError>
 }
 
 /// The command that draws the run.
-fn reverse_text(alloc: Global, queues: Queues, told: ShownRace) -> Result<Vec<u8>, AllocError>
-    ensures { IfOk result (λ text. text.items ≡ reverse_text queues told) }
+fn reverse_text(alloc: Global, enforced: &Enforced, told: ShownRace) -> Result<Vec<u8>, AllocError>
+    ensures { IfOk result (λ text.
+        text.items ≡ reverse_text enforced.now.chart enforced.now.queues told) }
 {
-    let mut text = Vec::from_slice(alloc, b"msc reverse --queues ")?;
-    text.extend_from_slice(queues.word().as_bytes())?;
+    let mut text = Vec::from_slice(alloc, b"msc reverse ")?;
+    print_queue_options(&mut text, alloc, enforced.chart(), &enforced.queues())?;
     text.extend_from_slice(b" FILE ")?;
     put_decimal(&mut text, told.first as usize)?;
     text.extend_from_slice(b" ")?;
@@ -54,15 +57,15 @@ fn reverse_text(alloc: Global, queues: Queues, told: ShownRace) -> Result<Vec<u8
 fn put_run_told(
     page: &mut Vec<u8>,
     alloc: Global,
-    queues: Queues,
+    enforced: &Enforced,
     told: ShownRace,
 ) -> Result<(), AllocError>
-    ensures { OnOk result
-        (page.new.items ≡ page.old.items ++ line_text (run_told queues told)) }
+    ensures { OnOk result (page.new.items ≡ page.old.items
+        ++ line_text (run_told enforced.now.chart enforced.now.queues told)) }
 {
     let mut text = run_text(alloc, told)?;
     text.extend_from_slice(b": ")?;
-    let command = reverse_text(alloc, queues, told)?;
+    let command = reverse_text(alloc, enforced, told)?;
     let mut parts = Vec::new(alloc);
     parts.push(part_of(alloc, Tag::Words, &text)?)?;
     parts.push(part_of(alloc, Tag::Code, &command)?)?;
@@ -104,16 +107,17 @@ fn put_run_drawn(
 fn put_run(
     page: &mut Vec<u8>,
     alloc: Global,
-    queues: Queues,
+    enforced: &Enforced,
     told: ShownRace,
     run: Option<&Scene>,
 ) -> Result<(), AllocError>
     ensures { OnOk result (page.new.items ≡ page.old.items
-        ++ line_text (run_node queues told (option_map (λ s. s.now) run.entry))) }
+        ++ line_text (run_node enforced.now.chart enforced.now.queues told
+        (option_map (λ s. s.now) run.entry))) }
 {
     match run {
         Some(run) => put_run_drawn(page, alloc, told, run),
-        None => put_run_told(page, alloc, queues, told),
+        None => put_run_told(page, alloc, enforced, told),
     }
 }
 
@@ -173,16 +177,16 @@ pub fn put_article(
     page: &mut Vec<u8>,
     alloc: Global,
     scene: &Scene,
-    queues: Queues,
+    enforced: &Enforced,
     told: ShownRace,
     run: Option<&Scene>,
 ) -> Result<(), AllocError>
     ensures { OnOk result (page.new.items ≡ page.old.items ++ line_text (article_node scene.now
-        queues (article told (option_map (λ s. s.now) run.entry)))) }
+        enforced.now.chart enforced.now.queues (article told (option_map (λ s. s.now) run.entry)))) }
 {
     put_article_begin(page, alloc, told.number)?;
     put_told(page, alloc, scene, told)?;
-    put_run(page, alloc, queues, told, run)?;
+    put_run(page, alloc, enforced, told, run)?;
     page.extend_from_slice(b"</article>\n")?;
     Ok(())
 }

@@ -11,7 +11,9 @@ ghost use Rattle.msc_tree.specs.Trees.{line_text, lines_text};
 use crate::figure::put_figure;
 use crate::part::{Part, SentenceStyle, Tag, part_of, put_sentence};
 use msc_chart::{LinkKind, Queues};
+use msc_links::print_queues;
 use msc_picture::Scene;
+use msc_race::Enforced;
 use msc_tree::{put_decimal, put_plain};
 use std::alloc::{AllocError, Global};
 
@@ -27,13 +29,15 @@ fn queues_text(queues: Queues) -> &'static [u8]
 }
 
 /// The sentence on the check.
-fn checked_text(alloc: Global, queues: Queues) -> Result<Vec<u8>, AllocError>
-    ensures { IfOk result (λ text. text.items ≡ checked_text queues) }
+fn checked_text(alloc: Global, enforced: &Enforced) -> Result<Vec<u8>, AllocError>
+    ensures { IfOk result (λ text.
+        text.items ≡ checked_text enforced.now.chart enforced.now.queues) }
 {
+    let queues = enforced.queues();
     let mut text = Vec::from_slice(alloc, b"Message sequence chart, checked with ")?;
     text.extend_from_slice(queues_text(queues))?;
     text.extend_from_slice(b" (")?;
-    text.extend_from_slice(queues.word().as_bytes())?;
+    print_queues(&mut text, alloc, enforced.chart(), &queues)?;
     text.extend_from_slice(b").")?;
     Ok(text)
 }
@@ -79,11 +83,12 @@ pub fn put_said(
 }
 
 /// Appends the sentence on the check to a page.
-fn put_checked(page: &mut Vec<u8>, alloc: Global, queues: Queues) -> Result<(), AllocError>
+fn put_checked(page: &mut Vec<u8>, alloc: Global, enforced: &Enforced) -> Result<(), AllocError>
     ensures { OnOk result (page.new.items ≡ page.old.items
-        ++ line_text (sentence (codes "p") SentenceStyle.Soft (words (checked_text queues) ∷ []))) }
+        ++ line_text (sentence (codes "p") SentenceStyle.Soft
+        (words (checked_text enforced.now.chart enforced.now.queues) ∷ []))) }
 {
-    let text = checked_text(alloc, queues)?;
+    let text = checked_text(alloc, enforced)?;
     put_said(page, alloc, b"p", SentenceStyle::Soft, &text)?;
     Ok(())
 }
@@ -93,13 +98,13 @@ fn put_begin(
     page: &mut Vec<u8>,
     alloc: Global,
     name: &[u8],
-    queues: Queues,
+    enforced: &Enforced,
 ) -> Result<(), AllocError>
-    ensures { OnOk result
-        (page.new.items ≡ page.old.items ++ lines_text (begin_nodes name.now queues)) }
+    ensures { OnOk result (page.new.items ≡ page.old.items
+        ++ lines_text (begin_nodes name.now enforced.now.chart enforced.now.queues)) }
 {
     put_plain(page, b"h1", name)?;
-    put_checked(page, alloc, queues)?;
+    put_checked(page, alloc, enforced)?;
     Ok(())
 }
 
@@ -227,14 +232,14 @@ pub fn put_front(
     page: &mut Vec<u8>,
     alloc: Global,
     scene: &Scene,
-    queues: Queues,
+    enforced: &Enforced,
     races: usize,
     closest: usize,
 ) -> Result<(), AllocError>
-    ensures { OnOk result (page.new.items ≡ page.old.items
-        ++ lines_text (front_nodes scene.now queues races closest)) }
+    ensures { OnOk result (page.new.items ≡ page.old.items ++ lines_text
+        (front_nodes scene.now enforced.now.chart enforced.now.queues races closest)) }
 {
-    put_begin(page, alloc, scene.name.as_slice(), queues)?;
+    put_begin(page, alloc, scene.name.as_slice(), enforced)?;
     put_verdict(page, alloc, races, closest)?;
     put_chart(page, alloc, scene, races)?;
     Ok(())

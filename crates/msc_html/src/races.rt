@@ -76,7 +76,7 @@ fn run_of(alloc: Global, source: &Source<'_>, told: ShownRace) -> Result<Scene, 
         number: told.number,
     };
     let wiring = enforced.wiring();
-    let scene = run_scene(alloc, source.draft, &wiring, run.as_slice(), race)?;
+    let scene = run_scene(alloc, source.draft, wiring, run.as_slice(), race)?;
     Ok(scene)
 }
 
@@ -92,23 +92,24 @@ fn put_run_article(
     requires race { IsRace (wiring_of (judged source.now)) told.first told.second }
     ensures article { OnOk result ((run : Option Scene) × GoesOn (ShowsIn source.now) told progress.old
         progress.new run × (page.new.items ≡ page.old.items ++ line_text (article_node
-        source.now.scene.now (judged source.now).queues (article told run)))) }
+        source.now.scene.now (judged source.now).chart (judged source.now).queues
+        (article told run)))) }
     ensures told { OnOk result (progress.new.told ≡ progress.old.told) }
 {
-    let queues = source.listing.enforced().queues();
+    let enforced = source.listing.enforced();
     if progress.full {
-        put_article(page, alloc, source.scene, queues, told, None)?;
+        put_article(page, alloc, source.scene, enforced, told, None)?;
         return Ok(());
     }
     let run = run_of(alloc, source, told)?;
     let rows = run.rows.as_slice().len();
     if rows > progress.room {
         progress.full = true;
-        put_article(page, alloc, source.scene, queues, told, None)?;
+        put_article(page, alloc, source.scene, enforced, told, None)?;
         return Ok(());
     }
     progress.room -= rows;
-    put_article(page, alloc, source.scene, queues, told, Some(&run))?;
+    put_article(page, alloc, source.scene, enforced, told, Some(&run))?;
     Ok(())
 }
 

@@ -17,6 +17,7 @@ use crate::part::{SentenceStyle, Tag, part_of, put_sentence};
 use crate::races::{ARTICLE_LIMIT, Source, put_articles};
 use msc_chart::{Chart, Queues};
 use msc_draw::{bars_listed, verdict};
+use msc_links::print_queue_options;
 use msc_parser::Draft;
 use msc_picture::chart_scene;
 use msc_print::Page;
@@ -30,13 +31,14 @@ use std::alloc::{AllocError, Global};
 fn title_text(
     alloc: Global,
     name: &[u8],
-    queues: Queues,
+    enforced: &Enforced,
     races: usize,
     closest: usize,
 ) -> Result<Vec<u8>, AllocError>
-    ensures { IfOk result (λ text. text.items ≡ title_text name.now queues races closest) }
+    ensures { IfOk result (λ text. text.items
+        ≡ title_text name.now enforced.now.chart enforced.now.queues races closest) }
 {
-    let verdict = verdict(alloc, queues, races, closest)?;
+    let verdict = verdict(alloc, enforced.chart(), enforced.queues(), races, closest)?;
     let mut text = Vec::from_slice(alloc, name)?;
     text.extend_from_slice(b", ")?;
     text.extend_from_slice(&verdict)?;
@@ -54,11 +56,12 @@ fn left_text(alloc: Global, closest: usize) -> Result<Vec<u8>, AllocError>
 }
 
 /// The command that lists them.
-fn command_text(alloc: Global, queues: Queues) -> Result<Vec<u8>, AllocError>
-    ensures { IfOk result (λ text. text.items ≡ command_text queues) }
+fn command_text(alloc: Global, enforced: &Enforced) -> Result<Vec<u8>, AllocError>
+    ensures { IfOk result (λ text.
+        text.items ≡ command_text enforced.now.chart enforced.now.queues) }
 {
-    let mut text = Vec::from_slice(alloc, b"msc check --queues ")?;
-    text.extend_from_slice(queues.word().as_bytes())?;
+    let mut text = Vec::from_slice(alloc, b"msc check ")?;
+    print_queue_options(&mut text, alloc, enforced.chart(), &enforced.queues())?;
     text.extend_from_slice(b" --closest --why FILE")?;
     Ok(text)
 }
@@ -67,14 +70,14 @@ fn command_text(alloc: Global, queues: Queues) -> Result<Vec<u8>, AllocError>
 fn put_left(
     page: &mut Vec<u8>,
     alloc: Global,
-    queues: Queues,
+    enforced: &Enforced,
     closest: usize,
 ) -> Result<(), AllocError>
-    ensures { OnOk result
-        (page.new.items ≡ page.old.items ++ line_text (more_node queues closest)) }
+    ensures { OnOk result (page.new.items ≡ page.old.items
+        ++ line_text (more_node enforced.now.chart enforced.now.queues closest)) }
 {
     let text = left_text(alloc, closest)?;
-    let command = command_text(alloc, queues)?;
+    let command = command_text(alloc, enforced)?;
     let mut parts = Vec::new(alloc);
     parts.push(part_of(alloc, Tag::Words, &text)?)?;
     parts.push(part_of(alloc, Tag::Code, &command)?)?;
@@ -86,16 +89,16 @@ fn put_left(
 fn put_more(
     page: &mut Vec<u8>,
     alloc: Global,
-    queues: Queues,
+    enforced: &Enforced,
     closest: usize,
 ) -> Result<(), AllocError>
-    ensures { OnOk result
-        (page.new.items ≡ page.old.items ++ lines_text (more_nodes queues closest)) }
+    ensures { OnOk result (page.new.items ≡ page.old.items
+        ++ lines_text (more_nodes enforced.now.chart enforced.now.queues closest)) }
 {
     if closest <= ARTICLE_LIMIT {
         return Ok(());
     }
-    put_left(page, alloc, queues, closest)?;
+    put_left(page, alloc, enforced, closest)?;
     Ok(())
 }
 
@@ -187,10 +190,9 @@ fn put_races(
     requires { IsOfDraft source.now }
     ensures { OnOk result (TellsRaces source.now page.old.items page.new.items races closest) }
 {
-    let queues = source.listing.enforced().queues();
     put_races_title(page, races)?;
     put_articles(page, alloc, source)?;
-    put_more(page, alloc, queues, closest)?;
+    put_more(page, alloc, source.listing.enforced(), closest)?;
     put_races_end(page, races)?;
     Ok(())
 }
@@ -209,8 +211,8 @@ fn put_main(
     ensures { OnOk result (TellsMain source.now page.old.items page.new.items races closest text.now
         version.now) }
 {
-    let queues = source.listing.enforced().queues();
-    put_front(page, alloc, source.scene, queues, races, closest)?;
+    let enforced = source.listing.enforced();
+    put_front(page, alloc, source.scene, enforced, races, closest)?;
     put_races(page, alloc, source, races, closest)?;
     put_end(page, alloc, text, version)?;
     Ok(())
@@ -247,12 +249,13 @@ fn put_titled_head(
     races: usize,
     closest: usize,
 ) -> Result<(), AllocError>
-    ensures { OnOk result (page.new.items ≡ page.old.items ++ line_text (head_node (title_text
-        source.now.scene.now.name (judged source.now).queues races closest))) }
+    ensures { OnOk result (page.new.items ≡ page.old.items
+        ++ line_text (head_node (title_text source.now.scene.now.name (judged source.now).chart
+        (judged source.now).queues races closest))) }
 {
-    let queues = source.listing.enforced().queues();
+    let enforced = source.listing.enforced();
     let name = source.scene.name.as_slice();
-    let title = title_text(alloc, name, queues, races, closest)?;
+    let title = title_text(alloc, name, enforced, races, closest)?;
     put_head(page, &title)?;
     Ok(())
 }

@@ -70,11 +70,12 @@ unfoldable pub shown_at : List ℕ → List Placed → Option Span
 shown_at ident [] = None
 shown_at ident (p ∷ ps) = cond (shows ident p.statement) (Some p.shown) (shown_at ident ps)
 
--- where the names and the first shown names of a diagram's lines stand, and what stands of these
--- events
+-- where the names and the first shown names of a diagram's lines stand, what stands of these
+-- events, and where its comments stand
 abbrev pub sites_of : Diagram → List EventSpans → TextSpans
 sites_of d events = record {
   names = d.names;
   shown = map (λ ident. shown_at ident d.statements) d.lines;
   events = events;
+  comments = d.comments;
 }

@@ -1,4 +1,5 @@
-//! The places of the names of lines, of the labels of arrows, and of their statements in a text.
+//! The places of the names of lines, of the labels of arrows, of their statements and of comments
+//! in a text.
 
 ghost use Rattle.std.specs.Prelude.{◌≡◌, ◌++◌, map, IfOk, OnOk};
 ghost use Rattle.std.specs.List.{flat_map};
@@ -19,12 +20,13 @@ pub struct EventSpans {
 }
 
 /// The place of the first name of each line in the text, that of its first shown name, if it has
-/// one, and the sites of the events, in their order.
+/// one, the sites of the events, in their order, and the places of the diagram's comments.
 #[derive(Drop)]
 pub struct TextSpans {
     pub names: Listed<Span>,
     pub shown: Listed<Option<Span>>,
     pub events: Listed<EventSpans>,
+    pub comments: Listed<Span>,
 }
 
 /// Appends the sites of these events.
@@ -91,7 +93,7 @@ fn all_shown(
     Ok(shown)
 }
 
-/// The places of names and labels of a diagram and of these events.
+/// The places of names, labels and comments of a diagram and of these events.
 pub(crate) fn sites_of(
     alloc: Global,
     diagram: &Diagram,
@@ -105,9 +107,11 @@ pub(crate) fn sites_of(
         diagram.statements.as_slice(),
     )?;
     let names = Vec::from_slice(alloc, diagram.names.as_slice())?;
+    let comments = Vec::from_slice(alloc, diagram.comments.as_slice())?;
     Ok(TextSpans {
         names: Listed::from_vec(names),
         shown: Listed::from_vec(shown),
         events: Listed::from_vec(events),
+        comments: Listed::from_vec(comments),
     })
 }

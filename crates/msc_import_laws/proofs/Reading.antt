@@ -22,7 +22,7 @@ use Rattle.msc_mermaid.specs.Gives.{unless}
 use Rattle.msc_mermaid.specs.Outlines.{Outline, closed_by, finished, innermost, is_known, laid, meets, met, span_of, with_lines}
 use Rattle.msc_mermaid.specs.Saying.{said_at}
 use Rattle.msc_mermaid.proofs.StepLemmas.{noted_by}
-use Rattle.msc_mermaid.specs.Reading.{Read, untold, is_arrow, listed, noted, read_one, shown_span, told}
+use Rattle.msc_mermaid.specs.Reading.{Read, untold, is_arrow, listed, noted, read_one, shown_span, told, with_comment}
 use Rattle.msc_place.specs.declared.position.Position.{Position}
 use Rattle.msc_import_laws.specs.Lines.{StandsOnce}
 use Rattle.msc_import_laws.specs.Outlined.{AreDistinct, Differ, IsOutlined}
@@ -188,12 +188,16 @@ read_same n k r q le a b c read = record {
   low = λ p o. rw a (read.low p (rw (← c) o));
 }
 
+-- a comment changes nothing of these
+pub comment_read : (n : ℕ) (c : Span) (r : Read) → IsRead n r → IsRead n (with_comment c r)
+comment_read n c r read = read_same n n r (with_comment c r) (omega arith) refl refl refl read
+
 -- a statement is noted, or nothing is
 module _ (n : ℕ) (r : Read) (read : IsRead n r) (here : Position) (whole : Span) (q : Read) where
   all_noted : (s : _) → noted r here whole s ≡ Ok q → IsRead (n + 1) q
   all_noted s e =
       noted_by (IsRead (n + 1)) r here whole q (read_same n (n + 1) r r (omega arith) refl refl refl read)
-      (λ names. read_same n (n + 1) r (record { dying = names; arrows = r.arrows; outline = r.outline; said = r.said }) (omega arith) refl refl refl read)
+      (λ names. read_same n (n + 1) r (record { dying = names; arrows = r.arrows; outline = r.outline; said = r.said; comments = r.comments }) (omega arith) refl refl refl read)
       (λ t name tail o laid'. listed_read n r read here whole name tail t o laid') s e
 
 -- one statement
@@ -214,8 +218,8 @@ unfolding told finished
 told_is r d e =
     let b = bound (finished r.outline) _ d e in
     let found = closed_is (r.outline.lines, r.outline.names) b.0 (innermost r.outline.opened) b.1 in
-    let f : ◌≡◌ {A = Result Diagram ImportFault} (Ok (record { lines = b.0.0; names = b.0.1; statements = r.said })) (Ok d) = b.2 in
-    let same : record { lines = b.0.0; names = b.0.1; statements = r.said } ≡ d = cc in
+    let f : ◌≡◌ {A = Result Diagram ImportFault} (Ok (record { lines = b.0.0; names = b.0.1; statements = r.said; comments = r.comments })) (Ok d) = b.2 in
+    let same : record { lines = b.0.0; names = b.0.1; statements = r.said; comments = r.comments } ≡ d = cc in
     (ap (λ (x : List (List ℕ) × List Span). x.0) found ∙ ap (λ (x : Diagram). x.lines) same, ap (λ (x : Diagram). x.statements) same)
 
 -- nothing is read yet

@@ -25,7 +25,7 @@ use Rattle.msc_place.specs.declared.position.Position.{Position}
 use Rattle.msc_import_laws.specs.Lines.{StandsOnce}
 use Rattle.msc_import_laws.specs.Outlined.{IsOutlined}
 use Rattle.msc_mermaid.proofs.SpellLemmas.{bound}
-use Rattle.msc_import_laws.proofs.Reading.{IsFound, IsRead, none_read, one_read, read_outlined, read_same}
+use Rattle.msc_import_laws.proofs.Reading.{IsFound, IsRead, comment_read, none_read, one_read, read_outlined, read_same}
 use Rattle.msc_mermaid.proofs.StepLemmas.{drop_short}
 
 led_room : (front : List ℕ) (ls : List (List ℕ)) → 1 ≤ room ls → room (led_by front ls) ≡ length front + room ls
@@ -59,7 +59,7 @@ mermaid_outlined cross text d e =
     (λ long. let f : ◌≡◌ {A = Result Diagram ImportFault} (Err TooLong) (Ok d) = sym (ap (λ b. cond b (Err TooLong) (said_in cross (starts_of text) (lines_of text))) long) ∙ e in cc)
     (λ short.
     let f : said_in cross (starts_of text) (lines_of text) ≡ Ok d = sym (ap (λ b. cond b (Err TooLong) (said_in cross (starts_of text) (lines_of text))) short) ∙ e in
-    let r = read_all IsRead (λ n k r le read. read_same n k r r le refl refl refl read) one_read cross (starts_of text) (lines_of text) d f none_read in
+    let r = read_all IsRead (λ n k r le read. read_same n k r r le refl refl refl read) one_read comment_read cross (starts_of text) (lines_of text) d f none_read in
     let within : length text ≤ TEXT_LIMIT = elim (cases_lt TEXT_LIMIT (length text)) [ inl lt ↦ clash (lt-ltb TEXT_LIMIT (length text) lt) short | inr ge ↦ ge ] in
     let a = (text_room false (behind_mark text)).1 in
     let c = cond_short (starts_with nat_eq text (239 ∷ 187 ∷ 191 ∷ [])) text in
@@ -92,7 +92,7 @@ by_outlined languages.Any cross text d e = content_outlined cross text d e
 module _ (cross : Option Cross) (d : Diagram) where
   parts_outlined : (markup : Bool) (starts : List ℕ) (last : Position) (parts : List Stretch) → room (map blanked parts) ≤ TEXT_LIMIT + 1 → said_of markup cross starts last parts ≡ Ok d → IsFound d
   parts_outlined markup starts last parts few e =
-      let r = read_parts IsRead (λ n k r le read. read_same n k r r le refl refl refl read) one_read markup cross starts last parts d e none_read in
+      let r = read_parts IsRead (λ n k r le read. read_same n k r r le refl refl refl read) one_read comment_read markup cross starts last parts d e none_read in
       read_outlined (0 + room (map blanked parts)) r.0 d (omega (arith, few)) r.1 r.2
 
   module _ (any : Bool) (f : Found) (few : room (map blanked f.parts) ≤ TEXT_LIMIT + 1) where

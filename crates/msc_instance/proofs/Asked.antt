@@ -45,9 +45,9 @@ pub all_let : (d : Drawing) (gate : Rule) (patience : ℕ) (queues : Queues) (jo
     → logs ≡ map (λ (x : Left). x.log) (map left_by ran) → ends ≡ map (λ (x : Left). x.end) (map left_by ran)
     → (i : ℕ) → i < length d.instances → WasLet gate.lets d i (get_or logs i []) (get_or ends i Finished)
 all_let d gate patience queues jobs ran are have logs ends logs_are ends_are i below =
-    let R : Job → InstanceEnd → Type 0 = λ k s. RunsFrom d k.number gate patience k.ends s in
+    let R : Job → InstanceEnd → Type 0 = λ k s. RunsFrom d k.number gate patience k.ends.value s in
     let many = AllZip-long R jobs ran have in
-    let (r, at, log, end) = left_at ran i (omega (arith, many, below, are.wiring.many, length-map jobs (λ (j : Job). ends_of j.ends))) in
+    let (r, at, log, end) = left_at ran i (omega (arith, many, below, are.wiring.many, length-map jobs (λ (j : Job). ends_of j.ends.value))) in
     let (j, here, run) = like_at R jobs ran have i r at in
     let own : WasLet gate.lets d i r.log.items r.end =
     subst (λ (n : ℕ). WasLet gate.lets d n r.log.items r.end) (are.numbers i j here) run.1 in

@@ -30,14 +30,14 @@ early_or_last (z ∷ xs) x (suc i) y at = elim (early_or_last xs x i y at) [
 
 -- the jobs have these ends so far, each its number, and each may be run
 pub record ArePrepared (d : Drawing) (ends : List InstanceEnds) (jobs : List Job) : Type 0 where
-  pub same : map (λ (j : Job). j.ends) jobs ≡ ends
+  pub same : map (λ (j : Job). j.ends.value) jobs ≡ ends
   pub numbers : (i : ℕ) (j : Job) → slice_get jobs i ≡ Some j → j.number ≡ i
   pub ready : All (IsReady d) jobs
 
 -- the ends of jobs, read in one step or in two
-composed : (jobs : List Job) → map ends_of (map (λ (j : Job). j.ends) jobs) ≡ map (λ (j : Job). ends_of j.ends) jobs
+composed : (jobs : List Job) → map ends_of (map (λ (j : Job). j.ends.value) jobs) ≡ map (λ (j : Job). ends_of j.ends.value) jobs
 composed [] = refl
-composed (j ∷ jobs) = ap (λ (l : List EndLists). ends_of j.ends ∷ l) (composed jobs)
+composed (j ∷ jobs) = ap (λ (l : List EndLists). ends_of j.ends.value ∷ l) (composed jobs)
 
 -- no jobs are prepared for no ends
 pub none_prepared : (d : Drawing) (jobs : List Job) → jobs ≡ [] → ArePrepared d [] jobs
@@ -46,13 +46,13 @@ none_prepared d jobs is = rw is (record { same = refl; numbers = λ i j at. cc; 
 module _ (d : Drawing) (ends : List InstanceEnds) (jobs : List Job) (are : ArePrepared d ends jobs) where
   -- there are as many jobs as ends
   pub prepared_many : length jobs ≡ length ends
-  prepared_many = sym (length-map jobs (λ (j : Job). j.ends)) ∙ ap length are.same
+  prepared_many = sym (length-map jobs (λ (j : Job). j.ends.value)) ∙ ap length are.same
 
   -- one job more
-  pub prepared_more : (j : Job) (e : InstanceEnds) (more : List Job) → more ≡ jobs ++ j ∷ [] → j.ends ≡ e → j.number ≡ length ends → IsReady d j
+  pub prepared_more : (j : Job) (e : InstanceEnds) (more : List Job) → more ≡ jobs ++ j ∷ [] → j.ends.value ≡ e → j.number ≡ length ends → IsReady d j
       → ArePrepared d (ends ++ e ∷ []) more
   prepared_more j e more is same number ready = rw is (record {
-    same = map-append (λ (k : Job). k.ends) jobs (j ∷ []) ∙ ap (λ l. l ++ j.ends ∷ []) are.same ∙ ap (λ x. ends ++ x ∷ []) same;
+    same = map-append (λ (k : Job). k.ends.value) jobs (j ∷ []) ∙ ap (λ l. l ++ j.ends.value ∷ []) are.same ∙ ap (λ x. ends ++ x ∷ []) same;
     numbers = λ i k at. elim (early_or_last jobs j i k at) [
       | inl early ↦ are.numbers i k early
       | inr last ↦ sym (ap (λ (x : Job). x.number) last.1) ∙ number ∙ sym prepared_many ∙ sym last.0
@@ -61,7 +61,7 @@ module _ (d : Drawing) (ends : List InstanceEnds) (jobs : List Job) (are : ArePr
   })
 
   -- the lists of the ends are those of the jobs
-  ends_same : map ends_of ends ≡ map (λ (j : Job). ends_of j.ends) jobs
+  ends_same : map ends_of ends ≡ map (λ (j : Job). ends_of j.ends.value) jobs
   ends_same = ap (map ends_of) (sym are.same) ∙ composed jobs
 
   -- all of them
@@ -70,9 +70,9 @@ module _ (d : Drawing) (ends : List InstanceEnds) (jobs : List Job) (are : ArePr
     wiring = subst (IsWiring queues d) ends_same wiring;
     numbers = are.numbers;
     under = λ k j lt.
-        let there : get_or ends k j.ends ≡ (get_or jobs k j).ends =
-        ap (λ l. get_or l k j.ends) (sym are.same) ∙ get_or-map (λ (x : Job). x.ends) jobs k j j.ends lt in
-        sym (ap (λ (e : InstanceEnds). e.queues) there) ∙ under k j.ends (omega (arith, prepared_many));
+        let there : get_or ends k j.ends.value ≡ (get_or jobs k j).ends.value =
+        ap (λ l. get_or l k j.ends.value) (sym are.same) ∙ get_or-map (λ (x : Job). x.ends.value) jobs k j j.ends.value lt in
+        sym (ap (λ (e : InstanceEnds). e.queues) there) ∙ under k j.ends.value (omega (arith, prepared_many));
     ready = are.ready;
   }
 

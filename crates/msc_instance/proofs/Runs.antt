@@ -50,21 +50,21 @@ paired_at R f g (x ∷ xs) (y ∷ ys) h (suc i) c d at back = paired_at R f g xs
 module _ (d : Drawing) (gate : Rule) (patience : ℕ) where
   -- what the jobs of a chart leave are runs from fresh ends
   pub runs_from_fresh : (queues : Queues) (jobs : List Job) (ran : List InstanceEnd) → AreJobs queues d jobs → HaveRun d gate patience jobs ran
-      → HaveRunFrom queues d gate.is_open patience (map (λ (j : Job). ends_of j.ends) jobs) (map left_by ran)
+      → HaveRunFrom queues d gate.is_open patience (map (λ (j : Job). ends_of j.ends.value) jobs) (map left_by ran)
   runs_from_fresh queues jobs ran are have =
-      let R : Job → InstanceEnd → Type 0 = λ k s. RunsFrom d k.number gate patience k.ends s in
-      let many = AllZip-long (λ (k : Job) (s : InstanceEnd). RunsFrom d k.number gate patience k.ends s) jobs ran have in
+      let R : Job → InstanceEnd → Type 0 = λ k s. RunsFrom d k.number gate patience k.ends.value s in
+      let many = AllZip-long (λ (k : Job) (s : InstanceEnd). RunsFrom d k.number gate patience k.ends.value s) jobs ran have in
       record {
-        many = omega (arith, many, length-map ran left_by, length-map jobs (λ (j : Job). ends_of j.ends));
+        many = omega (arith, many, length-map ran left_by, length-map jobs (λ (j : Job). ends_of j.ends.value));
         each = λ i e r at back.
-            let (j, s, here, begins, leaves, run) = paired_at R (λ (j : Job). ends_of j.ends) left_by jobs ran have i e r at back in
+            let (j, s, here, begins, leaves, run) = paired_at R (λ (j : Job). ends_of j.ends.value) left_by jobs ran have i e r at back in
             let number : j.number ≡ i = are.numbers i j here in
             let within = slice_get_within jobs i j here in
-            let under : j.ends.queues ≡ queues =
-            subst (λ (k : Job). k.ends.queues ≡ queues) (get_or_from_slice_get jobs i j j here) (are.under i j within) in
-            let one : HasRun (role queues d i) gate.is_open patience (ends_of j.ends) (left_by s) =
-            subst (λ (q : Queues). HasRun (role q d i) gate.is_open patience (ends_of j.ends) (left_by s)) under
-            (subst (λ (n : ℕ). HasRun (role j.ends.queues d n) gate.is_open patience (ends_of j.ends) (left_by s)) number run.0) in
+            let under : j.ends.value.queues ≡ queues =
+            subst (λ (k : Job). k.ends.value.queues ≡ queues) (get_or_from_slice_get jobs i j j here) (are.under i j within) in
+            let one : HasRun (role queues d i) gate.is_open patience (ends_of j.ends.value) (left_by s) =
+            subst (λ (q : Queues). HasRun (role q d i) gate.is_open patience (ends_of j.ends.value) (left_by s)) under
+            (subst (λ (n : ℕ). HasRun (role j.ends.value.queues d n) gate.is_open patience (ends_of j.ends.value) (left_by s)) number run.0) in
             subst (λ (l : Left). HasRun (role queues d i) gate.is_open patience e l) leaves
             (subst (λ (b : EndLists). HasRun (role queues d i) gate.is_open patience b (left_by s)) begins one);
       }

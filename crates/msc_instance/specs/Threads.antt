@@ -29,34 +29,34 @@ RunsFrom d i gate patience ends r =
 -- the job of an instance that was not begun, its outlets closed
 pub record IsClosedJob (old new : Job) : Type 0 where
   pub number : new.number ≡ old.number
-  pub queues : new.ends.queues ≡ old.ends.queues
-  pub outlets : AllZip IsClosedFrom old.ends.outlets.items new.ends.outlets.items
-  pub inlets : new.ends.inlets.items ≡ old.ends.inlets.items
+  pub queues : new.ends.value.queues ≡ old.ends.value.queues
+  pub outlets : AllZip IsClosedFrom old.ends.value.outlets.items new.ends.value.outlets.items
+  pub inlets : new.ends.value.inlets.items ≡ old.ends.value.inlets.items
   pub log : new.log.items ≡ old.log.items
 
 -- what a thread answers is the run from its job, or that job, not begun
 abbrev pub AnswersRun : Drawing → Rule → ℕ → Job → Answer → Type 0
-AnswersRun d gate patience j (Ran r) = RunsFrom d j.number gate patience j.ends r
+AnswersRun d gate patience j (Ran r) = RunsFrom d j.number gate patience j.ends.value r
 AnswersRun d gate patience j (NotRun k) = IsClosedJob j k
 
 -- an instance may be run from here
 pub record IsReady (d : Drawing) (j : Job) : Type 0 where
   pub known : j.number < length d.instances
-  pub fit : IsFit (role j.ends.queues d j.number) (ends_of j.ends)
+  pub fit : IsFit (role j.ends.value.queues d j.number) (ends_of j.ends.value)
   pub empty : j.log.items ≡ []
   pub room : length (line_events d j.number) ≤ vec_capacity j.log
 
 -- these start the instances of a chart, in their order, from fresh ends
 pub record AreJobs (queues : Queues) (d : Drawing) (jobs : List Job) : Type 0 where
-  pub wiring : IsWiring queues d (map (λ (j : Job). ends_of j.ends) jobs)
+  pub wiring : IsWiring queues d (map (λ (j : Job). ends_of j.ends.value) jobs)
   pub numbers : (i : ℕ) (j : Job) → slice_get jobs i ≡ Some j → j.number ≡ i
-  pub under : All (λ (j : Job). j.ends.queues ≡ queues) jobs
+  pub under : All (λ (j : Job). j.ends.value.queues ≡ queues) jobs
   pub ready : All (IsReady d) jobs
 
 -- each was run, in their order
 abbrev pub HaveRun : Drawing → Rule → ℕ → List Job → List InstanceEnd → Type 0
 HaveRun d gate patience jobs ran =
-    AllZip (λ (j : Job) (r : InstanceEnd). RunsFrom d j.number gate patience j.ends r) jobs ran
+    AllZip (λ (j : Job) (r : InstanceEnd). RunsFrom d j.number gate patience j.ends.value r) jobs ran
 
 -- The later instances, whose jobs these were, are closed. Beside them stands the one whose thread
 -- was refused, or its answer beside the answers

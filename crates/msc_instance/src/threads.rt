@@ -26,8 +26,8 @@ use std::thread::{Promise, Scope, Threads};
 pub(crate) struct Job {
     /// The number of the instance.
     pub number: u32,
-    /// Its ends.
-    pub ends: InstanceEnds,
+    /// Its ends. They are in a box, since a call for each instance is on the stack at once.
+    pub ends: Box<InstanceEnds>,
     /// An empty log, with room for the events of its line.
     pub log: Vec<Event>,
 }
@@ -70,11 +70,15 @@ fn prepare(alloc: Global, chart: &Chart, number: u32, ends: InstanceEnds) -> Res
     requires fit { IsFit (role ends.queues chart.now number) (ends_of ends) }
     ensures ready { IfOk result (IsReady chart.now) }
     ensures number { IfOk result (λ j. j.number ≡ number) }
-    ensures ends { IfOk result (λ j. j.ends ≡ ends) }
+    ensures ends { IfOk result (λ j. j.ends.value ≡ ends) }
 {
     let (first, past) = chart.line(number);
     let log = Vec::with_capacity(alloc, past.saturating_sub(first) as usize)?;
-    Ok(Job { number, ends, log })
+    Ok(Job {
+        number,
+        ends: Box::new(alloc, ends)?,
+        log,
+    })
 }
 
 /// The parts from which each instance starts, in the order of the chart.
@@ -122,6 +126,7 @@ fn run_job<G: Gate>(chart: &Chart, mut job: Job, gate: &G, patience: u32, start:
         return Answer::NotRun(job);
     }
     let Job { number, ends, log } = job;
+    let ends = Box::into_inner(ends);
     Answer::Ran(run_instance(chart, number, ends, gate, patience, log))
 }
 

@@ -100,6 +100,21 @@ reading_of_parts (head ∷ clauses) = cond (starts_with nat_eq head (codes "queu
 unfoldable pub reading_of : List ℕ → Reading
 reading_of comment = reading_of_parts (parts_by 59 comment)
 
+-- some part of a comment begins with `serves`
+unfoldable pub has_serving : List ℕ → Bool
+has_serving comment = list_any is_serving (parts_by 59 comment)
+
+-- a reading of this comment of a chart. A chart serves nothing, so it cannot be read if it says
+-- something and some part begins with `serves`
+abbrev pub without_serving : List ℕ → Reading → Reading
+without_serving comment says_nothing = says_nothing
+without_serving comment unreadable = unreadable
+without_serving comment (says text) = cond (has_serving comment) unreadable (says text)
+
+-- how a comment of a chart reads
+unfoldable pub chart_reading_of : List ℕ → Reading
+chart_reading_of comment = without_serving comment (reading_of comment)
+
 -- rules as plain data
 abbrev pub plain_rules : List Rule → List KindRule
 plain_rules rules = map (λ rule. record { kind = rule.kind; link = rule.link.now }) rules

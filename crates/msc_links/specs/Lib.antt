@@ -4,6 +4,8 @@ pub mod Names
 pub mod Links
 pub mod Rules
 pub mod Comments
+pub mod Listed
+pub mod Said
 pub mod Laws
 -- what the code keeps
 pub mod Tables

@@ -18,7 +18,8 @@ ghost use Rattle.msc_links.specs.Blanks.{is_blank};
 ghost use Rattle.msc_links.specs.Comments.{HasTaken, is_clause, is_empty, is_near, is_slip};
 ghost use Rattle.msc_links.specs.Comments.{own_reading, own_text, parts_by, plain_rules, reading_of};
 ghost use Rattle.msc_links.specs.Comments.{reading_of_kind, reading_of_word, rules_by, says};
-ghost use Rattle.msc_links.specs.Comments.{unreadable, word_of};
+ghost use Rattle.msc_links.specs.Comments.{chart_reading_of, has_serving, is_serving, unreadable};
+ghost use Rattle.msc_links.specs.Comments.{word_of};
 
 use crate::blank::{is_blank, trimmed};
 use crate::rule::Rule;
@@ -314,4 +315,50 @@ pub fn own_queues(alloc: Global, comment: &[u8]) -> Result<Option<OwnQueues<'_>>
         return Ok(None);
     }
     own_of_word(alloc, word_of(head), clauses)
+}
+
+/// Whether a clause begins with `serves`.
+fn is_serving(clause: &[u8]) -> bool
+    ensures { result ≡ is_serving clause.now }
+{
+    first_word(clause) == "serves".as_bytes()
+}
+
+/// Whether a part of a comment begins with `serves`.
+fn has_serving(alloc: Global, comment: &[u8]) -> Result<bool, AllocError>
+    ensures { IfOk result (λ has. has ≡ has_serving comment.now) }
+{
+    let parts = parts_by(alloc, b';', comment)?;
+    Ok(has_serving_in(&parts))
+}
+
+/// Whether one of the parts begins with `serves`.
+fn has_serving_in(parts: &[&[u8]]) -> bool
+    ensures { result ≡ list_any (λ part. is_serving part.now) parts.now }
+{
+    parts.iter().any(|part| is_serving(part))
+}
+
+/// What a comment of a chart says about the queues of its text, if it says something. It reads as
+/// [`own_queues`] says, except that a chart has no instances that serve: a clause that begins with
+/// `serves` cannot be read.
+///
+/// # Errors
+///
+/// `Expected` where [`own_queues`] has it, and if the comment says something and some part begins
+/// with `serves`. `Memory` may come at any growth.
+pub fn own_queues_of_chart(alloc: Global, comment: &[u8]) -> Result<Option<OwnQueues<'_>>, OwnFault>
+    ensures { MatchResult result
+        (λ own. own_reading own ≡ chart_reading_of comment.now)
+        (λ fault. (fault ≡ Expected) → chart_reading_of comment.now ≡ unreadable) }
+{
+    let own = match own_queues(alloc, comment) {
+        Ok(Some(own)) => own,
+        Ok(None) => return Ok(None),
+        Err(fault) => return Err(fault),
+    };
+    if has_serving(alloc, comment)? {
+        return Err(OwnFault::Expected);
+    }
+    Ok(Some(own))
 }

@@ -3,6 +3,7 @@
 ghost use Rattle.std.specs.Prelude.{◌≡◌, ◌≤◌, IfOk, length};
 ghost use Rattle.std.specs.Result.{result_map_both};
 ghost use Rattle.msc_links.specs.Links.{IsWithin, fault_text, known, link_between, link_of, link_to};
+ghost use Rattle.msc_links.specs.Links.{same_link};
 
 use crate::blank::trimmed;
 use crate::fault::LinkFault;
@@ -12,11 +13,24 @@ use msc_chart::INSTANCE_LIMIT;
 
 /// What a rule is for, by the numbers of lines.
 #[derive(Clone, Copy, Debug, PartialEq, Eq)]
-pub(crate) enum Link {
+pub enum Link {
     /// All links to a line.
     To(usize),
     /// The link from the first line to the second.
     Between(usize, usize),
+}
+
+/// Whether two links are the same.
+pub(crate) fn same_link(one: Link, other: Link) -> bool
+    ensures { result ≡ same_link one other }
+{
+    match (one, other) {
+        (Link::To(receiver), Link::To(same)) => receiver == same,
+        (Link::Between(sender, receiver), Link::Between(from, to)) => {
+            sender == from && receiver == to
+        }
+        (Link::To(_), Link::Between(_, _)) | (Link::Between(_, _), Link::To(_)) => false,
+    }
 }
 
 /// All links to the line with a name.

@@ -25,7 +25,7 @@ pub struct Rule<'w> {
 }
 
 /// Whether two kinds are the same.
-fn same_kind(one: LinkKind, other: LinkKind) -> bool
+pub fn same_kind(one: LinkKind, other: LinkKind) -> bool
     ensures { result ≡ same_kind one other }
 {
     matches!(

@@ -2,7 +2,10 @@
 
 ghost use Rattle.std.specs.Prelude.{◌<◌};
 
-use crate::{LineNames, LinkFault, OwnFault, Rule, RulesFault, own_queues, queues_of};
+use crate::{
+    LineNames, LinkFault, OwnFault, Rule, RulesFault, own_queues, own_queues_of_chart, own_said,
+    queues_of,
+};
 use msc_chart::{INSTANCE_LIMIT, LinkKind};
 use std::alloc::AllocGlobal;
 
@@ -144,5 +147,92 @@ const WANTED: &[(&[u8], Result<Option<(LinkKind, usize, usize)>, OwnFault>)] = &
 fn comments(rt: HostRuntime) {
     for &(comment, wanted) in WANTED {
         assert_eq!(rt; read(&rt, comment), wanted, "{comment:?}");
+    }
+}
+
+/// The names of the lines of a diagram.
+const LINES: &[LineNames<'static>] = &[
+    LineNames {
+        own: b"cell",
+        shown: b"radio cell",
+        made: b"radio_cell",
+    },
+    LineNames {
+        own: b"bs",
+        shown: b"base station",
+        made: b"base_station",
+    },
+    LineNames {
+        own: b"W",
+        shown: b"Job Worker",
+        made: b"W",
+    },
+];
+
+/// What is said of the rules of a comment, if it has some without a fault.
+fn said(rt: &impl AllocGlobal, comment: &'static [u8]) -> Result<Option<Vec<u8>>, OwnFault> {
+    match own_queues(rt.alloc(), comment)? {
+        Some(own) => Ok(own_said(rt.alloc(), &own, LINES)?),
+        None => Ok(None),
+    }
+}
+
+/// Whether this is said of the rules of a comment, or nothing.
+fn is_said(rt: &impl AllocGlobal, comment: &'static [u8], wanted: Option<&[u8]>) -> bool {
+    match (said(rt, comment), wanted) {
+        (Ok(Some(text)), Some(wanted)) => text.as_slice() == wanted,
+        (Ok(None), None) => true,
+        _ => false,
+    }
+}
+
+/// Comments, and what is said of their rules.
+const SAID: &[(&[u8], Option<&[u8]>)] = &[
+    (
+        b"queues pair; single radio cell > base station; mailbox Job Worker, base station; \
+serves Job Worker",
+        Some(b"queues pair; mailbox W, base_station; single radio_cell>base_station"),
+    ),
+    (b"queues  mailbox ", Some(b"queues mailbox")),
+    (
+        b"queues single; pair W; single cell; pair bs>W,Job Worker , bs",
+        Some(b"queues single; pair W, base_station>W, base_station; single radio_cell"),
+    ),
+    (b"queues single; pair W; mailbox Job Worker", None),
+    (b"queues single; pair X", None),
+];
+
+#[test]
+fn rules_that_are_said(rt: HostRuntime) {
+    for &(comment, wanted) in SAID {
+        assert!(rt; is_said(&rt, comment, wanted), "{comment:?}");
+    }
+}
+
+/// The kind, and the number of rules, that a comment of a chart gives.
+fn read_in_chart(
+    rt: &impl AllocGlobal,
+    comment: &'static [u8],
+) -> Result<Option<(LinkKind, usize)>, OwnFault> {
+    match own_queues_of_chart(rt.alloc(), comment) {
+        Ok(Some(own)) => Ok(Some((own.usual, own.rules.len()))),
+        Ok(None) => Ok(None),
+        Err(fault) => Err(fault),
+    }
+}
+
+/// Comments of charts, and what they say.
+const IN_CHARTS: &[(&[u8], Result<Option<(LinkKind, usize)>, OwnFault>)] = &[
+    (b"queues pair; single A>B", Ok(Some((LinkKind::Pair, 1)))),
+    (b"queues are many; serves A", Ok(None)),
+    (b"queues pair; serves A", Err(OwnFault::Expected)),
+    (b"queues pair; serves", Err(OwnFault::Expected)),
+    (b"queues pairs", Err(OwnFault::Expected)),
+];
+
+#[test]
+fn comments_of_charts(rt: HostRuntime) {
+    for &(comment, wanted) in IN_CHARTS {
+        assert_eq!(rt; read_in_chart(&rt, comment), wanted, "{comment:?}");
     }
 }

@@ -3,6 +3,7 @@ pub mod Words
 pub mod Places
 pub mod Readings
 pub mod Comments
+pub mod ChartComments
 pub mod Statements
 -- what marks accept
 pub mod Accepting

@@ -1,9 +1,11 @@
-//! Marks: races that are accepted, with their reasons, in the chart's text.
+//! Marks: races that are accepted, with their reasons, in the chart's text; and the comment after
+//! the chart's name.
 //!
 //! A mark is the comment of an event's statement that begins with `race ok` and has the
 //! architectures and the other events that it is for, and a reason. [`Marks::of`] finds the marks
 //! of a text, and [`Accepted`] says which races of a chart they accept. Marks are this project's
-//! own. Events are numbered from 0, in the order of the text; places are bytes of it, from 0.
+//! own. [`chart_comment`] finds the comment after the chart's name, in which a text names its
+//! queues. Events are numbered from 0, in the order of the text; places are bytes of it, from 0.
 //!
 //! # Choices
 //!
@@ -16,6 +18,7 @@
 #![tactic(auto)]
 
 mod accepted;
+mod after_name;
 mod comment;
 mod fault;
 mod ident;
@@ -30,6 +33,7 @@ mod row;
 mod word;
 
 pub use accepted::Accepted;
+pub use after_name::{ChartComment, chart_comment};
 pub use fault::MarkFault;
 pub use mark::Mark;
 pub use marks::Marks;

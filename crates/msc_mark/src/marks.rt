@@ -32,7 +32,7 @@ impl Model for Marks {
 }
 
 /// The tokens of a text, or none if it has a lexical fault.
-fn tokens_of(alloc: Global, text: &[u8]) -> Result<Vec<Token>, AllocError>
+pub(crate) fn tokens_of(alloc: Global, text: &[u8]) -> Result<Vec<Token>, AllocError>
     ensures tokens { IfOk result
         (λ v. (ts : List LexedToken) → HasTokens text.now ts → v.items ≡ ts) }
     ensures own { IfOk result (λ v. AreOwn text.now v.items) }

@@ -13,6 +13,7 @@ pub mod PlaceLemmas
 pub mod LawLemmas
 pub mod StepLemmas
 pub mod SpotLemmas
+pub mod CommentLemmas
 pub mod BeginLemmas
 pub mod FrontLemmas
 pub mod SpellLemmas

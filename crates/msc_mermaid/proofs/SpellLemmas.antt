@@ -52,7 +52,7 @@ drop_twice (suc m) k (x ∷ xs) =
     drop_twice m k xs ∙ ap (λ n. drop n (x ∷ xs)) same
 
 -- the last bytes are found from how many they are
-drop_back : (k : ℕ) (xs : List ℕ) → drop (length xs - length (drop k xs)) xs ≡ drop k xs
+pub drop_back : (k : ℕ) (xs : List ℕ) → drop (length xs - length (drop k xs)) xs ≡ drop k xs
 drop_back zero xs = let z : length xs - length xs ≡ 0 = omega arith in ap (λ n. drop n xs) z
 drop_back (suc k) [] = drop_none (0 - 0)
 drop_back (suc k) (x ∷ xs) =

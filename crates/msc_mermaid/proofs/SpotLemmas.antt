@@ -1,5 +1,5 @@
--- Where statements begin: what holds of each place at which one may begin holds of those that are
--- read.
+-- Where statements and comments begin: what holds of each place at which one may begin holds of
+-- those that are read.
 use Rattle.std.proofs.Common.{◌≡◌, ℕ, ◌+◌, Bool, true, false, cond, ◌&&◌, length, take, drop, sym, List, [], ◌∷◌, Option, None, Some, Result, Ok, refl, subst}
 use Rattle.msc_mermaid.specs.declared.fault.ImportFault.{ImportFault}
 use Rattle.msc_mermaid.specs.declared.key.Mark.{Mark}
@@ -13,6 +13,7 @@ use Rattle.msc_mermaid.specs.declared.seeking.Sought.TheVariants as sought
 use Rattle.msc_mermaid.specs.declared.line_kind.LineKind.{LineKind}
 use Rattle.msc_mermaid.specs.declared.line_kind.LineKind.TheVariants as line_kinds
 use Rattle.msc_mermaid.specs.declared.statement.Cross.{Cross}
+use Rattle.msc_mermaid.specs.declared.statement.Span.{Span}
 use Rattle.msc_place.specs.declared.position.Position.{Position}
 use Rattle.msc_mermaid.specs.Cutting.{cut}
 use Rattle.msc_mermaid.specs.Gives.{unless}
@@ -22,11 +23,11 @@ use Rattle.msc_mermaid.specs.Patterns.{first_fit, is_empty}
 use Rattle.msc_mermaid.specs.Saying.{is_unended}
 use Rattle.msc_mermaid.specs.Seeking.{before, holds}
 use Rattle.msc_mermaid.specs.White.{behind_white, front, trimmed}
-use Rattle.msc_mermaid.specs.Mermaid.{behind_head, body, body_as, closed, commented, config_end, configured_as, described_as, ended_on, first_line, goes_on, gone_on, head_as, is_commented, is_front, is_last, left_out, now_at, now_in, outside, piece_as, piece_by, piece_said, put_off, put_off_said, read_piece, read_pieces, said_on, line_kind_of, spot_behind, stated, statement, step, step_in, steps, text_within, titled, undirected}
-use Rattle.msc_mermaid.specs.Reading.{Read, read_one}
+use Rattle.msc_mermaid.specs.Mermaid.{behind_head, body, body_as, closed, comment_read, comment_span, commented, config_end, configured_as, described_as, ended_on, first_line, goes_on, gone_on, head_as, is_commented, is_front, is_last, left_out, now_at, now_in, outside, piece_as, piece_by, piece_said, put_off, put_off_said, read_piece, read_pieces, said_on, line_kind_of, spot_behind, stated, statement, step, step_in, steps, text_within, titled, undirected}
+use Rattle.msc_mermaid.specs.Reading.{Read, read_one, with_comment}
 use Rattle.msc_mermaid.proofs.SpellLemmas.{bound}
 
-module _ (R : Read → Type 0) (S : StatementStart → Type 0) (one : (cross : Option Cross) (spot : StatementStart) (bytes : List ℕ) (r q : Read) → S spot → R r → read_one cross spot bytes r ≡ Ok q → R q) where
+module _ (R : Read → Type 0) (S : StatementStart → Type 0) (C : Span → Type 0) (one : (cross : Option Cross) (spot : StatementStart) (bytes : List ℕ) (r q : Read) → S spot → R r → read_one cross spot bytes r ≡ Ok q → R q) (comment : (c : Span) (r : Read) → C c → R r → R (with_comment c r)) where
   -- a statement that waits for further lines has begun at such a place
   abbrev pub Waits : Inside → StatementStart → Type 0
   Waits inside.Start spot = Unit {0}
@@ -63,8 +64,11 @@ module _ (R : Read → Type 0) (S : StatementStart → Type 0) (one : (cross : O
     unfolding titled
     titled_fine here text p q e f = unless_fine start _ _ (now_in inside.Rest p) q e (f.0, tt, f.2)
 
-    commented_fine : (line : ℕ) (whole bytes : List ℕ) (p q : Progress) → commented line whole bytes p ≡ Ok q → Fine start p → Fine start q
-    commented_fine line whole bytes p q e f = unless_fine start _ _ p q e f
+    commented_fine : (line : ℕ) (whole bytes : List ℕ) (p q : Progress) → C (comment_span start whole bytes) → commented line whole bytes p ≡ Ok q → Fine start p → Fine start q
+    commented_fine line whole bytes p q given e f =
+        let c = comment_span p.start whole bytes in
+        let here : C c = subst (λ (n : ℕ). C (comment_span n whole bytes)) (sym f.2) given in
+        unless_fine start _ _ (comment_read c p) q e (comment c p.reader here f.0, f.1, f.2)
 
     stated_fine : (cross : Option Cross) (spot : StatementStart) (bytes : List ℕ) (part : Inside) (p q : Progress) → S spot → Waits part p.waiting.spot → stated cross spot bytes part p ≡ Ok q → Fine start p → Fine start q
     unfolding stated
@@ -114,7 +118,7 @@ module _ (R : Read → Type 0) (S : StatementStart → Type 0) (one : (cross : O
         by false e = same start p q e f
 
     -- a line of these bytes
-    module _ (cross : Option Cross) (line : ℕ) (l : List ℕ) (here : (k : ℕ) → S (spot_behind start line l k)) where
+    module _ (cross : Option Cross) (line : ℕ) (l : List ℕ) (here : (k : ℕ) → S (spot_behind start line l k)) (remark : (k : ℕ) → line_kind_of (trimmed (drop k l)) ≡ line_kinds.Comment → C (comment_span start l (drop k l))) where
       pieces_fine : (at : ℕ) (xs : List (List ℕ)) (p q : Progress) → read_pieces cross line l at xs p ≡ Ok q → Fine start p → Fine start q
       unfolding read_pieces
       pieces_fine at [] p q e f = same start p q e f
@@ -130,26 +134,26 @@ module _ (R : Read → Type 0) (S : StatementStart → Type 0) (one : (cross : O
           let b = bound (undirected line l (drop at l)) _ q e in
           pieces_fine at (cut (drop at l)) p q b.2 f
 
-      body_as_fine : (at : ℕ) (p q : Progress) (s : LineKind) → body_as cross line l at p s ≡ Ok q → Fine start p → Fine start q
+      body_as_fine : (at : ℕ) (p q : Progress) (s : LineKind) → line_kind_of (trimmed (drop at l)) ≡ s → body_as cross line l at p s ≡ Ok q → Fine start p → Fine start q
       unfolding body_as
-      body_as_fine at p q line_kinds.Nothing e f = same start p q e f
-      body_as_fine at p q line_kinds.Directive e f = left_fine line l inside.Directive marks.DirectiveEnd (drop at l) p q tt e f
-      body_as_fine at p q line_kinds.Comment e f = commented_fine line l (drop at l) p q e f
-      body_as_fine at p q line_kinds.Head e f = said_fine at p q e f
-      body_as_fine at p q line_kinds.Other e f = said_fine at p q e f
+      body_as_fine at p q line_kinds.Nothing is e f = same start p q e f
+      body_as_fine at p q line_kinds.Directive is e f = left_fine line l inside.Directive marks.DirectiveEnd (drop at l) p q tt e f
+      body_as_fine at p q line_kinds.Comment is e f = commented_fine line l (drop at l) p q (remark at is) e f
+      body_as_fine at p q line_kinds.Head is e f = said_fine at p q e f
+      body_as_fine at p q line_kinds.Other is e f = said_fine at p q e f
 
       body_fine : (at : ℕ) (p q : Progress) → body cross line l at p ≡ Ok q → Fine start p → Fine start q
       unfolding body
-      body_fine at p q e f = body_as_fine at p q _ e f
+      body_fine at p q e f = body_as_fine at p q (line_kind_of (trimmed (drop at l))) refl e f
 
-      head_as_fine : (p q : Progress) (s : LineKind) → head_as cross line l p s ≡ Ok q → Fine start p → Fine start q
+      head_as_fine : (p q : Progress) (s : LineKind) → line_kind_of (trimmed l) ≡ s → head_as cross line l p s ≡ Ok q → Fine start p → Fine start q
       unfolding head_as
-      head_as_fine p q line_kinds.Nothing e f = same start p q e f
-      head_as_fine p q line_kinds.Directive e f = left_fine line l inside.Directive marks.DirectiveEnd l p q tt e f
-      head_as_fine p q line_kinds.Comment e f = commented_fine line l l p q e f
-      head_as_fine p q line_kinds.Head e f =
+      head_as_fine p q line_kinds.Nothing is e f = same start p q e f
+      head_as_fine p q line_kinds.Directive is e f = left_fine line l inside.Directive marks.DirectiveEnd l p q tt e f
+      head_as_fine p q line_kinds.Comment is e f = commented_fine line l l p q (remark 0 is) e f
+      head_as_fine p q line_kinds.Head is e f =
           body_fine (behind_head l) (record { start = p.start; inside = p.inside; begun = true; reader = p.reader; waiting = p.waiting }) q e f
-      head_as_fine p q line_kinds.Other e f = cc
+      head_as_fine p q line_kinds.Other is e f = cc
 
       outside_fine : (p q : Progress) → outside cross line l p ≡ Ok q → Fine start p → Fine start q
       unfolding outside
@@ -157,7 +161,7 @@ module _ (R : Read → Type 0) (S : StatementStart → Type 0) (one : (cross : O
         where
           by : (b : Bool) → cond b (body cross line l 0 p) (head_as cross line l p (line_kind_of (trimmed l))) ≡ Ok q → Fine start q
           by true e = body_fine 0 p q e f
-          by false e = head_as_fine p q _ e f
+          by false e = head_as_fine p q (line_kind_of (trimmed l)) refl e f
 
       first_fine : (p q : Progress) → first_line cross line l p ≡ Ok q → Fine start p → Fine start q
       unfolding first_line
@@ -168,15 +172,15 @@ module _ (R : Read → Type 0) (S : StatementStart → Type 0) (one : (cross : O
           by false true e = same start (now_in inside.Front p) q e (f.0, tt, f.2)
           by false false e = outside_fine (now_in inside.Nothing p) q e (f.0, tt, f.2)
 
-      described_fine : (p q : Progress) (s : LineKind) → described_as line l p s ≡ Ok q → Fine start p → Fine start q
+      described_fine : (p q : Progress) (s : LineKind) → line_kind_of (trimmed l) ≡ s → described_as line l p s ≡ Ok q → Fine start p → Fine start q
       unfolding described_as
-      described_fine p q line_kinds.Nothing e f = same start p q e f
-      described_fine p q line_kinds.Directive e f =
+      described_fine p q line_kinds.Nothing is e f = same start p q e f
+      described_fine p q line_kinds.Directive is e f =
           let b = bound (closed line l marks.DirectiveEnd l) _ q e in unless_fine start b.0 _ p q b.2 f
-      described_fine p q line_kinds.Comment e f = commented_fine line l l p q e f
-      described_fine p q line_kinds.Head e f =
+      described_fine p q line_kinds.Comment is e f = commented_fine line l l p q (remark 0 is) e f
+      described_fine p q line_kinds.Head is e f =
           let b = bound (undirected line l l) _ q e in left_fine line l inside.Description marks.DescriptionEnd b.0 p q tt b.2 f
-      described_fine p q line_kinds.Other e f =
+      described_fine p q line_kinds.Other is e f =
           let b = bound (undirected line l l) _ q e in left_fine line l inside.Description marks.DescriptionEnd b.0 p q tt b.2 f
 
       ended_fine : (at : ℕ) (xs : List (List ℕ)) (p q : Progress) → S p.waiting.spot → ended_on cross line l at xs p ≡ Ok q → Fine start p → Fine start q
@@ -198,13 +202,13 @@ module _ (R : Read → Type 0) (S : StatementStart → Type 0) (one : (cross : O
           by true e = ended_fine (config_end l) (cut (drop (config_end l) l)) p q w e f
           by false e = same start (gone_on l p) q e f
 
-      configured_fine : (p q : Progress) (s : LineKind) → S p.waiting.spot → configured_as cross line l p s ≡ Ok q → Fine start p → Fine start q
+      configured_fine : (p q : Progress) (s : LineKind) → line_kind_of (trimmed l) ≡ s → S p.waiting.spot → configured_as cross line l p s ≡ Ok q → Fine start p → Fine start q
       unfolding configured_as
-      configured_fine p q line_kinds.Nothing w e f = described_fine p q line_kinds.Nothing e f
-      configured_fine p q line_kinds.Directive w e f = described_fine p q line_kinds.Directive e f
-      configured_fine p q line_kinds.Comment w e f = described_fine p q line_kinds.Comment e f
-      configured_fine p q line_kinds.Head w e f = text_fine p q w e f
-      configured_fine p q line_kinds.Other w e f = text_fine p q w e f
+      configured_fine p q line_kinds.Nothing is w e f = described_fine p q line_kinds.Nothing is e f
+      configured_fine p q line_kinds.Directive is w e f = described_fine p q line_kinds.Directive is e f
+      configured_fine p q line_kinds.Comment is w e f = described_fine p q line_kinds.Comment is e f
+      configured_fine p q line_kinds.Head is w e f = text_fine p q w e f
+      configured_fine p q line_kinds.Other is w e f = text_fine p q w e f
 
       step_in_fine : (p q : Progress) (i : Inside) → Waits i p.waiting.spot → step_in cross line l p i ≡ Ok q → Fine start p → Fine start q
       unfolding step_in
@@ -214,13 +218,13 @@ module _ (R : Read → Type 0) (S : StatementStart → Type 0) (one : (cross : O
       step_in_fine p q inside.Front w e f =
           same start (now_in (cond (is_front (trimmed l)) inside.Nothing inside.Front) p) q e (f.0, either (is_front (trimmed l)) inside.Nothing inside.Front p.waiting.spot tt tt, f.2)
       step_in_fine p q inside.Directive w e f = left_fine line l inside.Directive marks.DirectiveEnd l p q tt e f
-      step_in_fine p q inside.Description w e f = described_fine p q (line_kind_of (trimmed l)) e f
-      step_in_fine p q inside.Configuration w e f = configured_fine p q (line_kind_of (trimmed l)) w e f
+      step_in_fine p q inside.Description w e f = described_fine p q (line_kind_of (trimmed l)) refl e f
+      step_in_fine p q inside.Configuration w e f = configured_fine p q (line_kind_of (trimmed l)) refl w e f
 
   -- the lines of a text, of which the first has this number
   abbrev pub Lined : List ℕ → List (List ℕ) → ℕ → Type 0
   Lined starts [] line = Unit {0}
-  Lined starts (l ∷ ls) line = ((k : ℕ) → S (spot_behind (start_on starts line) line l k)) × Lined starts ls (line + 1)
+  Lined starts (l ∷ ls) line = ((k : ℕ) → S (spot_behind (start_on starts line) line l k)) × ((k : ℕ) → line_kind_of (trimmed (drop k l)) ≡ line_kinds.Comment → C (comment_span (start_on starts line) l (drop k l))) × Lined starts ls (line + 1)
 
   pub steps_fine : (cross : Option Cross) (starts : List ℕ) (ls : List (List ℕ)) (line : ℕ) (p q : Progress) → Lined starts ls line → R p.reader → Waits p.inside p.waiting.spot → steps cross starts line ls p ≡ Ok q → R q.reader
   unfolding steps step
@@ -228,5 +232,5 @@ module _ (R : Read → Type 0) (S : StatementStart → Type 0) (one : (cross : O
   steps_fine cross starts (l ∷ ls) line p q lined read w e =
       let start = start_on starts line in
       let b = bound (step_in cross line l (now_at start p) p.inside) (λ (v : Progress). steps cross starts (line + 1) ls v) q e in
-      let f = step_in_fine start cross line l lined.0 (now_at start p) b.0 p.inside w b.1 (read, w, refl) in
-      steps_fine cross starts ls (line + 1) b.0 q lined.1 f.0 f.1 b.2
+      let f = step_in_fine start cross line l lined.0 lined.1 (now_at start p) b.0 p.inside w b.1 (read, w, refl) in
+      steps_fine cross starts ls (line + 1) b.0 q lined.2 f.0 f.1 b.2

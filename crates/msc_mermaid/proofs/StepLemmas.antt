@@ -30,10 +30,10 @@ use Rattle.msc_mermaid.specs.Patterns.{first_fit, is_empty}
 use Rattle.msc_mermaid.specs.Saying.{is_unended}
 use Rattle.msc_mermaid.specs.Seeking.{before, holds}
 use Rattle.msc_mermaid.specs.White.{behind_white, front, trimmed}
-use Rattle.msc_mermaid.specs.Mermaid.{behind_head, body, body_as, closed, commented, config_end, configured_as, described_as, end_of, ended_in, ended_on, first_line, goes_on, gone_on, head_as, is_commented, is_front, is_last, left_out, now_at, now_in, outside, piece_as, piece_by, piece_said, put_off, put_off_said, read_piece, read_pieces, said_in, said_on, line_kind_of, spot_behind, stated, statement, step, step_in, steps, text_within, titled, told_of, undirected, unread}
+use Rattle.msc_mermaid.specs.Mermaid.{behind_head, body, body_as, closed, comment_read, comment_span, commented, config_end, configured_as, described_as, end_of, ended_in, ended_on, first_line, goes_on, gone_on, head_as, is_commented, is_front, is_last, left_out, now_at, now_in, outside, piece_as, piece_by, piece_said, put_off, put_off_said, read_piece, read_pieces, said_in, said_on, line_kind_of, spot_behind, stated, statement, step, step_in, steps, text_within, titled, told_of, undirected, unread}
 use Rattle.msc_mermaid.specs.Parts.{Stretch, blanked, entity_place, has_entity, part_start, part_step, said_of, steps_of}
 use Rattle.msc_mermaid.specs.Outlines.{Outline, laid}
-use Rattle.msc_mermaid.specs.Reading.{Read, listed, noted, read_one, told, untold}
+use Rattle.msc_mermaid.specs.Reading.{Read, listed, noted, read_one, told, untold, with_comment}
 use Rattle.msc_mermaid.proofs.SpellLemmas.{bound}
 
 -- by a test
@@ -49,11 +49,11 @@ drop_short (suc k) (x ∷ xs) = let r = drop_short k xs in omega (arith, r)
 
 -- what holds of what was read holds behind one statement more: it says nothing, or which line ends,
 -- or it is listed
-pub noted_by : (P : Read → Type 0) (r : Read) (here : Position) (whole : Span) (q : Read) → P r → ((names : List (List ℕ)) → P (record { dying = names; arrows = r.arrows; outline = r.outline; said = r.said })) → ((s : Statement) (name tail : ℕ) (o : Outline) → laid here whole.first name s r.outline ≡ Ok o → P (listed r here whole tail s o)) → (s : Said) → noted r here whole s ≡ Ok q → P q
+pub noted_by : (P : Read → Type 0) (r : Read) (here : Position) (whole : Span) (q : Read) → P r → ((names : List (List ℕ)) → P (record { dying = names; arrows = r.arrows; outline = r.outline; said = r.said; comments = r.comments })) → ((s : Statement) (name tail : ℕ) (o : Outline) → laid here whole.first name s r.outline ≡ Ok o → P (listed r here whole tail s o)) → (s : Said) → noted r here whole s ≡ Ok q → P q
 unfolding noted
 noted_by P r here whole q nothing dies stated said.Nothing e = let same : r ≡ q = cc in subst P same nothing
 noted_by P r here whole q nothing dies stated (said.Dies name) e =
-    let same : record { dying = r.dying ++ name ∷ []; arrows = r.arrows; outline = r.outline; said = r.said } ≡ q = cc in
+    let same : record { dying = r.dying ++ name ∷ []; arrows = r.arrows; outline = r.outline; said = r.said; comments = r.comments } ≡ q = cc in
     subst P same (dies (r.dying ++ name ∷ []))
 noted_by P r here whole q nothing dies stated (said.Statement s t) e =
     let b = bound (laid here whole.first (whole.past - t.name) s r.outline) (λ (o : Outline). Ok (listed r here whole t.shown s o)) q e in
@@ -61,8 +61,8 @@ noted_by P r here whole q nothing dies stated (said.Statement s t) e =
     let same : listed r here whole t.shown s b.0 ≡ q = cc in
     subst P same (stated s (whole.past - t.name) t.shown b.0 b.1)
 
--- R n r: what was read so far is r, and n statements were read for it at most
-module _ (R : ℕ → Read → Type 0) (wider : (n k : ℕ) (r : Read) → n ≤ k → R n r → R k r) (one : (n : ℕ) (cross : Option Cross) (spot : StatementStart) (bytes : List ℕ) (r q : Read) → R n r → read_one cross spot bytes r ≡ Ok q → R (n + 1) q) where
+-- R n r: what was read so far is r, and n statements were read for it at most, and any comments
+module _ (R : ℕ → Read → Type 0) (wider : (n k : ℕ) (r : Read) → n ≤ k → R n r → R k r) (one : (n : ℕ) (cross : Option Cross) (spot : StatementStart) (bytes : List ℕ) (r q : Read) → R n r → read_one cross spot bytes r ≡ Ok q → R (n + 1) q) (comment : (n : ℕ) (c : Span) (r : Read) → R n r → R n (with_comment c r)) where
   -- what a line leaves of so many arrows: as many, and one for each of its pieces at most
   kept_on : (n k : ℕ) (r q : Read) → n ≤ k → R n r → r ≡ q → R k q
   kept_on n k r q le read same = subst (R k) same (wider n k r le read)
@@ -84,9 +84,6 @@ module _ (R : ℕ → Read → Type 0) (wider : (n k : ℕ) (r : Read) → n ≤
   titled_same : (here : Position) (text : List ℕ) (p q : Progress) → titled here text p ≡ Ok q → p.reader ≡ q.reader
   unfolding titled
   titled_same here text p q e = unless_reader _ _ (now_in inside.Rest p) q e
-
-  commented_same : (line : ℕ) (whole bytes : List ℕ) (p q : Progress) → commented line whole bytes p ≡ Ok q → p.reader ≡ q.reader
-  commented_same line whole bytes p q e = unless_reader _ _ p q e
 
   -- a statement
   stated_read : (n : ℕ) (cross : Option Cross) (spot : StatementStart) (bytes : List ℕ) (part : Inside) (p q : Progress) → stated cross spot bytes part p ≡ Ok q → R n p.reader → R (n + 1) q.reader
@@ -176,7 +173,9 @@ module _ (R : ℕ → Read → Type 0) (wider : (n k : ℕ) (r : Read) → n ≤
   left_next n l line whole part m bytes p q e read = kept_next n l p.reader q.reader read (left_same line whole part m bytes p q e)
 
   commented_next : (n : ℕ) (l : List ℕ) (line : ℕ) (whole bytes : List ℕ) (p q : Progress) → commented line whole bytes p ≡ Ok q → R n p.reader → Next n l q.reader
-  commented_next n l line whole bytes p q e read = kept_next n l p.reader q.reader read (commented_same line whole bytes p q e)
+  commented_next n l line whole bytes p q e read =
+      let c = comment_span p.start whole bytes in
+      kept_next n l (with_comment c p.reader) q.reader (comment n c p.reader read) (unless_reader _ _ (comment_read c p) q e)
 
   ok_next : (n : ℕ) (l : List ℕ) (p q : Progress) → ◌≡◌ {A = Result Progress ImportFault} (Ok p) (Ok q) → R n p.reader → Next n l q.reader
   ok_next n l p q e read = kept_next n l p.reader q.reader read (ok_reader p q e)

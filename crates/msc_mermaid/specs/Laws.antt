@@ -6,6 +6,7 @@ use Rattle.msc_mermaid.specs.declared.statement.Arrow.{Arrow}
 use Rattle.msc_mermaid.specs.declared.statement.Cross.{Cross}
 use Rattle.msc_mermaid.specs.declared.statement.Diagram.{Diagram}
 use Rattle.msc_mermaid.specs.declared.statement.Placed.{Placed}
+use Rattle.msc_mermaid.specs.declared.statement.Span.{Span}
 use Rattle.msc_mermaid.specs.declared.statement.Statement.{Statement}
 use Rattle.msc_mermaid.specs.declared.statement.Statement.TheVariants.{Declares}
 use Rattle.msc_place.specs.declared.position.Position.{Position}
@@ -69,3 +70,12 @@ pub record BeginsAtItsPlace (text : List ℕ) (p : Placed) : Type 0 where
 abbrev pub StatementsBeginAtTheirPlaces : Type 0
 StatementsBeginAtTheirPlaces =
     (cross : Option Cross) (text : List ℕ) (d : Diagram) → HasDiagram cross text d → AllByRecursion (BeginsAtItsPlace text) d.statements
+
+-- a comment begins in the text with its mark: two percent signs
+abbrev pub BeginsWithItsMark : List ℕ → Span → Type 0
+BeginsWithItsMark text c = take 2 (drop c.first text) ≡ 37 ∷ 37 ∷ []
+
+-- each comment of a text does
+abbrev pub CommentsBeginWithTheirMark : Type 0
+CommentsBeginWithTheirMark =
+    (cross : Option Cross) (text : List ℕ) (d : Diagram) → HasDiagram cross text d → AllByRecursion (BeginsWithItsMark text) d.comments

@@ -21,13 +21,15 @@ use Rattle.msc_mermaid.specs.declared.reading.StatementStart.{StatementStart}
 use Rattle.msc_mermaid.specs.declared.seeking.Sought.TheVariants as sought
 use Rattle.msc_mermaid.specs.declared.statement.Cross.{Cross}
 use Rattle.msc_mermaid.specs.declared.statement.Diagram.{Diagram}
+use Rattle.msc_mermaid.specs.declared.statement.Span.{Span}
 use Rattle.msc_mermaid.specs.Cutting.{cut, leaves_open}
 use Rattle.msc_place.specs.declared.position.Position.{Position}
 use Rattle.msc_mermaid.specs.Gives.{◌>>=◌, unless}
 use Rattle.msc_mermaid.specs.Keys.{begin_so, key_of, mark_text}
 use Rattle.msc_mermaid.specs.Lines.{column_behind, further, lines_of, position_of, start_on, starts_of}
+use Rattle.msc_mermaid.specs.Outlines.{span_of}
 use Rattle.msc_mermaid.specs.Patterns.{first_fit, is_empty}
-use Rattle.msc_mermaid.specs.Reading.{lengthened, none_waiting, read_one, told, untold}
+use Rattle.msc_mermaid.specs.Reading.{lengthened, none_waiting, read_one, told, untold, with_comment}
 use Rattle.msc_mermaid.specs.Rows.{first_word}
 use Rattle.msc_mermaid.specs.Saying.{is_unended}
 use Rattle.msc_mermaid.specs.Seeking.{before, holds}
@@ -69,9 +71,24 @@ left_out line whole part m bytes p = do
   ends ← closed line whole m bytes
   Ok (now_in (cond ends inside.Rest part) p)
 
+-- where a comment stands in the text, if these are the last bytes of a line that begins at this
+-- place: from the first of them to the last that is no white space
+abbrev pub comment_span : ℕ → List ℕ → List ℕ → Span
+comment_span start whole bytes = span_of (further start (length whole - length (behind_white bytes))) (length (trimmed bytes))
+
+-- what was read so far, and this comment
+abbrev pub comment_read : Span → Progress → Progress
+comment_read span p = record {
+  start = p.start;
+  inside = p.inside;
+  begun = p.begun;
+  reader = with_comment span p.reader;
+  waiting = p.waiting;
+}
+
 -- a comment: a directive in it has to end in it
 abbrev pub commented : ℕ → List ℕ → List ℕ → Progress → Result Progress ImportFault
-commented line whole bytes p = unless (not (leaves_open false bytes)) (Expected (position_of line whole []) wanted.Directive) p
+commented line whole bytes p = unless (not (leaves_open false bytes)) (Expected (position_of line whole []) wanted.Directive) (comment_read (comment_span p.start whole bytes) p)
 
 -- the end of a line, in which no directive may stand
 abbrev pub undirected : ℕ → List ℕ → List ℕ → Result (List ℕ) ImportFault

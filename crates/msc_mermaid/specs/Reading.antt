@@ -1,4 +1,4 @@
--- What was read of a diagram: its statements, one by one.
+-- What was read of a diagram: its statements and comments, one by one.
 use Rattle.std.specs.Prelude.{◌≡◌, ℕ, ◌+◌, ◌-◌, ◌==◌, Bool, true, false, cond, List, [], ◌∷◌, ◌++◌, length, replicate, Option, None, Some, Result, Ok, Err}
 use Rattle.msc_mermaid.specs.declared.fault.ImportFault.{ImportFault}
 use Rattle.msc_place.specs.declared.position.Position.{Position}
@@ -24,16 +24,27 @@ is_arrow (Begins kind) = false
 is_arrow (Closes closer) = false
 
 -- what was read so far: the lines that end with the next arrow, how many arrows, the lines and the
--- open blocks, and the statements
+-- open blocks, the statements, and the comments
 pub record Read : Type 0 where
   pub dying : List (List ℕ)
   pub arrows : ℕ
   pub outline : Outline
   pub said : List Placed
+  pub comments : List Span
 
 -- nothing was read
 abbrev pub untold : Read
-untold = record { dying = []; arrows = 0; outline = blank; said = [] }
+untold = record { dying = []; arrows = 0; outline = blank; said = []; comments = [] }
+
+-- one comment more, which has these bytes
+abbrev pub with_comment : Span → Read → Read
+with_comment whole r = record {
+  dying = r.dying;
+  arrows = r.arrows;
+  outline = r.outline;
+  said = r.said;
+  comments = r.comments ++ whole ∷ [];
+}
 
 -- how many bytes the label of an arrow has, or the shown name of a line
 abbrev pub shown_length : Statement → ℕ
@@ -55,13 +66,14 @@ listed r here whole tail s outline = record {
   arrows = cond (is_arrow s) (r.arrows + 1) r.arrows;
   outline = outline;
   said = r.said ++ record { line = here.line; column = here.column; number = r.arrows + 1; statement = s; whole = whole; shown = shown_span whole tail s } ∷ [];
+  comments = r.comments;
 }
 
 -- what a statement says that begins here and has these bytes, noted
 unfoldable pub noted : Read → Position → Span → Said → Result Read ImportFault
 noted r here whole said.Nothing = Ok r
 noted r here whole (said.Dies name) =
-    Ok (record { dying = r.dying ++ name ∷ []; arrows = r.arrows; outline = r.outline; said = r.said })
+    Ok (record { dying = r.dying ++ name ∷ []; arrows = r.arrows; outline = r.outline; said = r.said; comments = r.comments })
 noted r here whole (said.Statement s tails) = do
   outline ← laid here whole.first (whole.past - tails.name) s r.outline
   Ok (listed r here whole tails.shown s outline)
@@ -76,7 +88,7 @@ read_one cross spot bytes r = do
 unfoldable pub told : Read → Result Diagram ImportFault
 told r = do
   found ← finished r.outline
-  Ok (record { lines = found.0; names = found.1; statements = r.said })
+  Ok (record { lines = found.0; names = found.1; statements = r.said; comments = r.comments })
 
 -- a statement with a configuration that has no end yet: where it begins, and its bytes so far
 pub record Waiting : Type 0 where

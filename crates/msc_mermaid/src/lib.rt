@@ -9,9 +9,9 @@
 //! `head`; the first words of statements in `row`, with the patterns of `pattern`; their meaning in
 //! `saying`, names in `name`, lines in `declaring`; the blocks in which a statement may be, and the
 //! place at which a line is first named, in `outline`; the places of its bytes in `reading`.
-//! `cutting` cuts a line into statements; `waiting` joins the lines of one; `line_kind`, `progress` and
-//! `mermaid` leave out everything else: front matter, directives, comments, titles and
-//! descriptions.
+//! `cutting` cuts a line into statements; `waiting` joins the lines of one; `progress` lists the
+//! comments; `line_kind`, `progress` and `mermaid` leave out everything else: front matter,
+//! directives, titles and descriptions.
 //!
 //! # Choices
 //!

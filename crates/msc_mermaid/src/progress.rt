@@ -12,6 +12,7 @@ use crate::fault::{Expectation, ImportFault};
 use crate::key::Mark;
 use crate::line_kind::{closed, is_commented, undirected};
 use crate::lines::{Row, counted, further};
+use crate::outline::span_of;
 use crate::pattern::{Pattern, first_fit};
 use crate::reading::{Reader, StatementStart};
 use crate::seeking::Sought;
@@ -109,7 +110,8 @@ impl Progress {
         Ok(())
     }
 
-    /// Skips a comment: a directive in it has to end in it.
+    /// Lists a comment, which takes the end of a line, these bytes: a directive in it has to end in
+    /// it.
     pub(crate) fn commented(&mut self, row: Row, bytes: &[u8]) -> Result<(), ImportFault>
         ensures { Leaves result self.new
             (commented row.entry.line row.entry.bytes.now bytes.now self.old) }
@@ -118,6 +120,10 @@ impl Progress {
             let end = row.position_of(&[]);
             return Err(ImportFault::Expected(end, Expectation::Directive));
         }
+        let before = row.bytes.len().saturating_sub(behind_white(bytes).len());
+        let first = further(self.start, before);
+        self.reader
+            .list_comment(span_of(first, trimmed(bytes).len()))?;
         Ok(())
     }
 

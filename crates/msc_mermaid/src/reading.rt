@@ -1,11 +1,11 @@
-//! The part of a diagram that was read: its statements, one by one.
+//! The part of a diagram that was read: its statements and comments, one by one.
 
 ghost use Rattle.std.specs.Prelude.{◌≡◌, IfOk};
 ghost use Rattle.msc_mermaid.specs.Gives.{Gives};
 ghost use Rattle.msc_mermaid.specs.Outlines.{span_of};
 ghost use Rattle.msc_mermaid.specs.Reading.{Leaves, is_arrow, listed, noted, read_one};
 ghost use Rattle.msc_mermaid.specs.Reading.{shown_length};
-ghost use Rattle.msc_mermaid.specs.Reading.{shown_span, told, untold};
+ghost use Rattle.msc_mermaid.specs.Reading.{shown_span, told, untold, with_comment};
 
 use crate::fault::ImportFault;
 use crate::outline::{Outline, span_of};
@@ -50,13 +50,14 @@ fn is_arrow(statement: &Statement) -> bool
 }
 
 /// The part that was read so far: the lines that end with the next arrow, the number of arrows, the
-/// lines and the open blocks, and the statements.
+/// lines and the open blocks, the statements, and the comments.
 #[derive(Drop)]
 pub(crate) struct Reader {
     dying: Vec<Listed<u8>>,
     arrows: usize,
     outline: Outline,
     said: Vec<Placed>,
+    comments: Vec<Span>,
 }
 
 impl Model for Reader {
@@ -66,7 +67,13 @@ impl Model for Reader {
     ghost Value = { Read };
 
     ghost view = { λ r.
-        record { dying = r.dying.items; arrows = r.arrows; outline = r.outline; said = r.said.items } };
+        record {
+          dying = r.dying.items;
+          arrows = r.arrows;
+          outline = r.outline;
+          said = r.said.items;
+          comments = r.comments.items;
+        } };
 
     // Each arrow is a statement.
     ghost invariant = { λ r. r.arrows ≤ length r.said.items };
@@ -82,6 +89,7 @@ impl Reader {
             arrows: 0,
             outline: Outline::new(alloc),
             said: Vec::new(alloc),
+            comments: Vec::new(alloc),
         }
     }
 
@@ -95,6 +103,7 @@ impl Reader {
             arrows: _,
             outline,
             said,
+            comments,
         } = self;
         drop(dying);
         let (lines, names) = outline.finish()?;
@@ -102,7 +111,16 @@ impl Reader {
             lines,
             names,
             statements: Listed::from_vec(said),
+            comments: Listed::from_vec(comments),
         })
+    }
+
+    /// Lists one more comment, which has these bytes.
+    pub(crate) fn list_comment(&mut self, whole: Span) -> Result<(), AllocError>
+        ensures { IfOk result (λ _. self.new ≡ with_comment whole self.old) }
+    {
+        self.comments.push(whole)?;
+        Ok(())
     }
 
     /// Lists one more statement, which has this beginning and these bytes and is taken in already.

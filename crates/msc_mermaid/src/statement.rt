@@ -61,13 +61,18 @@ pub struct Placed {
 }
 
 /// A diagram: its lines, each by its identifier, in the order in which they are declared or used
-/// first; the place in the text at which each of them is named first; and its statements. Each
-/// block among them has its end.
+/// first; the place in the text at which each of them is named first; its statements; and its
+/// comments, in the order of the text. Each block among the statements has its end.
+///
+/// A comment goes from its `%%` to the last byte of its line that is no white space. It takes a
+/// whole line, or the rest of the line after the word with which the diagram begins. A comment
+/// after a statement is not listed.
 #[derive(Drop)]
 pub struct Diagram {
     pub lines: Listed<Listed<u8>>,
     pub names: Listed<Span>,
     pub statements: Listed<Placed>,
+    pub comments: Listed<Span>,
 }
 
 /// The meaning of an arrow with a cross.

@@ -1,28 +1,32 @@
 -- What is written of a draft is read again as that draft.
-use Rattle.std.proofs.Common.{◌≡◌, ℕ, ◌≤◌, List, [], ◌∷◌, ◌++◌, length, Result, Ok, Err, Vec, Global, refl, sym, ap, subst, ◌∙◌, append_assoc}
+use Rattle.std.proofs.Common.{◌≡◌, ℕ, ◌≤◌, List, [], ◌∷◌, ◌++◌, length, Option, None, Some, Result, Ok, Err, Vec, Global, refl, sym, ap, subst, ◌∙◌, append_assoc}
 use Rattle.std.specs.Prelude.{IfOk}
 use Rattle.std.specs.List.{flat_map, AllByRecursion}
 use Rattle.std.specs.declared.alloc.AllocError.{AllocError}
 use Rattle.msc_lexer.specs.declared.TheConstants.{TEXT_LIMIT}
 use Rattle.msc_lexer.specs.declared.word.Word.TheVariants as words
-use Rattle.msc_lexer.specs.Pieces.{Piece, Blank, Run, Mark, AreCut, tokens_of}
+use Rattle.msc_lexer.specs.Pieces.{Piece, Blank, Run, Quoted, Mark, AreCut, tokens_of}
 use Rattle.msc_lexer.specs.Lexemes.{Reserved, Semicolon, Lexeme, lexemes_of, PrintsPieces}
 use Rattle.msc_parser.specs.declared.tree.Statement.{Statement}
 use Rattle.msc_parser.specs.declared.tree.Item.{Item}
 use Rattle.msc_parser.specs.declared.tree.Item.TheVariants.{Single, Coregion}
 use Rattle.msc_parser.specs.declared.tree.Section.{Section}
 use Rattle.msc_parser.specs.Forms.{IsLedBy}
-use Rattle.msc_parser.specs.Grammar.{Tree, IsEnd, Plain, IsEvent, IsCoregion, IsItem, IsSection, IsChart}
+use Rattle.msc_parser.specs.Grammar.{Tree, IsEnd, Plain, Commented, IsEvent, IsCoregion, IsItem, IsSection, IsChart}
 use Rattle.msc_parser.specs.Parsing.{HasDraft}
-use Rattle.msc_parser.specs.Canonical.{word, space, line_end, decl_pieces, header_pieces, event_pieces, inner_pieces, coregion_pieces, item_pieces, section_pieces, printed, canonical}
+use Rattle.msc_parser.specs.Canonical.{word, space, line_end, decl_pieces, header_pieces, event_pieces, inner_pieces, coregion_pieces, item_pieces, section_pieces, first_end, printed_with, canonical_with}
 use Rattle.msc_parser.specs.Drafts.{IsStatementNamed, IsItemNamed, IsSectionNamed, IsDraft}
-use Rattle.msc_parser.proofs.Printing.{IsPrintedAs, IsOnly, after_space, same_pieces, a_line_end, a_word, a_name, PrintsEach, a_many}
+use Rattle.msc_parser.proofs.Printing.{IsPrintedAs, IsOnly, StopsRun, after_space, same_pieces, a_line_end, a_word, a_name, a_text, PrintsEach, a_many}
 use Rattle.msc_parser.proofs.PrintedParts.{Anything, a_decl, a_header, an_event}
 
 -- nothing stands behind the last line
 last_line : (to : ℕ) (b : List Lexeme) → IsOnly Semicolon b tt (lexemes_of to []) → IsEnd b []
 unfolding lexemes_of
 last_line to b h = Plain h
+
+-- the end of a statement and no value
+abbrev IsOnlyEnd : List Lexeme → Unit {0} → List Lexeme → Type 0
+IsOnlyEnd before x after = IsEnd before after
 
 module _ (laws : PrintsPieces) where
   -- ---- coregions and items
@@ -124,16 +128,42 @@ module _ (laws : PrintsPieces) where
   each_section : PrintsEach IsSection section_pieces IsSectionNamed Anything
   each_section = record { one = λ s rest named any. a_section s rest named; follows = λ s rest. tt }
 
+  -- the end of the first line is read again, whatever its comment
+  a_first_end : (comment : Option (List ℕ)) (rest : List Piece)
+      → IsPrintedAs IsOnlyEnd tt (first_end comment ++ rest) rest
+  a_first_end None rest =
+      let end = a_line_end rest in
+      record { reads = λ at. let t = end.reads at in (t.0, Plain t.1); cut = end.cut }
+  a_first_end (Some comment) rest =
+      let close = Mark 59 ∷ Blank 10 ∷ rest in
+      let end = a_line_end rest in
+      let text = after_space _ tt (Quoted comment ∷ close) close (a_text laws comment close refl) in
+      let start = after_space _ tt (word words.Comment ∷ space ∷ Quoted comment ∷ close) (space ∷ Quoted comment ∷ close) (a_word laws words.Comment (space ∷ Quoted comment ∷ close) refl) in
+      record {
+        reads = λ at.
+            let t0 = start.reads at in
+            let t1 = text.reads t0.0 in
+            let t2 = end.reads t1.0 in
+            (t2.0, Commented comment (lexemes_of t0.0 (space ∷ Quoted comment ∷ close)) (lexemes_of t1.0 close) t0.1 t1.1 t2.1);
+        cut = λ c. start.cut (text.cut (end.cut c));
+      }
+
+  -- no letter, digit or underscore begins it
+  first_end_stops : (comment : Option (List ℕ)) (rest : List Piece) → StopsRun (first_end comment ++ rest)
+  first_end_stops None rest = refl
+  first_end_stops (Some comment) rest = refl
+
   -- the printed tokens are the chart, and the printed pieces are cut
-  a_chart : (t : Tree) → IsDraft t → IsChart (lexemes_of 0 (printed t)) t × AreCut (printed t) []
-  a_chart t named =
+  a_chart : (comment : Option (List ℕ)) (t : Tree) → IsDraft t
+      → IsChart (lexemes_of 0 (printed_with comment t)) t × AreCut (printed_with comment t) []
+  a_chart comment t named =
       let last = word words.EndMsc ∷ line_end in
       let sections = flat_map section_pieces t.sections ++ last in
       let header = header_pieces t.header ++ sections in
-      let head = Mark 59 ∷ Blank 10 ∷ header in
+      let head = first_end comment ++ header in
       let p0 = a_word laws words.Msc (space ∷ Run t.name ∷ head) refl in
-      let p1 = after_space _ t.name (Run t.name ∷ head) head (a_name laws t.name head named.name refl) in
-      let p2 = a_line_end header in
+      let p1 = after_space _ t.name (Run t.name ∷ head) head (a_name laws t.name head named.name (first_end_stops comment header)) in
+      let p2 = a_first_end comment header in
       let p3 = a_header laws t.header sections named.header in
       let p4 = a_many IsSection section_pieces IsSectionNamed Anything each_section t.sections last named.sections tt in
       let p5 = a_word laws words.EndMsc line_end refl in
@@ -154,7 +184,7 @@ module _ (laws : PrintsPieces) where
           last_close = lexemes_of t5.0 line_end;
           is_msc = t0.1;
           is_name = t1.1;
-          is_end = Plain t2.1;
+          is_end = t2.1;
           is_header = t3.1;
           are_sections = t4.1;
           is_endmsc = t5.1;
@@ -164,19 +194,19 @@ module _ (laws : PrintsPieces) where
       )
 
   -- what is written is a text of the draft, where it is short enough
-  written_again : (t : Tree) → IsDraft t → length (canonical t) ≤ TEXT_LIMIT
-      → HasDraft (canonical t) t
-  written_again t named short =
-      let c = a_chart t named in (
-        tokens_of 0 (printed t),
-        record { pieces = printed t; short = short; whole = refl; cut = c.1; made = refl },
-        subst (λ (ls : List Lexeme). IsChart ls t) (sym (laws.seen (printed t))) c.0,
+  written_again : (comment : Option (List ℕ)) (t : Tree) → IsDraft t
+      → length (canonical_with comment t) ≤ TEXT_LIMIT → HasDraft (canonical_with comment t) t
+  written_again comment t named short =
+      let c = a_chart comment t named in (
+        tokens_of 0 (printed_with comment t),
+        record { pieces = printed_with comment t; short = short; whole = refl; cut = c.1; made = refl },
+        subst (λ (ls : List Lexeme). IsChart ls t) (sym (laws.seen (printed_with comment t))) c.0,
       )
 
   -- the text that was written is a text of the draft
-  pub again : (t : Tree) (r : Result (Vec ℕ Global) AllocError) → IsDraft t
-      → IfOk r (λ v. v.items ≡ canonical t)
+  pub again : (comment : Option (List ℕ)) (t : Tree) (r : Result (Vec ℕ Global) AllocError)
+      → IsDraft t → IfOk r (λ v. v.items ≡ canonical_with comment t)
       → IfOk r (λ v. length v.items ≤ TEXT_LIMIT → HasDraft v.items t)
-  again t (Ok v) named text =
-      λ short. subst (λ (x : List ℕ). HasDraft x t) (sym text) (written_again t named (subst (λ (x : List ℕ). length x ≤ TEXT_LIMIT) text short))
-  again t (Err e) named text = tt
+  again comment t (Ok v) named text =
+      λ short. subst (λ (x : List ℕ). HasDraft x t) (sym text) (written_again comment t named (subst (λ (x : List ℕ). length x ≤ TEXT_LIMIT) text short))
+  again comment t (Err e) named text = tt

@@ -1,10 +1,10 @@
 -- The canonical text of a draft, as pieces: words, names, texts, marks, spaces and line ends (this
 -- project's profile of MSC/PR, ITU-T Z.120). A line ends behind each statement; words are in small
--- letters; no notes and no comments are there.
+-- letters; no notes are there, and no comment but one after the chart's name, if one is given.
 use Rattle.std.specs.Prelude.{ℕ, List, [], ◌∷◌, ◌++◌, Option, Some, None}
 use Rattle.std.specs.List.{flat_map}
 use Rattle.msc_lexer.specs.declared.word.Word.{Word}
-use Rattle.msc_lexer.specs.declared.word.Word.TheVariants.{Msc, EndMsc, Inst, Instance, EndInstance, Concurrent, EndConcurrent}
+use Rattle.msc_lexer.specs.declared.word.Word.TheVariants.{Msc, EndMsc, Inst, Instance, EndInstance, Concurrent, EndConcurrent, Comment}
 use Rattle.msc_lexer.specs.declared.word.Word.TheVariants as words
 use Rattle.msc_lexer.specs.Words.{spelling}
 use Rattle.msc_lexer.specs.Pieces.{Piece, Blank, Run, Quoted, Mark, text_of}
@@ -107,11 +107,20 @@ abbrev pub section_pieces : Section → List Piece
 section_pieces s =
     word Instance ∷ space ∷ decl_pieces s.decl ++ (line_end ++ (flat_map item_pieces s.items ++ (word EndInstance ∷ line_end)))
 
--- `msc NAME;`, the header, the sections, and `endmsc;`
-abbrev pub printed : Tree → List Piece
-printed t =
-    word Msc ∷ space ∷ Run t.name ∷ line_end ++ (header_pieces t.header ++ (flat_map section_pieces t.sections ++ (word EndMsc ∷ line_end)))
+-- the end of the first line; before it a comment, if there is one, where each apostrophe is doubled
+abbrev pub first_end : Option (List ℕ) → List Piece
+first_end None = line_end
+first_end (Some comment) = space ∷ word Comment ∷ space ∷ Quoted comment ∷ line_end
+
+-- `msc NAME`, the end of that line, the header, the sections, and `endmsc;`
+abbrev pub printed_with : Option (List ℕ) → Tree → List Piece
+printed_with comment t =
+    word Msc ∷ space ∷ Run t.name ∷ first_end comment ++ (header_pieces t.header ++ (flat_map section_pieces t.sections ++ (word EndMsc ∷ line_end)))
+
+-- the canonical text of a draft, with this comment after the chart's name, if there is one
+abbrev pub canonical_with : Option (List ℕ) → Tree → List ℕ
+canonical_with comment t = text_of (printed_with comment t)
 
 -- the canonical text of a draft
 abbrev pub canonical : Tree → List ℕ
-canonical t = text_of (printed t)
+canonical t = canonical_with None t

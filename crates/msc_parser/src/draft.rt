@@ -3,11 +3,11 @@
 //! Contracts see a draft as its `Tree`: the chart's name, the header and the sections, as plain
 //! lists.
 
-ghost use Rattle.std.specs.Prelude.{◌≡◌, ◌≤◌, length, IfOk};
+ghost use Rattle.std.specs.Prelude.{◌≡◌, ◌≤◌, length, option_map, IfOk};
 ghost use Rattle.std.specs.List.{AllByRecursion};
 ghost use Rattle.msc_lexer.specs.Lexemes.{IsName};
 ghost use Rattle.msc_parser.specs.Grammar.{Tree};
-ghost use Rattle.msc_parser.specs.Canonical.{canonical};
+ghost use Rattle.msc_parser.specs.Canonical.{canonical, canonical_with};
 ghost use Rattle.msc_parser.specs.Drafts.{IsDraft, IsDeclNamed, IsSectionNamed, statements_of};
 ghost use Rattle.msc_parser.specs.Parsing.{HasDraft};
 
@@ -101,8 +101,19 @@ impl Draft {
         // If it is short enough, it is a text of this draft.
         ensures again { IfOk result (λ v. length v.items ≤ TEXT_LIMIT → HasDraft v.items self.now) }
     {
+        self.write_with(alloc, None)
+    }
+
+    /// The canonical text with this comment after the chart's name, if there is one; any bytes.
+    pub fn write_with(&self, alloc: Global, comment: Option<&[u8]>) -> Result<Vec<u8>, AllocError>
+        ensures text { IfOk result (λ v.
+            v.items ≡ canonical_with (option_map (λ c. c.now) comment.entry) self.now) }
+
+        // If it is short enough, it is a text of this draft.
+        ensures again { IfOk result (λ v. length v.items ≤ TEXT_LIMIT → HasDraft v.items self.now) }
+    {
         prints_pieces();
         self.known();
-        canonical_text(alloc, self)
+        canonical_text(alloc, self, comment)
     }
 }

@@ -1,6 +1,6 @@
 //! The canonical text of a draft, part by part. Each function appends the text of a part.
 
-ghost use Rattle.std.specs.Prelude.{◌≡◌, ◌++◌, OnOk, IfOk};
+ghost use Rattle.std.specs.Prelude.{◌≡◌, ◌++◌, OnOk, IfOk, option_map};
 ghost use Rattle.std.specs.List.{flat_map};
 ghost use Rattle.msc_lexer.specs.Pieces.{doubled, text_of};
 ghost use Rattle.msc_parser.specs.Grammar.{direction_word};
@@ -10,7 +10,7 @@ ghost use Rattle.msc_parser.specs.Canonical.{number_pieces, parameter_pieces, id
 ghost use Rattle.msc_parser.specs.Canonical.{address_pieces, signal_pieces, action_pieces};
 ghost use Rattle.msc_parser.specs.Canonical.{event_pieces, inner_pieces};
 ghost use Rattle.msc_parser.specs.Canonical.{coregion_pieces, item_pieces, section_pieces};
-ghost use Rattle.msc_parser.specs.Canonical.{canonical};
+ghost use Rattle.msc_parser.specs.Canonical.{canonical_with, first_end};
 
 use crate::draft::Draft;
 use crate::name::Name;
@@ -264,14 +264,33 @@ fn put_sections(out: &mut Vec<u8>, sections: &[Section]) -> Result<(), AllocErro
     Ok(())
 }
 
-/// The canonical text of a draft.
-pub fn canonical_text(alloc: Global, draft: &Draft) -> Result<Vec<u8>, AllocError>
-    ensures { IfOk result (λ v. v.items ≡ canonical draft.now) }
+/// The end of the first line, and before it a comment with this text, if there is one.
+fn put_first_end(out: &mut Vec<u8>, comment: Option<&[u8]>) -> Result<(), AllocError>
+    ensures { OnOk result (out.new.items
+        ≡ out.old.items ++ text_of (first_end (option_map (λ c. c.now) comment.entry))) }
+{
+    if let Some(text) = comment {
+        out.extend_from_slice(b" comment '")?;
+        put_doubled(out, text)?;
+        out.push(b'\'')?;
+    }
+    out.extend_from_slice(b";\n")?;
+    Ok(())
+}
+
+/// The canonical text of a draft, with this comment after the chart's name, if there is one.
+pub fn canonical_text(
+    alloc: Global,
+    draft: &Draft,
+    comment: Option<&[u8]>,
+) -> Result<Vec<u8>, AllocError>
+    ensures { IfOk result (λ v.
+        v.items ≡ canonical_with (option_map (λ c. c.now) comment.entry) draft.now) }
 {
     let mut out = Vec::new(alloc);
     out.extend_from_slice(b"msc ")?;
     out.extend_from_slice(draft.name())?;
-    out.extend_from_slice(b";\n")?;
+    put_first_end(&mut out, comment)?;
     put_header(&mut out, draft.header())?;
     put_sections(&mut out, draft.sections())?;
     out.extend_from_slice(b"endmsc;\n")?;

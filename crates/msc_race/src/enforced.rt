@@ -18,8 +18,7 @@ use std::marker::Model;
 /// A chart under an architecture, with its enforced order. Contracts see these three.
 #[derive(Drop)]
 pub struct Enforced<'a> {
-    chart: &'a Chart,
-    queues: Queues,
+    wiring: Wiring<'a>,
     order: Order,
 }
 
@@ -28,9 +27,10 @@ impl<'a> Model for Enforced<'a> {
 
     ghost Value = { EnforcedChart };
 
-    ghost view = { λ e. enforced_chart e.chart.now e.queues e.order };
+    ghost view = { λ e. enforced_chart e.wiring.chart.now e.wiring.queues e.order };
 
-    ghost invariant = { λ e. IsEnforced (enforced_chart e.chart.now e.queues e.order) };
+    ghost invariant = { λ e.
+        IsEnforced (enforced_chart e.wiring.chart.now e.wiring.queues e.order) };
 }
 
 impl<'a> Enforced<'a> {
@@ -41,8 +41,7 @@ impl<'a> Enforced<'a> {
     {
         let order = Order::enforced(alloc, chart, queues)?;
         Ok(Enforced {
-            chart,
-            queues,
+            wiring: Wiring { chart, queues },
             order,
         })
     }
@@ -51,14 +50,14 @@ impl<'a> Enforced<'a> {
     pub fn chart(&self) -> &'a Chart
         ensures { result.now ≡ self.now.chart }
     {
-        self.chart
+        self.wiring.chart
     }
 
     /// The architecture.
     pub fn queues(&self) -> Queues
         ensures { result ≡ self.now.queues }
     {
-        self.queues
+        self.wiring.queues
     }
 
     /// The enforced order.
@@ -69,14 +68,11 @@ impl<'a> Enforced<'a> {
     }
 
     /// The chart under the architecture.
-    pub fn wiring(&self) -> Wiring<'a>
-        ensures chart { result.chart.now ≡ self.now.chart }
-        ensures queues { result.queues ≡ self.now.queues }
+    pub fn wiring(&self) -> &Wiring<'a>
+        ensures chart { result.now.chart.now ≡ self.now.chart }
+        ensures queues { result.now.queues ≡ self.now.queues }
     {
-        Wiring {
-            chart: self.chart,
-            queues: self.queues,
-        }
+        &self.wiring
     }
 
     /// Whether `e` is enforced before `f`. Both are numbers of events, from 0. It takes no memory.
@@ -95,7 +91,7 @@ impl<'a> Enforced<'a> {
         ensures order { HasEnforcedOrder self.now }
         ensures chart { IsAccepted self.now.chart }
     {
-        let chart = self.chart;
+        let chart = self.wiring.chart;
         chart.facts();
     }
 
@@ -103,14 +99,14 @@ impl<'a> Enforced<'a> {
     pub fn count_races(&self) -> u32
         ensures { result ≡ length (races_of self.now) }
     {
-        count_races(self.chart, &self.order)
+        count_races(self.wiring.chart, &self.order)
     }
 
     /// The number of events of the chart.
     pub fn events(&self) -> u32
         ensures { result ≡ length self.now.chart.events }
     {
-        self.chart.events()
+        self.wiring.chart.events()
     }
 
     /// Proceeds to event `e` of a walk: the list then has its races, ascending. An error is a
@@ -130,6 +126,6 @@ impl<'a> Enforced<'a> {
         ensures first { AreFrom e (races_from self.now e) }
     {
         list.clear();
-        walk.push_races(list, self.chart, &self.order, e)
+        walk.push_races(list, self.wiring.chart, &self.order, e)
     }
 }

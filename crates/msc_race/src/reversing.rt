@@ -23,7 +23,7 @@ impl<'a> Enforced<'a> {
     {
         self.facts();
         let choice = Choice {
-            wiring: self.wiring(),
+            wiring: *self.wiring(),
             order: self.order(),
             e,
         };

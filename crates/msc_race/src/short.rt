@@ -47,7 +47,7 @@ impl<'a> Enforced<'a> {
         self.facts();
         what_is_enforced_is_needed();
         let choice = Choice {
-            wiring: self.wiring(),
+            wiring: *self.wiring(),
             order: self.order(),
             e: f,
         };

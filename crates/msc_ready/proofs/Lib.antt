@@ -1,3 +1,4 @@
+pub mod Numbering
 pub mod Shared
 pub mod Runs
 pub mod Holding

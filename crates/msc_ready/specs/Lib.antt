@@ -9,6 +9,7 @@ pub mod Views
 pub mod Rounds
 pub mod RoundLaws
 -- what the code keeps
+pub mod QueueNumbers
 pub mod Plain
 pub mod Rows
 pub mod Lesser

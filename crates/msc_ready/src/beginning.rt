@@ -70,11 +70,11 @@ fn waits(ready: &Ready, done: &[bool], q: u32, x: Event) -> bool
         → result ≡ is_waiting (wiring_of ready.now) q run x }
 {
     ready.facts();
-    let (chart, wiring) = (ready.chart(), ready.wiring());
+    let chart = ready.chart();
     if !chart.is_output(x) {
         return false;
     }
-    if wiring.queue(x) != q {
+    if ready.queue(x) != q {
         return false;
     }
     !done[chart.other_end(x) as usize]
@@ -140,9 +140,8 @@ impl Beginning {
     {
         ready.facts();
         queue_numbers_are_bounded();
-        let (chart, wiring) = (ready.chart(), ready.wiring());
-        let head = self.heads[wiring.queue(x) as usize];
-        head == chart.other_end(x)
+        let head = self.heads[ready.queue(x) as usize];
+        head == ready.chart().other_end(x)
     }
 
     /// Whether `x` may come next.
@@ -185,7 +184,7 @@ impl Beginning {
         let front = next_front(ready, &self.done, i, self.fronts[i as usize]);
         self.fronts[i as usize] = front;
         if !chart.is_local(x) {
-            let q = ready.wiring().queue(x);
+            let q = ready.queue(x);
             let head = first_waiting(ready, &self.run, &self.done, q);
             self.heads[q as usize] = head;
         }

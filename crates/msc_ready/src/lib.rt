@@ -21,6 +21,7 @@ mod blocked_pairs;
 mod finishing;
 pub mod laws;
 mod leaving;
+mod queue_numbers;
 mod ready;
 mod rounds;
 mod rows;

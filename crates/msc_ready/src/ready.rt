@@ -2,10 +2,10 @@
 //!
 //! The visual order is kept with it, since the ready order is computed from it, whichever instances
 //! are ready. If a list says which instances are ready, the rows of the ready order are made of it
-//! once.
+//! once. The numbers of the queues are computed once too, since each pair of inputs needs two.
 
-ghost use Rattle.std.specs.Prelude.{◌≡◌, ℕ, ◌<◌, ◌↔◌, [], length, nat_eq, IfOk, IsTrue};
-ghost use Rattle.msc_chart.specs.Charts.{is_input, line};
+ghost use Rattle.std.specs.Prelude.{◌≡◌, ℕ, ◌<◌, ◌↔◌, [], false, length, nat_eq, IfOk, IsTrue};
+ghost use Rattle.msc_chart.specs.Charts.{is_input, is_local, line};
 ghost use Rattle.msc_chart.specs.Orders.{queue};
 ghost use Rattle.msc_chart.specs.Drawings.{IsAccepted};
 ghost use Rattle.msc_order.specs.Tables.{orders};
@@ -14,6 +14,7 @@ ghost use Rattle.msc_ready.specs.Readiness.{ReadyOrder};
 ghost use Rattle.msc_ready.specs.BlockedPairs.{is_awaited, is_lined, is_blocked_pair};
 ghost use Rattle.msc_ready.specs.BlockedPairs.{IsBlockedPair};
 
+use crate::queue_numbers::queue_numbers_of;
 use bit_rows::table::has;
 use msc_chart::laws::{ends_share_queues, inputs_share_lines};
 use msc_chart::{Chart, Event, Queues, Wiring};
@@ -25,25 +26,30 @@ use std::marker::Model;
 /// the chart, the architecture, the lines and the visual order.
 #[derive(Drop)]
 pub struct Ready<'a> {
-    chart: &'a Chart,
-    queues: Queues,
+    wiring: Wiring<'a>,
     lines: Vec<bool>,
     order: Order,
+    /// The number of the queue of each output and input.
+    queue_numbers: Vec<u32>,
     /// The rows of the ready order, if a list says which lines are ready.
     rows: Vec<u64>,
 }
 
 impl<'a> Model for Ready<'a> {
+    ghost use Rattle.msc_chart.specs.Orders.{wired};
     ghost use Rattle.msc_ready.specs.Held.{ReadyChart, ready_chart, HasVisualOrder};
+    ghost use Rattle.msc_ready.specs.QueueNumbers.{AreQueueNumbers};
     ghost use Rattle.msc_ready.specs.Rows.{HasRows};
 
     ghost Value = { ReadyChart };
 
-    ghost view = { λ r. ready_chart r.chart.now r.queues r.lines.items r.order };
+    ghost view = { λ r. ready_chart r.wiring.chart.now r.wiring.queues r.lines.items r.order };
 
     ghost invariant = { λ r.
-        HasVisualOrder (ready_chart r.chart.now r.queues r.lines.items r.order)
-        × HasRows (ready_chart r.chart.now r.queues r.lines.items r.order) r.rows.items };
+        HasVisualOrder (ready_chart r.wiring.chart.now r.wiring.queues r.lines.items r.order)
+        × HasRows (ready_chart r.wiring.chart.now r.wiring.queues r.lines.items r.order)
+        r.rows.items
+        × AreQueueNumbers (wired r.wiring.queues r.wiring.chart.now) r.queue_numbers.items };
 }
 
 /// Whether line `i` is ready by a list. A line past the list is ready.
@@ -80,11 +86,13 @@ impl<'a> Ready<'a> {
         ensures lines { IfOk result (λ ready. ready.lines ≡ lines.items) }
     {
         let order = Order::visual(alloc, chart)?;
+        let wiring = Wiring { chart, queues };
+        let queue_numbers = queue_numbers_of(alloc, &wiring)?;
         let all = Ready {
-            chart,
-            queues,
+            wiring,
             lines: Vec::new(alloc),
             order,
+            queue_numbers,
             rows: Vec::new(alloc),
         };
         if lines.is_empty() {
@@ -92,11 +100,12 @@ impl<'a> Ready<'a> {
         }
         let rows = all.rows_of(alloc, lines.as_slice())?;
         let order = all.order;
+        let queue_numbers = all.queue_numbers;
         Ok(Ready {
-            chart,
-            queues,
+            wiring,
             lines,
             order,
+            queue_numbers,
             rows,
         })
     }
@@ -105,25 +114,22 @@ impl<'a> Ready<'a> {
     pub fn chart(&self) -> &'a Chart
         ensures { result.now ≡ self.now.chart }
     {
-        self.chart
+        self.wiring.chart
     }
 
     /// The architecture.
     pub fn queues(&self) -> Queues
         ensures { result ≡ self.now.queues }
     {
-        self.queues
+        self.wiring.queues
     }
 
     /// The chart under the architecture.
-    pub fn wiring(&self) -> Wiring<'a>
-        ensures chart { result.chart.now ≡ self.now.chart }
-        ensures queues { result.queues ≡ self.now.queues }
+    pub fn wiring(&self) -> &Wiring<'a>
+        ensures chart { result.now.chart.now ≡ self.now.chart }
+        ensures queues { result.now.queues ≡ self.now.queues }
     {
-        Wiring {
-            chart: self.chart,
-            queues: self.queues,
-        }
+        &self.wiring
     }
 
     /// The facts that hold for every such chart. It does nothing when it runs; a caller that needs
@@ -132,7 +138,7 @@ impl<'a> Ready<'a> {
         ensures order { HasVisualOrder self.now }
         ensures chart { IsAccepted self.now.chart }
     {
-        let chart = self.chart;
+        let chart = self.wiring.chart;
         chart.facts();
     }
 
@@ -140,7 +146,7 @@ impl<'a> Ready<'a> {
     pub fn events(&self) -> u32
         ensures { result ≡ length self.now.chart.events }
     {
-        self.chart.events()
+        self.wiring.chart.events()
     }
 
     /// Whether line `i` is ready. It takes no memory.
@@ -197,14 +203,22 @@ impl<'a> Ready<'a> {
         self.is_ready(chart.instance_of(f))
     }
 
+    /// The number of the queue of the message of event `e`, an output or an input.
+    pub(crate) fn queue(&self, e: Event) -> u32
+        requires known { e < length self.now.chart.events }
+        requires message { is_local self.now.chart.events e ≡ false }
+        ensures { result ≡ queue (wiring_of self.now) e }
+    {
+        self.queue_numbers[e as usize]
+    }
+
     /// Whether the inputs `e` and `f` share a queue.
     pub(crate) fn share_queue(&self, e: Event, f: Event) -> bool
         requires e_input { IsTrue (is_input self.now.chart.events e) }
         requires f_input { IsTrue (is_input self.now.chart.events f) }
         ensures { result ≡ nat_eq (queue (wiring_of self.now) e) (queue (wiring_of self.now) f) }
     {
-        let wiring = self.wiring();
-        wiring.queue(e) == wiring.queue(f)
+        self.queue(e) == self.queue(f)
     }
 
     /// Whether these are two inputs of one queue, `e` drawn before `f` on a ready line.

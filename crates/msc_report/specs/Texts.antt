@@ -1,9 +1,11 @@
 -- The lines that faults are printed as. This project's own formats.
 use Rattle.std.specs.Prelude.{ℕ, List, [], ◌∷◌, ◌++◌, Option, None, Some, codes, map}
 use Rattle.std.specs.Fmt.{decimal}
+use Rattle.std.specs.List.{flat_map}
 use Rattle.msc_lexer.specs.declared.fault.LexFault.{LexFault}
 use Rattle.msc_lexer.specs.declared.fault.LexFault.TheVariants as lexical
 use Rattle.msc_lexer.specs.Words.{spelling}
+use Rattle.msc_place.specs.Excerpts.{row_of}
 use Rattle.msc_place.specs.Texts.{shown_byte}
 use Rattle.msc_parser.specs.Expectations.{expectation}
 use Rattle.msc_parser.specs.declared.fault.ParseFault.{ParseFault}
@@ -16,6 +18,8 @@ use Rattle.msc_links.specs.declared.fault.LinkFault.{LinkFault}
 use Rattle.msc_links.specs.declared.fault.LinkFault.TheVariants.{NoLink, NoInstance, TwoKinds}
 use Rattle.msc_mark.specs.declared.fault.MarkFault.{MarkFault}
 use Rattle.msc_mark.specs.declared.fault.MarkFault.TheVariants as marks
+use Rattle.msc_report.specs.declared.link.RulesOf.{RulesOf}
+use Rattle.msc_report.specs.declared.link.RulesOf.TheVariants.{CommandLine, Text as OfText}
 use Rattle.msc_report.specs.declared.fault.Fault.{Fault}
 use Rattle.msc_report.specs.declared.fault.Fault.TheVariants.{Parse, Chart, NotStarted, Memory, Device}
 use Rattle.msc_report.specs.declared.pair.EventName.{EventName}
@@ -93,11 +97,26 @@ pair_fault_line (NoRace e f) =
 abbrev pub instance_fault_line : List ℕ → List ℕ
 instance_fault_line name = codes "ready fault 1: no instance " ++ text_line (map shown_byte name)
 
+-- bytes of a text as an excerpt shows them, one by one
+abbrev pub each_shown : List ℕ → List ℕ
+each_shown bytes = flat_map (λ b. row_of (b ∷ [])) bytes
+
+-- how bytes of rules for links are shown: those of a command line as the name of a file, those of a
+-- text as an excerpt of it
+abbrev pub shown_in : RulesOf → List ℕ → List ℕ
+shown_in CommandLine bytes = map shown_byte bytes
+shown_in OfText bytes = each_shown bytes
+
 -- the line of the fault of a rule for links
-abbrev pub link_fault_line : LinkFault → List ℕ
-link_fault_line (NoLink link) = codes "link fault 1: " ++ (map shown_byte link.now ++ text_line (codes " is no link"))
-link_fault_line (NoInstance name) = codes "link fault 2: no instance " ++ text_line (map shown_byte name.now)
-link_fault_line (TwoKinds link) = codes "link fault 3: " ++ (map shown_byte link.now ++ text_line (codes " has two kinds"))
+abbrev pub link_fault_line : RulesOf → LinkFault → List ℕ
+link_fault_line rules (NoLink link) = codes "link fault 1: " ++ (shown_in rules link.now ++ text_line (codes " is no link"))
+link_fault_line rules (NoInstance name) = codes "link fault 2: no instance " ++ text_line (shown_in rules name.now)
+link_fault_line rules (TwoKinds link) = codes "link fault 3: " ++ (shown_in rules link.now ++ text_line (codes " has two kinds"))
+
+-- the line of a comment that is to name queues and cannot be read, with the number of its place: of a
+-- chart's comment its byte, of a diagram's its line
+abbrev pub queues_fault_line : ℕ → List ℕ
+queues_fault_line number = placed (codes "link fault 4 at ") number (codes ": queues expected")
 
 -- the line of a comment that is to be a mark, and is none
 abbrev pub mark_fault_line : MarkFault → List ℕ

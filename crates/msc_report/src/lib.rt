@@ -48,7 +48,7 @@ pub use fault::Fault;
 pub use following::{ring_steps, write_follows, write_never};
 pub use instance::write_instance_fault;
 pub use lines::Lines;
-pub use link::write_link_fault;
+pub use link::{RulesOf, write_link_fault, write_queues_fault};
 pub use links::{write_queues, write_queues_line};
 pub use list::write_list;
 pub use mark::write_mark_fault;

@@ -3,29 +3,20 @@
 //! Links are in the order of their receivers, and then of their senders. If all links to a receiver
 //! are of one kind, one line has them all.
 
-ghost use Rattle.std.specs.Prelude.{◌≡◌, ◌<◌, ◌≤◌, ◌++◌, OnOk, codes, length};
+ghost use Rattle.std.specs.Prelude.{◌≡◌, ◌<◌, ◌++◌, OnOk, codes, length};
 ghost use Rattle.std.specs.Io.KnownBytes.{Appends};
-ghost use Rattle.msc_chart.specs.Architectures.{link_word};
-ghost use Rattle.msc_report.specs.Links.{all_links, are_alike, is_kind, links_below, links_text};
-ghost use Rattle.msc_report.specs.Links.{links_to, one_link, queues_text, receivers_below};
+ghost use Rattle.msc_chart.specs.Architectures.{kind_of, link_word};
+ghost use Rattle.msc_links.specs.declared.link.Link.TheVariants.{Between, To};
+ghost use Rattle.msc_links.specs.Listed.{links_below, links_to, receivers_below, unless_usual};
+ghost use Rattle.msc_report.specs.Links.{link_lines, links_text, queues_text};
 ghost use Rattle.msc_report.specs.Texts.{text_line};
 ghost use Rattle.msc_report.specs.Verdicts.{queues_line};
 
 use crate::race::write_instance;
-use msc_chart::{Chart, INSTANCE_LIMIT, LinkKind, Queues};
+use msc_chart::{Chart, LinkKind, Queues};
+use msc_links::{are_alike, same_kind};
 use std::io;
 use std::io::Write;
-
-/// Whether two kinds are one.
-fn is_kind(kind: LinkKind, other: LinkKind) -> bool
-    ensures { result ≡ is_kind kind other }
-{
-    match kind {
-        LinkKind::Pair => matches!(other, LinkKind::Pair),
-        LinkKind::Mailbox => matches!(other, LinkKind::Mailbox),
-        LinkKind::Single => matches!(other, LinkKind::Single),
-    }
-}
 
 /// Writes a kind, at the end of a line.
 fn write_kind<W: Write>(writer: &mut W, kind: LinkKind) -> io::Result<()>
@@ -47,11 +38,12 @@ fn write_one_link<W: Write>(
     requires receiver { r < length chart.now.instances }
     requires sender { s < length chart.now.instances }
     ensures { OnOk result (Appends (W.contents writer.old) (W.contents writer.new)
-        (one_link chart.now queues.now r s)) }
+        (link_lines chart.now
+        (unless_usual queues.now (kind_of queues.now s r) (Between s r)))) }
 {
     chart.facts();
     let kind = queues.kind(s, r);
-    if is_kind(kind, queues.usual()) {
+    if same_kind(kind, queues.usual()) {
         return Ok(());
     }
     writer.write_all(b"link ")?;
@@ -70,7 +62,7 @@ fn write_each_link<W: Write>(
 ) -> io::Result<()>
     requires { r < length chart.now.instances }
     ensures { OnOk result (Appends (W.contents writer.old) (W.contents writer.new)
-        (links_below chart.now queues.now r (length chart.now.instances))) }
+        (link_lines chart.now (links_below queues.now r (length chart.now.instances)))) }
 {
     for s in 0..chart.instances() {
         write_one_link(writer, chart, queues, r, s)?;
@@ -87,29 +79,16 @@ fn write_all_links<W: Write>(
 ) -> io::Result<()>
     requires { r < length chart.now.instances }
     ensures { OnOk result (Appends (W.contents writer.old) (W.contents writer.new)
-        (all_links chart.now queues.now r)) }
+        (link_lines chart.now (unless_usual queues.now (kind_of queues.now 0 r) (To r)))) }
 {
     chart.facts();
     let kind = queues.kind(0, r);
-    if is_kind(kind, queues.usual()) {
+    if same_kind(kind, queues.usual()) {
         return Ok(());
     }
     writer.write_all(b"link ")?;
     write_instance(writer, chart, r)?;
     write_kind(writer, kind)
-}
-
-/// Whether the links to `r` from the first `count` instances are of one kind.
-fn are_alike(queues: &Queues, r: u32, count: u32) -> bool
-    requires receiver { r < INSTANCE_LIMIT }
-    requires senders { count ≤ INSTANCE_LIMIT }
-    ensures { result ≡ are_alike queues.now r count }
-{
-    let mut alike = true;
-    for s in 0..count {
-        alike = alike && is_kind(queues.kind(s, r), queues.kind(0, r));
-    }
-    alike
 }
 
 /// Writes the lines of the links to `r`.
@@ -121,7 +100,7 @@ fn write_links_to<W: Write>(
 ) -> io::Result<()>
     requires { r < length chart.now.instances }
     ensures { OnOk result (Appends (W.contents writer.old) (W.contents writer.new)
-        (links_to chart.now queues.now r)) }
+        (link_lines chart.now (links_to queues.now (length chart.now.instances) r))) }
 {
     chart.facts();
     if are_alike(queues, r, chart.instances()) {
@@ -133,7 +112,8 @@ fn write_links_to<W: Write>(
 /// Writes the lines of the links to each receiver.
 fn write_receivers<W: Write>(writer: &mut W, chart: &Chart, queues: &Queues) -> io::Result<()>
     ensures { OnOk result (Appends (W.contents writer.old) (W.contents writer.new)
-        (receivers_below chart.now queues.now (length chart.now.instances))) }
+        (link_lines chart.now (receivers_below queues.now (length chart.now.instances)
+        (length chart.now.instances)))) }
 {
     for r in 0..chart.instances() {
         write_links_to(writer, chart, queues, r)?;

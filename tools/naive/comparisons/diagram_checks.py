@@ -1,8 +1,8 @@
 """What `msc check --from` prints of random Mermaid diagrams, and of diagrams at the limits.
 
 Most of the texts are small diagrams without a mistake; some stand in a file, and some in Markdown.
-Two of three have rules for links. Faults have their places and notes. Before these come wrong
-words.
+Two of three have rules for links, and some name their queues in a comment. Faults have their places
+and notes. Before these come wrong words.
 """
 import pathlib
 import re

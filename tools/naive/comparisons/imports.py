@@ -1,8 +1,9 @@
 """What `msc import` prints of random Mermaid diagrams, and of diagrams at the limits.
 
 Half of the texts have a mistake in their lines or their bytes, and some stand in Markdown; faults
-have their places and notes. `msc read` prints what is printed as a chart again, and `msc check`
-judges it.
+have their places and notes. Some name their queues in a comment, and so does the chart. `msc read`
+prints what is printed as a chart again, but for this comment, and `msc check` judges it, with the
+same queues as the diagram if it names some.
 """
 import re
 
@@ -11,7 +12,8 @@ from harness import Answer, run, shown
 from models.answers import import_answer
 
 NEEDS_PROGRAM = True
-OPTIONS = {"number": 2000}
+OPTIONS = {"number": 2000, "uniform": False}
+COMMENT = re.compile(rb"\A(msc \w+) comment '[^']*';")
 
 
 def texts(trial):
@@ -19,7 +21,7 @@ def texts(trial):
     for text, words in at_the_limits():
         yield text.encode(), words, False
     for _ in range(trial.options.number):
-        yield tried(trial.pick)
+        yield tried(trial.pick, trial.options.uniform)
 
 
 def compare(trial):
@@ -30,7 +32,10 @@ def compare(trial):
         found = re.match(rb"import fault \d+", wanted.error)
         trial.noted[found[0].decode() if found else "no fault"] += 1
         if not listed and wanted.status == 0:
-            trial.compare(["read", "-"], wanted.output, Answer(wanted.output, b"", 0))
-            judged = [trial.program, "check", "--queues", "pair", "--quiet", "-"]
+            canonical = COMMENT.sub(rb"\1;", wanted.output)
+            trial.compare(["read", "-"], wanted.output, Answer(canonical, b"", 0))
+            queues = "pair" if canonical == wanted.output else "own"
+            judged = [trial.program, "check", "--queues", queues, "--quiet", "-"]
             done = run(judged, wanted.output)
+            trial.noted["charts that name their queues"] += queues == "own"
             trial.add(done.status in (0, 1), shown(text), f"is no chart: {done.error!r}")

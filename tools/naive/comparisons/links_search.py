@@ -4,22 +4,24 @@ By a search over all states of runs an event is enforced before another exactly 
 other one without it. Queues that are coarser, so that messages which share one still do, enforce
 whatever the others do; so a chart that passes with `single` passes with all. One kind for all links
 is the old rule, by which messages share a queue. What a head lists gives the same kinds again, the
-order of rules does not matter, and the chart of a diagram with the rules that its head lists has
-the queues of the diagram. The models agree with the examples of generators/link_examples.py.
+order of rules does not matter, and the chart of a diagram has the queues of the diagram, unless a
+check refuses its servers. Each diagram of a text of Markdown has its own. The models agree with the
+examples of generators/link_examples.py.
 """
 import itertools
 
-from comparisons.links import is_head
+from comparisons.links import is_head, rows_of
 from generators import link_examples
 from generators.charts import crossed_chart, small_chart
 from generators.diagram_checks import diagram
-from generators.links import names_in, rules, some_queues
+from generators.links import page_of, rules, some_queues, with_comments
 from harness import Answer, Wrong, want
 from models.answers import check_answer, diagram_check_answer, import_answer
-from models.chart import QUEUES, Chart
+from models.chart import QUEUES, Chart, is_enforced
 from models.courses import scenarios
-from models.links import Architecture, Given, architecture, of_chart, of_diagram, parted
+from models.links import Architecture, Given, LinkFault, architecture, kinds_of, parted, written
 from models.mermaid import one_text, options_of
+from models.own import in_diagram, of_chart, of_diagram
 from models.reading import Draft
 from models.short_runs import State
 from models.source import Refused, source_of
@@ -105,18 +107,19 @@ def every_kind(queues, lines):
     return [queues.kind(*link) for link in itertools.product(range(lines), repeat=2)]
 
 
-def listed(queues, names):
-    """The command line that says what a head lists."""
-    return Given(queues.usual, [(kind, link) for link, kind in queues.others(names)])
-
-
 def want_same(pick, text, given, queues):
-    """Rules in another order, and those that a head lists, give the same."""
-    names, mixed = Chart(text, queues).names, list(given.rules)
+    """Rules in another order, those that a head lists, and the same in words give the same."""
+    names = Chart(text, queues).names
+    find = lambda name: names.index(name.decode())
     wanted = every_kind(queues, len(names))
+    mixed = [(kind, link.encode()) for kind, link in given.rules]
     pick.shuffle(mixed)
-    for same in (Given(given.queues, mixed), listed(queues, names)):
-        same = of_chart(text.encode(), same)
+    head = [line.split()[1:] for line in queues.lines(names)]
+    listed = [(kind, link.encode()) for link, kind in head[1:]]
+    held = "queues " + written(queues.usual, queues.others(names))
+    told = text.replace(";", f" comment '{held}';", 1).encode()
+    for same in (Architecture(given.queues, kinds_of(mixed, find)),
+                 Architecture(head[0][0], kinds_of(listed, find)), of_chart(told, Given("own"))):
         want(every_kind(same, len(names)) == wanted, f"{same} is not {queues}")
 
 
@@ -139,34 +142,60 @@ def search(trial, text):
 
 
 def compare_imported(trial, text):
-    """Compares the queues of a diagram with those of its chart."""
-    options, pick = options_of([]), trial.pick
+    """Compares the queues of a diagram with those of its chart, under some more rules."""
+    options = options_of([])
     try:
         read = one_text(source_of(text), options).diagram(options)
-        course = next(scenarios(read, options))
-        wanted = of_diagram(read, Given(pick.choice(QUEUES), rules(pick, names_in(text))))
+        course, names = next(scenarios(read, options)), read.names.names
+        # other names are those of other lines in the text
+        own = [name.decode() for i, name in enumerate(names) if read.names.find(name) == i]
+        given = Given("own", rules(trial.pick, own) if own else [])
+        wanted = of_diagram(read, given)
     except Refused:
         return
-    names = [name.decode() for name in read.names.names]
     told = import_answer(text, ["--choose", ",".join(map(str, course.taken)) or "main"]).output
-    given = listed(wanted, names)
-    found = [every_kind(it, len(names)) for it in (of_chart(told, given), wanted)]
+    found = [(it.usual, every_kind(it, len(names))) for it in (of_chart(told, given), wanted)]
     trial.add(found[0] == found[1], text, told, given, *found)
-    trial.noted["diagrams"] += 1
+    trial.noted["diagrams that name their queues"] += in_diagram(read) is not None
+
+
+def heads(text):
+    """What a check of diagrams with their own queues prints of each: the lines on its queues, or
+    that it is refused."""
+    found = []
+    for line in diagram_check_answer(text, ["--queues", "own"]).output.decode().splitlines():
+        if line.startswith("diagram "):
+            found.append([])
+        elif line.startswith(("queues ", "link ", "refused")):
+            found[-1].append(line)
+    return found
+
+
+def compare_page(trial, texts):
+    """Compares the queues of the diagrams of a text with those of each by itself."""
+    wanted = [head for text in texts for head in heads(text) or [["refused"]]]
+    page = page_of(trial.pick, texts)
+    found = heads(page)
+    trial.add(found == wanted, page, f"wanted {wanted}", found)
+    trial.noted["diagrams of texts with other queues"] += any(head != wanted[0] for head in wanted)
 
 
 def compare_examples(trial):
     """Compares the examples with what the models say."""
     for text, given, wanted in link_examples.heads():
         if text.startswith(b"sequence"):
-            got = diagram_check_answer(text, given.words())
+            got, place = diagram_check_answer(text, given.words()), link_examples.LINE
         else:
-            got = check_answer(text, given)
+            got, place = check_answer(text, given), link_examples.BYTE
+        wanted = wanted.replace("K", str(place)) if isinstance(wanted, str) else wanted
         trial.add(is_head(got, wanted), text, given, f"wanted {wanted}", got)
     for text, words, printed in link_examples.CHECKS:
         wanted = Answer(printed.encode(), b"", int("races" in printed))
         got = check_answer(text.encode(), parted(words)[0])
         trial.add(got == wanted, text, words, wanted, got)
+    for text, rows in link_examples.imports():
+        got = import_answer(text, [])
+        trial.add(rows_of(got.output.decode()) == rows, text, f"wanted {rows}", got)
 
 
 def compare(trial):
@@ -174,4 +203,6 @@ def compare(trial):
     for number in range(trial.options.number):
         made = crossed_chart if number % 2 else small_chart
         search(trial, made(trial.pick, trial.options.lines, trial.options.messages))
-        compare_imported(trial, diagram(trial.pick).encode())
+        texts = [with_comments(trial.pick, diagram(trial.pick).encode()) for _ in range(2)]
+        compare_imported(trial, texts[0])
+        compare_page(trial, texts)

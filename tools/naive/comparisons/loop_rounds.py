@@ -9,8 +9,9 @@ from generators.diagram_checks import diagram
 from generators.links import some_words
 from models.chart import QUEUES
 from models.courses import scenarios
-from models.links import given_of, of_diagram
+from models.links import given_of
 from models.mermaid import one_text
+from models.own import of_diagram
 from models.scenarios import Scenario, options_of
 from models.source import Refused, source_of
 

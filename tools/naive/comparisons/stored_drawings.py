@@ -10,9 +10,10 @@ from harness import Answer, joined
 from models import notes
 from models.answers import fault_of, follow_answer
 from models.chart import Chart
-from models.links import LinkFault, of_chart, parted
+from models.links import LinkFault, parted
 from models.marks import fault_of as fault_of_marks
 from models.marks import marks_for
+from models.own import of_chart
 from models.races import study
 from models.rounds import arguments, check_answer
 from models.shown import places_of
@@ -40,6 +41,15 @@ def options_of(words):
     return parted(words[: -2 if words[-1].startswith("<") else -1])
 
 
+def faults_of_links(text, given):
+    """What is printed of the fault of a chart's links, or None."""
+    try:
+        of_chart(text, given)
+    except LinkFault as fault:
+        return notes.link_answer(text, fault)
+    return None
+
+
 def follow_wanted(words):
     """What `follow` has to print, or None if no model says it."""
     file, text = read(words)
@@ -47,9 +57,10 @@ def follow_wanted(words):
     if options not in ON_DRAWINGS:
         return None
     placed = file if "--places" in options else None
-    if fault_of(text) and placed:
-        told = notes.in_file(notes.answer(text, is_check=False), file)
-        return Answer(b"", joined(told), 2)
+    if placed:
+        found = notes.answer(text, is_check=False) or faults_of_links(text, given)
+        if found:
+            return Answer(b"", joined(notes.in_file(found, file)), 2)
     return follow_answer(text, given, "--words" in options, placed)
 
 
@@ -59,18 +70,15 @@ def lines_wanted(words):
     given, options = options_of(words)
     if text is None or {it for it in options if it[0] == "-"} - ON_LINES or fault_of(text):
         return None
-    try:
-        queues = of_chart(text, given)
-    except LinkFault as fault:
-        found = [fault.line()]
+    found = faults_of_links(text, given)
+    if found:
         lines = notes.in_file(notes.for_editors(found), file)
-        return Answer(joined(lines), joined(found), 2)
-    again, told = "--again" in options, text.decode("latin-1")
+        return Answer(joined(lines), joined(found[:1]), 2)
+    again, told, queues = "--again" in options, text.decode("latin-1"), of_chart(text, given)
     if "--accept" in options and fault_of_marks(told):
         return None
     options = [it for it in options if it not in ("--again", "--plain")]
-    options = vars(arguments(__doc__, ["check", *options, given.queues]))
-    marks = marks_for(told, queues)
+    options, marks = vars(arguments(__doc__, ["check", *options, "own"])), marks_for(told, queues)
     if again:
         lines, status = check_answer(told, queues, options, marks)
     else:

@@ -3,7 +3,7 @@ and wrong words.
 """
 from generators import diagrams
 from generators.diagrams import NAMES, in_markdown, items
-from generators.links import some_words
+from generators.links import some_words, with_comments
 from models.chart import QUEUES
 from models.races import KINDS
 
@@ -94,7 +94,9 @@ def at_the_limits():
 def one(pick, is_uniform=False):
     """A random text, and random options."""
     text, words = text_of(pick), words_of(pick)
-    words = words if is_uniform else some_words(pick, text, words)
+    if not is_uniform:
+        text = with_comments(pick, text)
+        words = some_words(pick, text, words)
     if pick.random() < 0.25:
         text, more = in_markdown(pick, text)
         words += more

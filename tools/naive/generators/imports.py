@@ -1,5 +1,6 @@
 """Texts and options for `msc import`: random ones, and diagrams at each limit and one past it."""
 from generators.diagrams import in_markdown, text_of
+from generators.links import with_comments
 
 
 def words_of(pick):
@@ -16,9 +17,10 @@ def words_of(pick):
     return words
 
 
-def tried(pick):
+def tried(pick, is_uniform):
     """A random text, random options, and whether its events are listed."""
     text, words = text_of(pick), words_of(pick)
+    text = text if is_uniform else with_comments(pick, text)
     if pick.random() < 0.3:
         text, more = in_markdown(pick, text)
         words += more

@@ -8,9 +8,10 @@ from harness import Answer, joined
 from models import rounds
 from models.chart import Chart
 from models.following import answer as follow_lines
-from models.links import Given, LinkFault, of_chart
+from models.links import Given, LinkFault
 from models.mermaid import answered
 from models.mermaid import options_of as import_options
+from models.own import of_chart
 from models.picture import chart_picture
 from models.reading import Draft, Refused
 from models.ready import answer as ready_lines
@@ -53,7 +54,7 @@ def on_chart(text, queues, answered):
     try:
         queues = of_chart(text, queues) if isinstance(queues, Given) else queues
     except LinkFault as link:
-        return refusal(link.line())
+        return refusal(link.line(link.at))
     return answered(text.decode("latin-1"), queues)
 
 

@@ -1,7 +1,7 @@
 """Charts, straight from the definitions of docs/MODEL.md: events, the enforced order, races, and
 the run that is chosen for a race.
 
-    tools/naive/print.py chart [--show N] [RULE].. pair|mailbox|single < CHART
+    tools/naive/print.py chart [--show N] [RULE].. pair|mailbox|single|own < CHART
 
 prints what `msc check` prints. Each definition is a function of its own, written for a reader and
 not for speed; sets of events are numbers, with a bit for each event. It shares nothing with the
@@ -15,7 +15,8 @@ import sys
 
 from harness import Answer, joined, parser, put
 from models.links import KINDS as QUEUES
-from models.links import add_queues, architecture, given_of, of_chart
+from models.links import add_queues, architecture, given_of
+from models.own import of_chart
 
 TOKEN = re.compile(r"\s+|/\*.*?\*/|(?:'[^']*')+|\w+|.", re.DOTALL | re.ASCII)
 SIGNAL = re.compile(r"(in|out) (\w+)(?: , (\w+))?(?: \( [^)]*\))? (?:from|to) (\w+)", re.IGNORECASE)

@@ -133,9 +133,9 @@ class Course:
             return {left: [[out], [taken]] if is_message else own}
         return {left: [[out]], right: [[taken]]}
 
-    def text(self, name):
-        """The canonical text of the chart."""
-        lines = [f"msc {name};"]
+    def text(self, name, comment=""):
+        """The canonical text of the chart, with a comment behind its name."""
+        lines = [f"msc {name}{comment};"]
         for at in range(len(self.diagram.names.names)):
             lines.append(f"instance {self.diagram.names.decl(at).decode()};")
             for segment in self.segments.get(at, []):

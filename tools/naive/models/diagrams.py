@@ -135,9 +135,9 @@ class Block:
 
 
 class Diagram:
-    def __init__(self, source, statements):
+    def __init__(self, source, statements, comments):
         """The diagram of these statements: its lines and its items, those being arrows and
-        blocks."""
+        blocks; and with these comments, each a text and its place."""
         self.source, self.names, self.arrows = source, Names(), 0
         top = Block("", "", 0)
         inside = [top]
@@ -163,7 +163,7 @@ class Diagram:
         if len(inside) > 1:
             hint = Note(f"hint {inside[-1].word} needs its own end")
             raise Refused(4, "block without end", inside[-1].at, [hint])
-        self.items = top.branches[0]
+        self.items, self.comments = top.branches[0], list(comments)
 
     def met(self, arrow):
         """The arrow with its number and its place."""

@@ -2,7 +2,7 @@
 "Instances", "Executions", "Logs and runs").
 
     tools/naive/print.py executions [--patience N] [--status S] [RULE]..
-                                    pair|mailbox|single CHART < PRINTED
+                                    pair|mailbox|single|own CHART < PRINTED
 
 prints what is wrong with PRINTED, if anything is; the exit status is 1 then. What `msc run` prints
 depends on the schedule of the threads, so no text can be compared with it. But the trace has all
@@ -16,7 +16,8 @@ import sys
 
 from harness import parser
 from models.chart import Chart
-from models.links import add_queues, given_of, of_chart
+from models.links import add_queues, given_of
+from models.own import of_chart
 
 # that of `msc run` without --patience
 PATIENCE = 1_000_000_000

@@ -2,7 +2,7 @@
 definitions of docs/MODEL.md.
 
     tools/naive/print.py following [--words] [--places FILE] [RULE]..
-                                   pair|mailbox|single < CHART
+                                   pair|mailbox|single|own < CHART
 
 prints what `msc follow` prints. Each definition is a function of its own, written for a reader and
 not for speed. The text has to be a chart: it names no fault but those of links. It is read as
@@ -14,7 +14,8 @@ import sys
 
 from harness import Answer, joined, parser, put
 from models.chart import Chart
-from models.links import add_queues, given_of, of_chart
+from models.links import add_queues, given_of
+from models.own import of_chart
 from models.shown import pair_line, places_of, run_lines
 from models.short_runs import State
 

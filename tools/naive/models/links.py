@@ -6,17 +6,19 @@ and the words of rules are bytes.
 """
 from typing import NamedTuple
 
-from models.reading import Draft
-from models.source import Refused, file_shown
+from models.source import Refused, file_shown, row_shown
 
 KINDS = ("pair", "mailbox", "single")
-# what may be around LINK and around its names
 BLANKS = b" \t\r\n"
 
 
 class LinkFault(Refused):
-    """The first fault of some rules."""
+    """The first fault of some rules. That of rules of a text has the place of their comment."""
     stage = "link"
+
+    @property
+    def tells_place(self):
+        return self.number == 4
 
 
 class Architecture(NamedTuple):
@@ -52,14 +54,18 @@ def architecture(queues):
     return queues if isinstance(queues, Architecture) else Architecture(queues)
 
 
-def shown(held):
-    """What is printed of bytes of a command line."""
-    return file_shown(held.decode())
+def written(usual, others):
+    """An architecture in words, from the usual kind, and links with their kinds."""
+    parts = [usual]
+    for kind in KINDS:
+        links = [link for link, other in others if other == kind]
+        parts += [f"{kind} {', '.join(links)}"] if links else []
+    return "; ".join(parts)
 
 
-def kinds_of(rules, find):
-    """The kinds that these rules give. `find` gives the number of an instance by its name, or
-    None."""
+def kinds_of(rules, find, shown=row_shown):
+    """The kinds that these rules give. `find` gives the number of an instance by its name, or None,
+    and `shown` what is printed of bytes."""
     kinds = {}
     for kind, link in rules:
         link = link.strip(BLANKS)
@@ -87,22 +93,11 @@ class Given(NamedTuple):
             words += [f"--{kind}={link}"] if link.startswith("-") else [f"--{kind}", link]
         return words
 
-    def resolved(self, find):
-        """The architecture; rules for `pair` come first, whatever their order."""
+    def kinds(self, find):
+        """The kinds that the rules give; those for `pair` come first, whatever their order."""
         ordered = sorted(self.rules, key=lambda rule: KINDS.index(rule[0]))
         rules = [(kind, link.encode()) for kind, link in ordered]
-        return Architecture(self.queues, kinds_of(rules, find))
-
-
-def of_chart(text, given):
-    """The architecture that a command line gives to a chart."""
-    names = Draft(text).instances()
-    return given.resolved(lambda name: names.index(name) if name in names else None)
-
-
-def of_diagram(diagram, given):
-    """The architecture that a command line gives to a diagram."""
-    return given.resolved(diagram.names.find)
+        return kinds_of(rules, find, lambda held: file_shown(held.decode()))
 
 
 def parted(words):
@@ -120,7 +115,7 @@ def parted(words):
 
 def add_queues(words, name, **more):
     """Puts the options on queues, of which `name` is the one of the usual kind."""
-    words.add_argument(name, choices=KINDS, **more)
+    words.add_argument(name, choices=(*KINDS, "own"), **more)
     for kind in KINDS:
         words.add_argument(f"--{kind}", action="append", default=[], metavar="LINK")
 

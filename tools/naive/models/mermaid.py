@@ -5,10 +5,11 @@
                                  [--self action|message] [--cross lost|arrives] [--par drawn]
                                  [--fence N] < TEXT
 
-prints what `msc import` prints: the chart of one scenario, or on standard error the line of the
-first fault. With --list the events stand in place of the chart, with the places of their arrows in
-FILE; with --into the charts of all scenarios are written; with --shown the bytes of the text that
-are shown to people stand there; with --places the place and the notes follow a fault.
+prints what `msc import` prints: the chart of one scenario, with the queues that the diagram names,
+or on standard error the line of the first fault. With --list the events stand in place of the
+chart, with the places of their arrows in FILE; with --into the charts of all scenarios are written;
+with --shown the bytes of the text that are shown to people stand there; with --places the place and
+the notes follow a fault.
 
 The text is cut into statements (mermaid_lines.py, mermaid_words.py), those are put into blocks
 (diagrams.py), and a scenario goes through these with its choices (courses.py); markdown.py finds
@@ -23,8 +24,9 @@ from models.courses import SCENARIOS, count_of, course_of, scenarios
 from models.diagrams import Arrow, Diagram, made
 from models.hints import kind_hints
 from models.markdown import blocks_of, is_sequence, stray_fault
-from models.mermaid_lines import HEAD, Cutter, counting
+from models.mermaid_lines import HEAD, Cutter, comments, counting
 from models.mermaid_words import Statement
+from models.own import imported
 from models.source import Note, Refused, Source, Span, after_space, found_note, is_word, source_of
 from models.source import trimmed
 
@@ -113,7 +115,7 @@ class Text:
             if options.language == "any" and not any(map(begins_one, rows)):
                 raise no_diagram(source, rows)
             said = statements(source, rows, options.cross, self.in_markup)
-            return Diagram(source, said)
+            return Diagram(source, said, comments(source, rows))
         except Refused as fault:
             if fault.words in ("expected a diagram", "expected sequenceDiagram"):
                 fault.notes += [*kind_notes(source, rows, fault), *self.others]
@@ -165,7 +167,7 @@ def all_scenarios(diagram, name, options):
     for i, course in enumerate(every, 1):
         own = name if len(every) == 1 else f"{name}_{i}"
         with open(os.path.join(options.into, own + ".msc"), "w") as out:
-            out.write(course.text(own))
+            out.write(course.text(own, imported(diagram)))
         chosen = " choose " + ",".join(map(str, course.taken)) if course.taken else ""
         yield f"{own}.msc{chosen}\n"
 
@@ -192,7 +194,9 @@ def answer(source, options):
     course = course_of(diagram, [int(n) for n in numbers], options)
     if options.shown:
         return b"".join(course.shown())
-    return (course.list(name, options.list) if options.list else course.text(name)).encode()
+    if options.list:
+        return course.list(name, options.list).encode()
+    return course.text(name, imported(diagram)).encode()
 
 
 def rounds_of(held):

@@ -98,8 +98,9 @@ def places_of(row):
     return range(row.start, row.start + len(row.held) + 1)
 
 
-def counting(source, rows):
-    """The lines that are left: neither empty nor front matter, directives or comments."""
+def parted(source, rows):
+    """The lines that are neither empty nor front matter or directives, and whether each is a
+    comment."""
     rows = iter(without_front(source, rows))
     for row in rows:
         begin = after_space(row.held, 0)
@@ -115,8 +116,28 @@ def counting(source, rows):
             nothing_after(source, row.held, places_of(row), end)
         elif row.held.startswith(b"%%", begin):
             check_comment(source, row)
+            yield row, True
         else:
-            yield row
+            yield row, False
+
+
+def counting(source, rows):
+    """The lines that are left: those of these that are no comments."""
+    return (row for row, is_comment in parted(source, rows) if not is_comment)
+
+
+def comments(source, rows):
+    """The text of each line that is a comment, and of one behind the word that begins the diagram,
+    without white space at its end; each with its place."""
+    head = None
+    for row, is_comment in parted(source, rows):
+        begin = after_space(row.held, 0)
+        if not is_comment and head is None:
+            head = row
+            begin = after_space(row.held, begin + len(HEAD))
+            is_comment = row.held.startswith(b"%%", begin)
+        if is_comment:
+            yield row.held[begin + 2:before_space(row.held, len(row.held), begin + 2)], row.start + begin
 
 
 def check_line(source, row, in_markup):

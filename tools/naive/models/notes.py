@@ -304,6 +304,14 @@ def chart_answer(text):
     return answer
 
 
+def link_answer(text, fault):
+    """What is printed of a fault of links: one of the text's own rules has a place."""
+    line = fault.line(fault.at)
+    if fault.at is None:
+        return [line]
+    return [line, f"at {place(text, fault.at)}", *excerpt(text, fault.at)]
+
+
 # the hint on a text that is no chart but a diagram, in `check` and in other commands
 DIAGRAM_HINTS = ("hint this is a sequence diagram of Mermaid: --from any reads it",
                  "hint this is a sequence diagram of Mermaid: msc import makes a chart of it")

@@ -1,6 +1,6 @@
 """Pictures in text, of a chart and of a run that reverses a race.
 
-    tools/naive/print.py picture [--queues QUEUES] [--race E F] < CHART
+    tools/naive/print.py picture [--queues QUEUES [RULE]..] [--race E F] < CHART
 
 prints one. With --queues the closest races of the chart are marked. With --race E F too it is the
 run of the race (E, F) that is drawn. The drawing order, the rows and the places of the text are
@@ -11,7 +11,9 @@ race.
 import sys
 
 from harness import Answer, joined, parser, put
-from models.chart import QUEUES, Chart
+from models.chart import Chart
+from models.links import add_queues, given_of
+from models.own import of_chart
 from models.races import closest_of
 
 
@@ -208,10 +210,12 @@ def run_picture(drawn, e, f):
 
 def main(given):
     words = parser(__doc__)
-    words.add_argument("--queues", choices=QUEUES)
+    add_queues(words, "--queues")
     words.add_argument("--race", nargs=2, type=int, metavar=("E", "F"))
     options = words.parse_args(given)
-    drawn = Chart(sys.stdin.buffer.read().decode("latin-1"), options.queues or "pair")
+    text = sys.stdin.buffer.read()
+    queues = of_chart(text, given_of(options)) if options.queues else "pair"
+    drawn = Chart(text.decode("latin-1"), queues)
     if options.race:
         lines = run_picture(drawn, *options.race)
     else:

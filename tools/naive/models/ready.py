@@ -1,7 +1,7 @@
 """Instances that are ready: sticks, and what `msc ready` prints, straight from the definitions.
 
     tools/naive/print.py ready [--only NAME].. [--show N] [--words] [--places FILE]
-                               [RULE].. pair|mailbox|single < CHART
+                               [RULE].. pair|mailbox|single|own < CHART
 
 prints what `msc ready` prints. An instance that is ready takes a message only when all that is
 drawn before has happened, and leaves the others in their queues. Each definition is a function of
@@ -16,7 +16,8 @@ import sys
 
 from harness import Answer, joined, parser, put
 from models.chart import Chart
-from models.links import add_queues, given_of, of_chart
+from models.links import add_queues, given_of
+from models.own import of_chart
 from models.shown import pair_line, places_of, run_lines
 
 ALL = 2 ** 32 - 1

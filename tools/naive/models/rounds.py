@@ -3,9 +3,9 @@ definitions of docs/MODEL.md.
 
     tools/naive/print.py rounds check [--closest] [--why] [--most N] [--show N] [--allow KIND]
                                       [--accept] [--format F] [-q] [--words] [--short] [--places]
-                                      [RULE].. pair|mailbox|single < CHART
+                                      [RULE].. pair|mailbox|single|own < CHART
     tools/naive/print.py rounds ready [--only NAME].. [--show N] [--words] [--places]
-                                      [RULE].. pair|mailbox|single < CHART
+                                      [RULE].. pair|mailbox|single|own < CHART
 
 print what these print. Rounds of a chart are made as a text: each instance has its statements
 again in each round, and each message its round in its message instance name. The chart of that text
@@ -18,8 +18,9 @@ import sys
 from harness import Answer, joined, parser, put
 from models import ready
 from models.chart import Chart, is_enforced, statements
-from models.links import add_queues, given_of, of_chart
+from models.links import add_queues, given_of
 from models.marks import fault_of, marks_for
+from models.own import of_chart
 from models.races import KINDS, chosen, closest_of, kind, share_queue, shown_run, study
 from models.ready import ALL, Ready, pair_words, signal
 from models.shown import named, places_of

@@ -1,6 +1,6 @@
 """All scenarios of a diagram, or of those of a text of Markdown, and their races.
 
-    tools/naive/print.py scenarios --queues pair|mailbox|single [RULE].. [--closest] [--why]
+    tools/naive/print.py scenarios --queues pair|mailbox|single|own [RULE].. [--closest] [--why]
                                    [--most N] [--show N] [--allow KIND] [--format text|count|lines]
                                    [--quiet] [--words] [--short] [--places] [--from mermaid|any]
                                    [--name NAME] [--rounds R,R..] [--limit N]
@@ -20,8 +20,9 @@ from harness import Answer, put
 from models.chart import Chart
 from models.courses import scenarios
 from models.diagrams import made
-from models.links import add_queues, given_of, of_diagram
+from models.links import add_queues, given_of
 from models.mermaid import fault_bytes, texts_of, words_on_diagrams
+from models.own import of_diagram
 from models.races import KINDS, closest_of, editor_lines, kind, race_words, shown_run, why
 from models.shown import run_lines
 from models.source import Refused, Source, source_of

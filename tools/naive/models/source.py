@@ -51,16 +51,16 @@ def found_note(shown):
 
 class Refused(Exception):
     """The first fault of a text: its number, its words, its place if it has one, and its notes."""
-    # what is refused
-    stage = "import"
+    # what is refused, and whether the line of the fault says where
+    stage, tells_place = "import", True
 
     def __init__(self, number, words, at=None, notes=()):
         super().__init__(words)
         self.number, self.words, self.at, self.notes = number, words, at, list(notes)
 
-    def line(self, at=None):
+    def line(self, at):
         """The line of the fault; `at` is what it says of its place."""
-        place = "" if at is None else f" at {at}"
+        place = f" at {at}" if self.at is not None and self.tells_place else ""
         return f"{self.stage} fault {self.number}{place}: {self.words}"
 
 

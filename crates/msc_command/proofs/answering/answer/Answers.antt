@@ -3,7 +3,7 @@ use Rattle.std.proofs.lemmas.Result.{err_from_is_err_and}
 use Rattle.msc_command.proofs.Answered.{charted, no_chart, no_draft, not_written}
 use Rattle.msc_command.proofs.Drawn.{not_charted, not_drafted, was_drawn}
 use Rattle.msc_command.specs.Answering.{Answers}
-use Rattle.msc_command.specs.Drawing.{PrintsPage, RefusesDrawn}
+use Rattle.msc_command.specs.Drawing.{PrintsLinkedPage, RefusesLinkedPage}
 use Rattle.msc_parser.specs.Grammar.{Tree}
 use Rattle.msc_command.proofs.answering.answer.Goals as goal
 
@@ -35,13 +35,13 @@ returns-in_ok-source-in-Chart g c =
 pub returns-in_err-read-in-Draw : goal.returns-in_err-read-in-Draw
 returns-in_err-read-in-Draw g c =
     let p = err_from_is_err_and c.from_residual-in_err-read-in-Draw.result c.from_residual-in_err-read-in-Draw.ensures.1 in
-    rw (c.in-Draw.is, p.1, p.2) (not_drafted g.O.Write.contents c.args.request.file.now c.args.text.now c.in-Draw.drawn _ c.args.output.now c.in_err-read-in-Draw.ensures)
+    rw (c.in-Draw.is, p.1, p.2) (not_drafted g.O.Write.contents c.args.request.file.now c.args.text.now c.in-Draw.drawn c.in-Draw.words _ c.args.output.now c.in_err-read-in-Draw.ensures)
 
 pub returns-in_err-source-in-Draw : goal.returns-in_err-source-in-Draw
 returns-in_err-source-in-Draw g c =
     let p = err_from_is_err_and c.from_residual-in_err-source-in-Draw.result c.from_residual-in_err-source-in-Draw.ensures.1 in
     let read = c.in_ok-read-in-Draw.ensures in
-    rw (c.in-Draw.is, p.1, p.2) (not_charted g.O.Write.contents c.args.request.file.now c.args.text.now c.in-Draw.drawn _ c.args.output.now c.in_ok-read-in-Draw.read read.0 read.1
+    rw (c.in-Draw.is, p.1, p.2) (not_charted g.O.Write.contents c.args.request.file.now c.args.text.now c.in-Draw.drawn c.in-Draw.words _ c.args.output.now c.in_ok-read-in-Draw.read read.0 read.1
     c.in_err-source-in-Draw.ensures.told)
 
 pub returns-in_ok-source-in-Draw : goal.returns-in_ok-source-in-Draw
@@ -50,10 +50,11 @@ returns-in_ok-source-in-Draw g c =
     let told = c.in_ok-source-in-Draw.ensures.told in
     let source = c.in_ok-source-in-Draw.source in
     let drawn = c.in-Draw.drawn in
-    let says = subst (λ (t : Tree). Answers g.O.Write.contents (PrintsPage drawn t source) (RefusesDrawn drawn source) c.draw.result c.args.output.now c.draw.new.output)
-    c.draft.ensures c.draw.ensures in
-    rw c.in-Draw.is (was_drawn g.O.Write.contents c.args.request.file.now c.args.text.now drawn c.in_ok-read-in-Draw.read.draft source (told.0 ∙ read.0) (told.1 ∙ read.1) read.2
-    c.in_ok-source-in-Draw.ensures.faultless c.in_ok-source-in-Draw.ensures.drawn c.draw.result _ _ says)
+    let words = c.in-Draw.words in
+    let says = subst (λ (t : Tree). Answers g.O.Write.contents (PrintsLinkedPage drawn words t source) (RefusesLinkedPage drawn words source) c.draw_linked.result c.args.output.now c.draw_linked.new.output)
+    c.draft.ensures c.draw_linked.ensures in
+    rw c.in-Draw.is (was_drawn g.O.Write.contents c.args.request.file.now c.args.text.now drawn words c.in_ok-read-in-Draw.read.draft source (told.0 ∙ read.0) (told.1 ∙ read.1) read.2
+    c.in_ok-source-in-Draw.ensures.faultless c.in_ok-source-in-Draw.ensures.drawn c.draw_linked.result _ _ says)
 
 pub returns-in-Import : goal.returns-in-Import
 returns-in-Import g c = rw c.in-Import.is c.import.ensures

@@ -23,9 +23,7 @@ returns-in-Instance c =
 
 pub returns-in-Link : goal.returns-in-Link
 returns-in-Link c =
-    IfOk-weaker c.bare_lines-in-Link.result _ _
-    (λ page begun. bare_text c.args.file.now c.args.text.now c.args.refusal None _ (stands_as c.args.text.now None c.args.refusal _ c.in-Link.is (λ p at. (None, refl, at))) begun)
-    c.bare_lines-in-Link.ensures
+    rw c.in-Link.is (IfOk-weaker c.link_lines.result _ _ (λ page told. told c.args.text.now) c.link_lines.ensures)
 
 pub returns-in-Rounds : goal.returns-in-Rounds
 returns-in-Rounds c =

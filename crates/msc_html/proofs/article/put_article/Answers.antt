@@ -16,7 +16,8 @@ returns c =
     let p = c.put_article_begin.new.page.items in
     let r = c.put_told.new.page.items in
     let q = c.put_run.new.page.items in
-    let run = run_node c.args.queues t (option_map (λ s. s.now) c.args.run) in
+    let e = c.args.enforced.now in
+    let run = run_node e.chart e.queues t (option_map (λ s. s.now) c.args.run) in
     put_block c.args.page.now.items p q c.extend_from_slice.new.self.items (codes "article")
     (valued (codes "id") (place_text t.number) ∷ [])
     (sentence (codes "h3") Plain (title_parts s t.number t.first t.cause))

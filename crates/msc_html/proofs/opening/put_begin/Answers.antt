@@ -10,6 +10,6 @@ pub returns : goal.returns
 returns c =
     let p = c.put_plain.new.page.items in
     let next = c.put_checked.new.page.items in
-    let checked = sentence (codes "p") Soft (words (checked_text c.args.queues) ∷ []) in
+    let checked = sentence (codes "p") Soft (words (checked_text c.args.enforced.now.chart c.args.enforced.now.queues) ∷ []) in
     line_then c.args.page.now.items p next (plain (codes "h1") c.args.name.now) (checked ∷ [])
     c.in_ok-put_plain.ensures (as_lines p next checked c.in_ok-put_checked.ensures)

@@ -1,5 +1,4 @@
 use Rattle.std.proofs.Common.{◌++◌, map, ap, ◌∙◌}
-use Rattle.msc_chart.specs.declared.queue.Queues.{Queues}
 use Rattle.msc_html.specs.Articles.{article_node}
 use Rattle.msc_html.specs.Progress.{judged}
 use Rattle.msc_html.specs.Reports.{end_nodes, front_nodes, races_nodes}
@@ -14,16 +13,15 @@ returns c =
     let s = source.scene.now in
     let races = c.args.races in
     let closest = c.args.closest in
-    let queues = (judged source).queues in
+    let e = judged source in
     let told = c.in_ok-put_races.ensures in
     let base = c.args.page.now.items in
     let p = c.put_front.new.page.items in
     let q = c.put_races.new.page.items in
-    let front = front_nodes s queues races closest in
-    let middle = races_nodes queues races closest (map (article_node s queues) told.articles) in
-    let same = c.queues-queues.ensures ∙ ap (λ (x : EnforcedChart). x.queues) c.enforced.ensures in
+    let front = front_nodes s e.chart e.queues races closest in
+    let middle = races_nodes e.chart e.queues races closest (map (article_node s e.chart e.queues) told.articles) in
     let first = c.in_ok-put_front.ensures
-    ∙ ap (λ (x : Queues). base ++ lines_text (front_nodes s x races closest)) same in
+    ∙ ap (λ (x : EnforcedChart). base ++ lines_text (front_nodes s x.chart x.queues races closest)) c.enforced-enforced.ensures in
     record {
       articles = told.articles;
       many = told.many;

@@ -19,7 +19,7 @@ returns c =
     let p2 = c.put_titled_head.new.page.items in
     let p3 = c.put_body.new.page.items in
     let p4 = c.extend_from_slice-3.new.self.items in
-    let head = head_node (title_text source.scene.now.name (judged source).queues c.args.races c.args.closest) in
+    let head = head_node (title_text source.scene.now.name (judged source).chart (judged source).queues c.args.races c.args.closest) in
     let body = body_node r in
     let page = put_block p0 p1 p3 p4 (codes "html") (valued (codes "lang") (codes "en") ∷ []) head (body ∷ [])
     c.in_ok-extend_from_slice-2.ensures.items

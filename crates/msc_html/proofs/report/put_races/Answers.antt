@@ -1,5 +1,4 @@
 use Rattle.std.proofs.Common.{◌++◌, map, ap, ◌∙◌}
-use Rattle.msc_chart.specs.declared.queue.Queues.{Queues}
 use Rattle.msc_html.specs.Articles.{article_node}
 use Rattle.msc_html.specs.Front.{advice_nodes}
 use Rattle.msc_html.specs.Progress.{judged}
@@ -14,18 +13,17 @@ returns c =
     let source = c.args.source.now in
     let races = c.args.races in
     let closest = c.args.closest in
-    let queues = (judged source).queues in
+    let e = judged source in
     let told = c.in_ok-put_articles.ensures.1 in
     let base = c.args.page.now.items in
     let p = c.put_races_title.new.page.items in
     let q = c.put_articles.new.page.items in
     let r = c.put_more.new.page.items in
     let title = if_any races races_title in
-    let articles = map (article_node source.scene.now queues) told.articles in
-    let more = more_nodes queues closest in
-    let same = c.queues-queues.ensures ∙ ap (λ (x : EnforcedChart). x.queues) c.enforced.ensures in
+    let articles = map (article_node source.scene.now e.chart e.queues) told.articles in
+    let more = more_nodes e.chart e.queues closest in
     let third = c.in_ok-put_more.ensures
-    ∙ ap (λ (x : Queues). q ++ lines_text (more_nodes x closest)) same in
+    ∙ ap (λ (x : EnforcedChart). q ++ lines_text (more_nodes x.chart x.queues closest)) c.enforced.ensures in
     record {
       articles = told.articles;
       many = told.many;

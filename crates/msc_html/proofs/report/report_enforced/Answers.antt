@@ -37,8 +37,8 @@ returns c =
       tell = subst (λ (x : EnforcedChart). AreArticles draft x.chart x.queues closest told.many told.articles)
           judged told.are;
       text = told.text
-          ∙ ap (λ (x : EnforcedChart). report_text (report x.queues c.count_races-races.result
+          ∙ ap (λ (x : EnforcedChart). report_text (report x.chart x.queues c.count_races-races.result
           (length closest) told.scene told.articles (canonical draft) version)) judged
-          ∙ ap (λ (n : ℕ). report_text (report e.queues n (length closest) told.scene told.articles
+          ∙ ap (λ (n : ℕ). report_text (report e.chart e.queues n (length closest) told.scene told.articles
           (canonical draft) version)) c.count_races-races.ensures;
     }

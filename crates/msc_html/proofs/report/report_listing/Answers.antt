@@ -26,7 +26,7 @@ returns c =
       many = told.many;
       are = told.are;
       text = told.page_is
-          ∙ ap (λ (l : List ℕ). l ++ report_text (report s.judged.queues c.args.races c.in_ok-bars.closest scene told.articles c.deref.result.now c.args.version.now)) c.new-bytes.ensures.items
-          ∙ ap (λ (n : ℕ). report_text (report s.judged.queues c.args.races n scene told.articles c.deref.result.now c.args.version.now)) c.in_ok-bars.ensures.told
-          ∙ ap (λ (t : List ℕ). report_text (report s.judged.queues c.args.races (length (listed_of s)) scene told.articles t c.args.version.now)) text;
+          ∙ ap (λ (l : List ℕ). l ++ report_text (report s.judged.chart s.judged.queues c.args.races c.in_ok-bars.closest scene told.articles c.deref.result.now c.args.version.now)) c.new-bytes.ensures.items
+          ∙ ap (λ (n : ℕ). report_text (report s.judged.chart s.judged.queues c.args.races n scene told.articles c.deref.result.now c.args.version.now)) c.in_ok-bars.ensures.told
+          ∙ ap (λ (t : List ℕ). report_text (report s.judged.chart s.judged.queues c.args.races (length (listed_of s)) scene told.articles t c.args.version.now)) text;
     }

@@ -12,19 +12,17 @@ returns-then-not-is_output c = λ run marks.
 pub queue-requires-clause-message : goal.queue-requires-clause-message
 queue-requires-clause-message c =
     let o = rw c.chart-chart.ensures at (sym c.is_output.ensures ∙ c.if-not-is_output.false) in
-    rw c.wiring-wiring.ensures.chart (output_not_local _ _ o)
+    output_not_local _ _ o
 
 pub returns-then-queue-q : goal.returns-then-queue-q
 returns-then-queue-q c = λ run marks.
-    let wiring = c.wiring-wiring.ensures in
-    let at = rw (wiring.chart, wiring.queues) at c.queue.ensures in
+    let at = c.queue.ensures in
     waits_not_here (wiring_of c.args.ready.now) c.args.q _ run c.args.done.now marks c.args.x (λ same. c.if-queue-q.true (at ∙ same))
 
 pub returns : goal.returns
 returns c = λ run marks.
     let chart = wiring_of c.args.ready.now in
-    let wiring = c.wiring-wiring.ensures in
-    let at = rw (wiring.chart, wiring.queues) at c.queue.ensures in
+    let at = c.queue.ensures in
     let o = rw c.chart-chart.ensures at (sym c.is_output.ensures ∙ c.if-not-is_output.false) in
     let other = rw c.chart-chart.ensures at c.other_end.ensures.value in
     let within = c.facts.ensures.chart.matched.in_range c.args.x c.requires.known in

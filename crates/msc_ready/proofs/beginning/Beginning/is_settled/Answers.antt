@@ -1,7 +1,6 @@
-use Rattle.std.proofs.Common.{◌≡◌, ℕ, ◌<◌, List, length, get_or, refl, ap, sym, ◌∙◌, subst, arith}
+use Rattle.std.proofs.Common.{ℕ, refl, arith}
 use Rattle.std.proofs.lemmas.Bool.{not-true, not_from_false, false_from_ne_true}
 use Rattle.msc_chart.specs.Charts.{line}
-use Rattle.msc_chart.specs.Drawings.{Drawing}
 use Rattle.msc_ready.proofs.Shared.{clash}
 use Rattle.msc_ready.proofs.Begun.Fronts.{front_not_before, front_read, settled_by}
 use Rattle.msc_ready.proofs.beginning.Beginning.is_settled.Goals as goal
