@@ -2,10 +2,11 @@
 
 The commands are `msc read -`, `msc check --queues QUEUES --show SHOW -`, `msc follow`, `msc draw`
 and `msc ready`, each with `--queues QUEUES -`, `check` and `ready` with `--again`, `msc import` and
-`msc check --from`. QUEUES is an architecture, or what a command line says of queues.
+`msc check --from`, and `check` and `ready` with `--format full`. QUEUES is an architecture, or what
+a command line says of queues.
 """
 from harness import Answer, joined
-from models import rounds
+from models import full, rounds
 from models.chart import Chart
 from models.following import answer as follow_lines
 from models.links import Given, LinkFault
@@ -90,6 +91,12 @@ def again_answer(text, command, queues):
         return refusal(fault) if fault else lines_answer(*lines_of(told, queues))
 
     return on_chart(text, queues, answered)
+
+
+def full_answer(text, command, given, words=()):
+    """Of `msc check` or `msc ready` with `--format full`."""
+    asked = [command, *words, *given.words()[2:], given.queues, "-"]
+    return full.answer(text, full.options_of(asked)).answer()
 
 
 def import_answer(text, words, listed=False):

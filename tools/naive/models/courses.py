@@ -34,6 +34,8 @@ class Course:
     def __init__(self, diagram, given, options, most=ARROWS):
         self.diagram, self.given, self.options, self.most = diagram, given, options, most
         self.taken, self.asked, self.arrows = [], [], 0
+        # the arrows as they are met, each with what the chart calls its message
+        self.met = []
         # some parallel branches are drawn one below the other
         self.is_stacked = False
         self.segments, _ = self.through(diagram.items, ())
@@ -119,17 +121,20 @@ class Course:
         key = made_of_text(it.label.held, b"m").decode() + ", "
         key += "_".join(str(n) for n in (it.number, *rounds))
         sender, receiver = names.names[left].decode(), names.names[right].decode()
-        out = Event(f"out {key} to {receiver}", "out", it)
-        taken = Event(f"in {key} from {sender}", "in", it)
+        is_action = is_lost or left == right and self.options.own != "message"
+        self.met.append((it, "action" if is_action else key))
+        out = Event(f"out {key} to {receiver}", "out", it, rounds)
+        taken = Event(f"in {key} from {sender}", "in", it, rounds)
         if is_both:
             back, back_taken = f"out {key} to {sender}", f"in {key} from {receiver}"
-            return {left: [[out, Event(back_taken, "in", it)]],
-                    right: [[Event(back, "out", it), taken]]}
+            return {left: [[out, Event(back_taken, "in", it, rounds)]],
+                    right: [[Event(back, "out", it, rounds), taken]]}
         if is_lost:
-            return {left: [[Event(f"action 'lost {key} to {receiver}'", "out", it)]]}
+            lost = f"action 'lost {key} to {receiver}'"
+            return {left: [[Event(lost, "out", it, rounds)]]}
         if left == right:
             is_message = self.options.own == "message"
-            own = [[Event(f"action '{key}'", "action", it)]]
+            own = [[Event(f"action '{key}'", "action", it, rounds)]]
             return {left: [[out], [taken]] if is_message else own}
         return {left: [[out]], right: [[taken]]}
 

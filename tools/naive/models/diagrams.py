@@ -52,21 +52,24 @@ class Arrow(NamedTuple):
 
 class Event(NamedTuple):
     """One end of an arrow: what is printed of it, and which end it is: `out`, `in` or `action`. A
-    message that is lost goes out."""
+    message that is lost goes out. `rounds` are those of the loops around it."""
     text: str
     way: str
     arrow: Arrow
+    rounds: tuple = ()
 
 
 class Begin(NamedTuple):
     kind: str
     word: str
     at: int
+    label: bytes
 
 
 class Branch(NamedTuple):
     word: str
     at: int
+    label: bytes
 
 
 class End(NamedTuple):
@@ -125,8 +128,11 @@ class Names:
 
 
 class Block:
-    def __init__(self, kind, word, at):
-        self.kind, self.word, self.at, self.branches = kind, word, at, [[]]
+    """A block with the items of its branches, and the statements with which these begin."""
+
+    def __init__(self, begin):
+        self.kind, self.word, self.at = begin.kind, begin.word, begin.at
+        self.branches, self.begins = [[]], [begin]
 
     def counts(self):
         """It is not left out whole."""
@@ -139,7 +145,7 @@ class Diagram:
         """The diagram of these statements: its lines and its items, those being arrows and
         blocks; and with these comments, each a text and its place."""
         self.source, self.names, self.arrows = source, Names(), 0
-        top = Block("", "", 0)
+        top = Block(Begin("", "", 0, b""))
         inside = [top]
         for it in statements:
             if isinstance(it, Line):
@@ -149,13 +155,14 @@ class Diagram:
             elif isinstance(it, Begin):
                 if len(inside) > DEPTH:
                     raise Refused(6, f"more than {DEPTH} blocks inside each other", it.at)
-                block = Block(it.kind, it.word, it.at)
+                block = Block(it)
                 inside[-1].branches[-1].append(block)
                 inside.append(block)
             elif isinstance(it, Branch):
                 if inside[-1].kind != BRANCHES[it.word]:
                     raise outside(it.word, it.at, inside)
                 inside[-1].branches.append([])
+                inside[-1].begins.append(it)
             else:
                 if len(inside) == 1:
                     raise outside("end", it.at, inside)

@@ -5,11 +5,12 @@
                                  [--self action|message] [--cross lost|arrives] [--par drawn]
                                  [--fence N] < TEXT
 
-prints what `msc import` prints: the chart of one scenario, with the queues that the diagram names,
-or on standard error the line of the first fault. With --list the events stand in place of the
-chart, with the places of their arrows in FILE; with --into the charts of all scenarios are written;
-with --shown the bytes of the text that are shown to people stand there; with --places the place and
-the notes follow a fault.
+prints what `msc import` prints: the chart of one scenario, with the queues that the diagram names
+(and its marks as comments, which the program does not write yet), or on standard error the line of
+the first fault. With --list the events
+stand in place of the chart, with the places of their arrows in FILE; with --into the charts of all
+scenarios are written; with --shown the bytes of the text that are shown to people stand there; with
+--places the place and the notes follow a fault.
 
 The text is cut into statements (mermaid_lines.py, mermaid_words.py), those are put into blocks
 (diagrams.py), and a scenario goes through these with its choices (courses.py); markdown.py finds
@@ -21,6 +22,7 @@ import sys
 
 from harness import Answer, parser, put
 from models.courses import SCENARIOS, count_of, course_of, scenarios
+from models.diagram_marks import with_marks
 from models.diagrams import Arrow, Diagram, made
 from models.hints import kind_hints
 from models.markdown import blocks_of, is_sequence, stray_fault
@@ -166,8 +168,9 @@ def all_scenarios(diagram, name, options):
     os.makedirs(options.into, exist_ok=True)
     for i, course in enumerate(every, 1):
         own = name if len(every) == 1 else f"{name}_{i}"
-        with open(os.path.join(options.into, own + ".msc"), "w") as out:
-            out.write(course.text(own, imported(diagram)))
+        path = os.path.join(options.into, own + ".msc")
+        with open(path, "w", errors="surrogateescape") as out:
+            out.write(with_marks(course).text(own, imported(diagram)))
         chosen = " choose " + ",".join(map(str, course.taken)) if course.taken else ""
         yield f"{own}.msc{chosen}\n"
 
@@ -182,6 +185,11 @@ def only_scenario(diagram, options):
         raise Refused(12, f"{count} scenarios, say --choose", None, [Note(hint)])
 
 
+def choices_of(held):
+    """The choices of a scenario; the main ones follow them."""
+    return [] if held in (None, "main") else [int(n) for n in held.split(",")]
+
+
 def answer(source, options):
     """What is printed."""
     diagram = one_text(source, options).diagram(options)
@@ -190,13 +198,13 @@ def answer(source, options):
         return "".join(all_scenarios(diagram, name, options)).encode()
     if options.choose is None:
         only_scenario(diagram, options)
-    numbers = [] if options.choose in (None, "main") else options.choose.split(",")
-    course = course_of(diagram, [int(n) for n in numbers], options)
+    course = course_of(diagram, choices_of(options.choose), options)
     if options.shown:
         return b"".join(course.shown())
     if options.list:
         return course.list(name, options.list).encode()
-    return course.text(name, imported(diagram)).encode()
+    text = with_marks(course).text(name, imported(diagram))
+    return text.encode("utf-8", "surrogateescape")
 
 
 def rounds_of(held):

@@ -96,9 +96,9 @@ class Statement:
             return self.name(at, len(self.held))
         if word in BLOCKS:
             kind = "par" if word == b"par_over" else word.decode()
-            return Begin(kind, word.decode(), self.start)
+            return Begin(kind, word.decode(), self.start, self.span(at, len(self.held)).held)
         if word in BRANCH_WORDS:
-            return Branch(word.decode(), self.start)
+            return Branch(word.decode(), self.start, self.span(at, len(self.held)).held)
         if word == b"end":
             if self.held[at:]:
                 raise self.no_statement("hint end stands alone")

@@ -5,23 +5,27 @@
                                    [--quiet] [--words] [--short] [--places] [--from mermaid|any]
                                    [--name NAME] [--rounds R,R..] [--limit N]
                                    [--self action|message] [--cross lost|arrives] [--par drawn]
-                                   [--fence N] FILE
+                                   [--fence N] [--accept] [--choose C] [--color always|never] FILE
 
-prints what `msc check --from` prints: the scenarios, and their races, each by its two arrows once;
-or on standard error the line of the first fault, and with `--format lines` on standard output too.
-The scenarios are those of courses.py, their races and what is told of them those of chart.py and
-races.py. It shares nothing with the crates. The exit status is 0, 1 if a race is listed, or 2 if a
-diagram is refused.
+prints what `msc check --from` prints, and what it is to print with --accept, --choose, --color and
+the format `full`, which the program does not have yet: the scenarios, and their races, each by its
+two arrows once; or on standard error the line of the first fault, and with `--format lines` on
+standard output too. With `--format full` all is told on standard output, as full_diagrams.py has
+it. The scenarios are those of courses.py, their races and what is told of them those of chart.py
+and races.py, and marks those of diagram_marks.py. It shares nothing with the crates. The exit
+status is 0, 1 if a race or a stale mark is listed, or 2 if a diagram is refused.
 """
 import pathlib
 import sys
 
 from harness import Answer, put
 from models.chart import Chart
-from models.courses import scenarios
+from models.courses import course_of, scenarios
+from models.diagram_marks import accepting, faults_of, marks_of
 from models.diagrams import made
+from models.full_diagrams import FullOutput
 from models.links import add_queues, given_of
-from models.mermaid import fault_bytes, texts_of, words_on_diagrams
+from models.mermaid import choices_of, fault_bytes, texts_of, words_on_diagrams
 from models.own import of_diagram
 from models.races import KINDS, closest_of, editor_lines, kind, race_words, shown_run, why
 from models.shown import run_lines
@@ -32,19 +36,25 @@ ALL = 2 ** 32 - 1
 
 
 class Scenario:
-    """A scenario as a chart under an architecture, with its races and the places of its events."""
+    """A scenario as a chart under an architecture, with its races, the places of its events, and
+    the marks that accept races."""
 
-    def __init__(self, course, queues, file):
-        self.choices, self.events = course.taken, list(course.events())
-        self.is_stacked = course.is_stacked
+    def __init__(self, course, queues, file, marks=()):
+        self.course, self.events, self.marks = course, list(course.events()), marks
+        self.choices, self.is_stacked = course.taken, course.is_stacked
         self.drawn = Chart(course.text("t"), queues)
         self.races = self.drawn.races()
         places = [event.arrow.place for _, event in self.events]
         self.places = [f"{file}:{place.line}:{place.column}" for place in places]
 
+    def accepting(self, race):
+        """The marks that accept a race."""
+        return accepting(self.marks, *(self.events[e][1].arrow for e in race))
+
     def left(self, allow, closest):
         """The races that count, or the closest of them."""
-        left = [race for race in self.races if kind(self.drawn, *race) not in allow]
+        named = [race for race in self.races if kind(self.drawn, *race) not in allow]
+        left = [race for race in named if not self.accepting(race)]
         return closest_of(self.drawn, left) if closest else left
 
     def ends(self, race):
@@ -55,21 +65,54 @@ class Scenario:
 
 
 class Verdict:
-    """The races of all scenarios of a diagram, by their places."""
+    """The races of all scenarios of a diagram, or of the one that is chosen, by their places."""
 
     def __init__(self, diagram, options):
-        file = diagram.source.file
-        courses = list(scenarios(diagram, options))
+        self.diagram, self.options, file = diagram, options, diagram.source.file
+        courses = list(scenarios(diagram, options)) if options.choose is None else [
+            course_of(diagram, choices_of(options.choose), options)]
         self.queues = of_diagram(diagram, given_of(options))
+        # the marks of the text that are told of if they accept no race
+        self.marks = marks_of(diagram) if options.accept else []
+        for fault in faults_of(diagram) if options.accept else []:
+            raise fault
         self.names = [name.decode() for name in diagram.names.names]
-        self.every = [Scenario(course, self.queues, file) for course in courses]
+        own = [mark for mark in self.marks if mark.is_for(self.queues.usual)]
+        self.every = [Scenario(course, self.queues, file, own) for course in courses]
         self.allow, self.is_closest = options.allow, options.closest
         self.places = {it.ends(race) for it in self.every for race in it.races}
         self.listed = self.first_races(options.closest)
+        self.stale = [mark for mark in self.marks if self.is_stale(mark)]
+
+    def is_stale(self, mark):
+        """No arrow stands below the mark, or it accepts no race of any kind; one of an arrow that
+        the chosen scenario does not meet may accept others."""
+        if not mark.arrow:
+            return True
+        if not mark.is_for(self.queues.usual):
+            return False
+        if self.options.choose is not None:
+            met = [arrow.number for arrow, _ in self.every[0].course.met]
+            if mark.arrow.number not in met:
+                return False
+        return not any(mark in it.accepting(race) for it in self.every for race in it.races)
 
     def counting(self, closest):
         """The places of races that count, or of the closest ones."""
         return {it.ends(race) for it in self.every for race in it.left(self.allow, closest)}
+
+    def allowed(self):
+        """The places of which all races are of kinds that are left out."""
+        return self.places - {it.ends(race) for it in self.every for race in it.races
+                              if kind(it.drawn, *race) not in self.allow}
+
+    def accepted(self):
+        """The places that neither count nor are allowed."""
+        return self.places - self.counting(False) - self.allowed()
+
+    def free(self):
+        """How many scenarios have no race that counts."""
+        return sum(not it.left(self.allow, False) for it in self.every)
 
     def first_races(self, closest):
         """For each place the first race there that counts, or that is a closest one, with the
@@ -84,11 +127,13 @@ class Verdict:
 
     def numbers(self):
         """The lines that sum up the races, if the options ask for them."""
-        if not (self.allow or self.is_closest):
+        if not (self.allow or self.is_closest or self.options.accept):
             return [] if self.places else [self.passed()]
         lines = [f"races {len(self.places)}"] if self.places else [self.passed()]
         if self.allow:
-            lines.append(f"allowed {len(self.places - self.counting(False))}")
+            lines.append(f"allowed {len(self.allowed())}")
+        if self.options.accept:
+            lines.append(f"accepted {len(self.accepted())}")
         if self.is_closest:
             lines.append(f"closest {len(self.counting(True))}")
         return lines
@@ -103,7 +148,7 @@ class Verdict:
 
 
 class Output:
-    """What is printed of the diagrams of a file."""
+    """What is printed of the diagrams of a file, in other forms than `full`."""
 
     def __init__(self, options):
         self.options, self.lines, self.error, self.status = options, [], b"", 0
@@ -111,9 +156,9 @@ class Output:
         if self.show is None:
             self.show = ALL if options.words or options.short else 0
 
-    def refused(self, source, fault, name, file):
+    def refused(self, source, fault, name=None, text=None):
         """Tells of a diagram that is refused; it has a name if others may follow."""
-        form = self.options.format
+        form, file = self.options.format, source.file + number_of(text, name is not None)
         if form == "lines":
             self.lines += source.editor_lines(fault, self.options.notes)
         elif name is not None:
@@ -122,15 +167,20 @@ class Output:
         self.error += fault_bytes(source, fault, self.options.places)
         self.status = 2
 
-    def judged(self, verdict, name, file):
-        """Tells of a diagram that is checked."""
+    def judged(self, verdict, name, text, is_all):
+        """Tells of a diagram that is checked, one of several if all of a text are."""
+        number = number_of(text, is_all)
+        name, file = name + number, text.source.file + number
         if self.options.format == "lines":
             self.lines += self.findings(verdict)
         elif self.options.format == "count":
             self.lines.append(f"{verdict.count()} {file}")
         else:
             self.lines += self.whole(verdict, name)
-        self.status = max(self.status, int(bool(verdict.listed)))
+        self.status = max(self.status, int(bool(verdict.listed or verdict.stale)))
+
+    def end(self):
+        """Nothing follows the last diagram."""
 
     def taken(self):
         """Whether one more race is told, and whether with a run."""
@@ -143,6 +193,8 @@ class Output:
             if self.taken()[0]:
                 scenario = verdict.every[i]
                 yield from editor_lines(scenario.drawn, scenario.places, *race)
+        for mark in verdict.stale:
+            yield f"{verdict.diagram.source.where(mark.at)}: warning: stale [stale]"
 
     def whole(self, verdict, name):
         """The lines of text of a diagram."""
@@ -151,6 +203,7 @@ class Output:
         yield f"scenarios {len(verdict.every)}"
         yield from verdict.numbers()
         if not verdict.places:
+            yield from self.stale_lines(verdict)
             return
         for i, scenario in enumerate(verdict.every):
             own = [race for at, race in verdict.listed if at == i]
@@ -162,8 +215,15 @@ class Output:
                 is_told, has_run = self.taken()
                 if is_told:
                     yield from self.race_lines(scenario, race, has_run)
+        yield from self.stale_lines(verdict)
         yield f"listed {len(verdict.listed)}"
-        yield f"passed {sum(not it.left(self.options.allow, False) for it in verdict.every)}"
+        yield f"passed {verdict.free()}"
+
+    def stale_lines(self, verdict):
+        """What is told of marks that accept no race."""
+        for mark in verdict.stale:
+            yield "stale"
+            yield f"at {verdict.diagram.source.where(mark.at)}"
 
     def race_lines(self, scenario, race, has_run):
         """What is told of a race."""
@@ -192,24 +252,31 @@ def judge(source, options, output):
     """Checks the diagrams of a file."""
     texts, is_all = texts_of(source, options)
     for text in texts:
-        number = f"#{text.number}" if is_all else ""
-        name, file = name_of(options) + number, source.file + number
         try:
-            output.judged(Verdict(text.diagram(options), options), name, file)
+            output.judged(Verdict(text.diagram(options), options), name_of(options), text, is_all)
         except Refused as fault:
-            output.refused(source, fault, name if is_all else None, file)
+            name = name_of(options) + number_of(text, True) if is_all else None
+            output.refused(source, fault, name, text)
+
+
+def number_of(text, is_all):
+    """The number of a diagram, if all of a text of Markdown are checked."""
+    return f"#{text.number}" if is_all else ""
 
 
 def answer(text, options):
     """What goes to both streams, and the exit status."""
-    output, source = Output(options), Source(b"", options.file)
+    output = FullOutput(options) if options.format == "full" else Output(options)
+    source = Source(b"", options.file)
     try:
         source = source_of(text, options.file)
         judge(source, options, output)
     except Refused as fault:
-        output.refused(source, fault, None, source.file)
+        output.refused(source, fault)
+    output.end()
     lines = [] if options.quiet else output.lines
-    return "".join(line + "\n" for line in lines).encode(), output.error, output.status
+    told = "".join(line + "\n" for line in lines)
+    return told.encode("utf-8", "surrogateescape"), output.error, output.status
 
 
 def options_of(given):
@@ -221,7 +288,10 @@ def options_of(given):
     words.add_argument("--most", type=int, default=ALL)
     words.add_argument("--show", type=int)
     words.add_argument("--allow", choices=KINDS, action="append", default=[])
-    words.add_argument("--format", choices=("text", "count", "lines"), default="text")
+    words.add_argument("--format", choices=("text", "count", "lines", "full"), default="text")
+    words.add_argument("--accept", action="store_true")
+    words.add_argument("--choose")
+    words.add_argument("--color", choices=("always", "never", "auto"), default="never")
     words.set_defaults(notes=True)
     words.add_argument("file")
     return words.parse_args(given)
