@@ -5,14 +5,14 @@ do so.
     memory.py [--most N] [--every K] [--commands C,..] [--limit] PROGRAM [CHART ..]
 
 Every chart of charts/ and of charts/refused/ is read, and checked, followed, run, drawn, reported
-and asked for sticks with each kind of queues, checked and run with rules for links, and asked of
-two rounds under `mailbox`, and every diagram of charts/import/ is imported and checked, where these
-are not given; so are, always, a chart and a diagram that name their queues. Of the runs with more
-than N allocations (400 where it is not said) each K-th allocation alone is refused. What a refused
-run has to answer says tools/refuse/refuse.py. With --limit no call is refused, but each command has
-less and less address space for a chart at the limits, down to too little for the program to begin.
-Prints for each run how many allocations it makes or how many limits there are, what does not end
-well, and last `N passed, M failed`.
+and asked for sticks with each kind of queues, checked and run with rules for links, asked of two
+rounds under `mailbox`, and for its sticks in the formats `lines` and `count`, and every diagram of
+charts/import/ is imported and checked, where these are not given; so are, always, a chart and a
+diagram that name their queues. Of the runs with more than N allocations (400 where it is not said)
+each K-th allocation alone is refused. What a refused run has to answer says tools/refuse/refuse.py.
+With --limit no call is refused, but each command has less and less address space for a chart at the
+limits, down to too little for the program to begin. Prints for each run how many allocations it
+makes or how many limits there are, what does not end well, and last `N passed, M failed`.
 """
 import pathlib
 import random
@@ -50,6 +50,9 @@ def commands(wanted, names=()):
             yield from (([command, "--queues", queues, "-"], command == "run") for queues in QUEUES)
         if command in ("check", "ready"):
             yield [command, "--queues", "mailbox", "--again", "-"], False
+        if command == "ready":
+            for more in (["lines"], ["count"], ["lines", "--again"]):
+                yield ["ready", "--queues", "mailbox", "--format", *more, "-"], False
         if command in ("check", "run") and names:
             yield [command, *ruled(names).words(), "-"], command == "run"
 

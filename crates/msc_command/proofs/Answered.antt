@@ -41,15 +41,14 @@ use Rattle.msc_command.specs.declared.tasks.Task.{Task}
 use Rattle.msc_command.specs.declared.tasks.Task.TheVariants as tasks
 use Rattle.msc_command.specs.Answering.{Answers, AnswersOf, AnswersWith, Delivers, Does, EndsAs, IsPut, Performs, Prints, PrintsLinked, PrintsOf, Refuses, RefusesLinked, RefusesOf, TellsQuietly}
 use Rattle.msc_command.specs.Ending.{ended_by, of_marks, of_rounds}
-use Rattle.msc_command.specs.Formats.{IsFormat}
+use Rattle.msc_command.specs.Formats.{IsFormat, IsReadyFormat}
 use Rattle.msc_command.specs.Linked.{under, usual_in, AreLinked, IsLinked}
 use Rattle.msc_command.specs.Marked.{AreMarked, ReadsMarks}
 use Rattle.msc_command.specs.Readied.{names_of, AreReady}
 use Rattle.msc_command.specs.Rounds.{AreRounds, GivesRounds, HasRoom}
 use Rattle.msc_command.specs.declared.tasks.QuietArgs.{QuietArgs}
-use Rattle.msc_command.specs.Sited.{IsStyle}
 use Rattle.msc_command.specs.declared.tasks.ReadyArgs.{ReadyArgs}
-use Rattle.msc_report.specs.declared.style.Style.{Style}
+use Rattle.msc_report.specs.declared.ready_format.ReadyFormat.{ReadyFormat}
 use Rattle.msc_text.specs.Readying.{PrintsReady}
 use Rattle.msc_command.specs.Refused.{format_of, is_spent, TellsIn, TellsThat, TellsUnread}
 use Rattle.msc_print.proofs.PrintLemmas.{Appends-none as nothing_more}
@@ -87,6 +86,11 @@ rounds_are again d (Some t) (same, is, short) = is
 pub has_room : (again : Bool) (d : Drawing) (rounds : Option (Bor Drawing)) → AreRounds again d (option_map (λ u. u.now) rounds) → HasRoom again d
 has_room again d None same = λ asked. absurd (false≢true (sym same ∙ asked))
 has_room again d (Some t) (same, is, short) = λ asked. short
+
+-- a list of which instances are ready is as long as that of the instances
+pub lines_fit : (d : Drawing) (names : List (List ℕ)) (only : Option (List Bool)) → AreReady d names only
+    → (lines : List Bool) → only ≡ Some lines → length lines ≡ length d.instances
+lines_fit d names only are lines same = (subst (AreReady d names) same are).2.each
 
 -- what is printed of one input is printed of another with the same parts
 pub judged_alike : {W : Type 0} (contents : W → Option (List ℕ)) (q : CheckOptions) (f : ChartFormat) (r : Result Bool WriteFault) (old new : W)
@@ -173,22 +177,22 @@ module _ {W : Type 0} (contents : W → Option (List ℕ)) where
     not_judged again asked writing.Device old new said = tt
 
   module _ (x : ReadyArgs) (file : List ℕ) (s : SourceText) (only : Option (List Bool)) (are : AreReady s.chart (names_of x) only)
-      (style : Style) (its : IsStyle x.event_style file s.text style) (room : HasRoom x.again s.chart) where
+      (format : ReadyFormat) (its : IsReadyFormat x file s.text format) (room : HasRoom x.again s.chart) where
     -- what is told of ready instances, with rounds of the chart where they are asked for
-    readies : (again : Bool) → again ≡ x.again → (passed : Bool) (printed : List ℕ) → PrintsReady s.chart x.queues only again x.show style passed printed
+    readies : (again : Bool) → again ≡ x.again → (passed : Bool) (printed : List ℕ) → PrintsReady s.chart x.queues only again x.show format passed printed
         → PrintsOf (chart_commands.Ready x) file s (ended_by passed) printed
     readies again asked passed printed says =
-        (only, are, style, its, room, passed, refl, subst (λ (a : Bool). PrintsReady s.chart x.queues only a x.show style passed printed) asked says)
+        (only, are, format, its, room, passed, refl, subst (λ (a : Bool). PrintsReady s.chart x.queues only a x.show format passed printed) asked says)
 
     -- where it was told it was answered
     pub readied : (again : Bool) → again ≡ x.again → (passed : Bool) (old new : W)
-        → pages.Tells contents (PrintsReady s.chart x.queues only again x.show style) (Ok passed) old new
+        → pages.Tells contents (PrintsReady s.chart x.queues only again x.show format) (Ok passed) old new
         → AnswersOf contents (chart_commands.Ready x) file s (Ok (ended_by passed)) old new
     readied again asked passed old new (printed, says, wrote) = (printed, readies again asked passed printed says, wrote)
 
     -- and so it was where it was not written to its end
     pub not_readied : (again : Bool) → again ≡ x.again → (f : WriteFault) (old new : W)
-        → pages.Tells contents (PrintsReady s.chart x.queues only again x.show style) (Err f) old new
+        → pages.Tells contents (PrintsReady s.chart x.queues only again x.show format) (Err f) old new
         → AnswersOf contents (chart_commands.Ready x) file s (Err (refusals.Fault (of_writing f))) old new
     not_readied again asked writing.Memory old new (inl same) = inl same
     not_readied again asked writing.Memory old new (inr (passed, printed, says, begun)) =

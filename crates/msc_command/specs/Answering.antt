@@ -17,6 +17,7 @@ use Rattle.msc_report.specs.declared.fault.Fault.TheVariants as faults
 use Rattle.msc_place.specs.EventPositions.{EventPositionsIn}
 use Rattle.msc_report.specs.Lists.{listed_text}
 use Rattle.msc_report.specs.declared.pair.NamedFault.{NamedFault}
+use Rattle.msc_report.specs.declared.ready_format.ReadyFormat.{ReadyFormat}
 use Rattle.msc_report.specs.declared.style.Style.{Style}
 use Rattle.msc_source.specs.Texts.{IsChartOf, source_text, SourceText}
 use Rattle.msc_source.specs.declared.language.Language.TheVariants.{MscPr}
@@ -28,7 +29,7 @@ use Rattle.msc_text.specs.declared.judging.ChartFormat.{ChartFormat}
 use Rattle.msc_tool.specs.Running.{PrintsExecution}
 use Rattle.msc_command.specs.Drawing.{PrintsLinkedPage, RefusesLinkedPage}
 use Rattle.msc_command.specs.Ending.{ended_by, ends_as, finished_by}
-use Rattle.msc_command.specs.Formats.{IsFormat}
+use Rattle.msc_command.specs.Formats.{IsFormat, IsReadyFormat}
 use Rattle.msc_command.specs.Importing.{PrintsImportPage, RefusesImport}
 use Rattle.msc_command.specs.Marked.{AreMarked, HasFaultyMark}
 use Rattle.msc_command.specs.Linked.{under, usual_in, AreLinked, HasLinkFault}
@@ -72,8 +73,8 @@ PrintsOf (Run queues patience) file s status printed =
 PrintsOf (Listing placed) file s status printed =
     (event_positions : Option EventPositionsIn) × AreSited placed file s.text event_positions × (status ≡ Done) × (printed ≡ listed_text s.chart event_positions)
 PrintsOf (Ready x) file s status printed =
-    (only : Option (List Bool)) × AreReady s.chart (names_of x) only × (style : Style) × IsStyle x.event_style file s.text style
-    × HasRoom x.again s.chart × (passed : Bool) × (status ≡ ended_by passed) × PrintsReady s.chart x.queues only x.again x.show style passed printed
+    (only : Option (List Bool)) × AreReady s.chart (names_of x) only × (ready_format : ReadyFormat) × IsReadyFormat x file s.text ready_format
+    × HasRoom x.again s.chart × (passed : Bool) × (status ≡ ended_by passed) × PrintsReady s.chart x.queues only x.again x.show ready_format passed printed
 
 -- the names of a pair that is asked for are those of no two events of the chart
 abbrev pub RefusesPair : ChartCommand → SourceText → NamedFault → Type 0

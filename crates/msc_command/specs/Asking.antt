@@ -160,6 +160,10 @@ format_named (Some word) = unwrap_or (format_of_word word) formats.Text
 abbrev pub format : Found → Format
 format found = format_named (first_value found (arg_word words.ChartFormat))
 
+-- the same of the words of `ready`
+abbrev pub format_of_sticks : Found → Format
+format_of_sticks found = format_named (first_value found (arg_word words.FormatSticks))
+
 -- how the words want an answer to speak
 pub record IsEventStyle (found : Found) (event_style : EventStyle) : Type 0 where
   pub places : IsFlag found (arg_word words.Places) event_style.places
@@ -248,6 +252,7 @@ pub record AreReadyArgs (found : Found) (x : ReadyArgs) : Type 0 where
   pub only : map (λ word. word.now) x.only.now ≡ args_of found (arg_word words.Only)
   pub show : IsOptionNumber found (arg_word words.ShowSticks) unlimited x.show
   pub again : IsFlag found (arg_word words.Again) x.again
+  pub format_is : x.format ≡ format_of_sticks found
   pub event_style : IsEventStyle found x.event_style
 
 -- the file that a word names: the input, where none does

@@ -16,7 +16,7 @@ use Rattle.msc_command.specs.declared.own.LinkRefusal.{LinkRefusal}
 use Rattle.msc_command.specs.declared.own.LinkRefusal.TheVariants.{Given, Text, Unclear}
 use Rattle.msc_command.specs.declared.ending.Refusal.{Refusal}
 use Rattle.msc_command.specs.declared.ending.Refusal.TheVariants as refusals
-use Rattle.msc_command.specs.declared.tasks.ChartCommand.TheVariants.{Check}
+use Rattle.msc_command.specs.declared.tasks.ChartCommand.TheVariants.{Check, Ready}
 use Rattle.msc_command.specs.declared.tasks.Format.{Format}
 use Rattle.msc_command.specs.declared.tasks.Format.TheVariants as formats
 use Rattle.msc_command.specs.declared.tasks.Task.{Task}
@@ -66,6 +66,7 @@ TellsIn contents format file text refusal old new = new ≡ old
 -- the format of a task's answer
 abbrev pub format_of : Task → Format
 format_of (tasks.Chart (Check c) links) = c.format
+format_of (tasks.Chart (Ready x) links) = x.format
 format_of (tasks.Scenarios x) = cond x.quiet formats.Text x.check_args.format
 format_of task = formats.Text
 

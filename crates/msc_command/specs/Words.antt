@@ -8,7 +8,7 @@ use Rattle.msc_command.specs.declared.words.ValueKind.TheVariants as value_kind
 use Rattle.msc_command.specs.declared.words.CommandName.{CommandName}
 use Rattle.msc_command.specs.declared.words.CommandName.TheVariants.{Read, Check, Explain, Follow, Run, List as Listing, Draw, Reverse, Report, Ready, Import}
 use Rattle.msc_command.specs.declared.words.ArgName.{ArgName}
-use Rattle.msc_command.specs.declared.words.ArgName.TheVariants.{File, Queues, QueuesIfAny, Pair, Mailbox, Single, Closest, Why, Most, Show, ShowSticks, Only, Allow, ChartFormat, Quiet, Words, Short, Accept, Again, Patience, Places, Plain, Svg, FirstEvent, SecondEvent, From, Choose, Listed, Name, Own, Cross, Par, ScenariosFrom, Rounds, Limit, Fence}
+use Rattle.msc_command.specs.declared.words.ArgName.TheVariants.{File, Queues, QueuesIfAny, Pair, Mailbox, Single, Closest, Why, Most, Show, ShowSticks, Only, Allow, ChartFormat, FormatSticks, Quiet, Words, Short, Accept, Again, Patience, Places, Plain, Svg, FirstEvent, SecondEvent, From, Choose, Listed, Name, Own, Cross, Par, ScenariosFrom, Rounds, Limit, Fence}
 
 -- the name of a word behind a command
 abbrev pub arg_word : ArgName → List ℕ
@@ -26,6 +26,7 @@ arg_word ShowSticks = codes "show"
 arg_word Only = codes "only"
 arg_word Allow = codes "allow"
 arg_word ChartFormat = codes "format"
+arg_word FormatSticks = codes "format"
 arg_word Quiet = codes "quiet"
 arg_word Words = codes "words"
 arg_word Short = codes "short"
@@ -65,6 +66,7 @@ value_kind_of ShowSticks = value_kind.Number
 value_kind_of Only = value_kind.Names
 value_kind_of Allow = value_kind.Kinds
 value_kind_of ChartFormat = value_kind.Format
+value_kind_of FormatSticks = value_kind.Format
 value_kind_of Quiet = value_kind.NothingOrQ
 value_kind_of Words = value_kind.Nothing
 value_kind_of Short = value_kind.Nothing
@@ -123,7 +125,8 @@ args_of Listing = Places ∷ Plain ∷ File ∷ []
 args_of Draw = QueuesIfAny ∷ Pair ∷ Mailbox ∷ Single ∷ Svg ∷ Places ∷ Plain ∷ File ∷ []
 args_of Reverse = Queues ∷ Pair ∷ Mailbox ∷ Single ∷ Svg ∷ Places ∷ Plain ∷ File ∷ FirstEvent ∷ SecondEvent ∷ []
 args_of Report = Queues ∷ Pair ∷ Mailbox ∷ Single ∷ Places ∷ Plain ∷ File ∷ []
-args_of Ready = Queues ∷ Pair ∷ Mailbox ∷ Single ∷ Only ∷ ShowSticks ∷ Again ∷ Words ∷ Places ∷ Plain ∷ File ∷ []
+args_of Ready =
+    Queues ∷ Pair ∷ Mailbox ∷ Single ∷ Only ∷ ShowSticks ∷ Again ∷ FormatSticks ∷ Words ∷ Places ∷ Plain ∷ File ∷ []
 args_of Import =
     From ∷ Fence ∷ Choose ∷ Listed ∷ Name ∷ Own ∷ Cross ∷ Par ∷ Places ∷ Plain ∷ File ∷ []
 

@@ -2,6 +2,7 @@
 
 ghost use Rattle.std.specs.Prelude.{◌≡◌, ℕ, List, option_map, IfErr, Ok, OnOk};
 ghost use Rattle.std.specs.Io.KnownBytes.{Keeps};
+ghost use Rattle.std.specs.Option.{option_copied};
 ghost use Rattle.msc_chart.specs.Drawings.{chart_of};
 ghost use Rattle.msc_command.specs.Answering.{Answers, AnswersOf, AnswersWith, Delivers, Does};
 ghost use Rattle.msc_command.specs.Answering.{EndsAs, IsPut, PrintsLinked, RefusesLinked};
@@ -9,9 +10,10 @@ ghost use Rattle.msc_command.specs.Answering.{TellsBlock, TellsQuietly};
 ghost use Rattle.msc_command.specs.Drawing.{PrintsLinkedPage, PrintsPage, RefusesDrawn};
 ghost use Rattle.msc_command.specs.Drawing.{RefusesLinkedPage};
 ghost use Rattle.msc_command.specs.Ending.{ends_as};
-ghost use Rattle.msc_command.specs.Formats.{IsFormat};
+ghost use Rattle.msc_command.specs.Formats.{IsFormat, IsReadyFormat};
 ghost use Rattle.msc_command.specs.Importing.{PrintsImportPage, RefusesImport};
 ghost use Rattle.msc_command.specs.Marked.{AreMarked};
+ghost use Rattle.msc_command.specs.Readied.{names_of, AreReady};
 ghost use Rattle.msc_command.specs.Rounds.{AreRounds};
 ghost use Rattle.msc_command.specs.Refused.{format_of, IsToldIn, TellsThat, TellsUnread};
 ghost use Rattle.msc_command.specs.Refused.{TellsUnreadIn};
@@ -46,7 +48,7 @@ use msc_parser::Draft;
 use msc_place::EventPositions;
 use msc_place::writing::write_file;
 use msc_print::Page;
-use msc_report::Fault;
+use msc_report::{Fault, ReadyFormat};
 use msc_source::{Language, ReadFault, Reading, Source, read_all};
 use msc_text::{
     ChartFormat, CheckInput, ReadyQuery, explain_pair, follow_drawing, judge_chart, list_chart,
@@ -244,6 +246,69 @@ fn list<O: Write>(
     put(output, &page, Status::Done)
 }
 
+/// Prints whether a system of these ready instances can stick, for a text's chart with these
+/// rounds, in a format.
+fn ready_in<'w, O: Write>(
+    alloc: Global,
+    readying: ReadyArgs<'w>,
+    only: Option<&[bool]>,
+    rounds: Option<&Unrolled<'_>>,
+    ready_format: ReadyFormat<'_>,
+    source: &Source,
+    output: &mut O,
+) -> Result<Status, Refusal<'w>>
+    requires only { AreReady source.now.chart (names_of readying) (option_copied only) }
+    requires rounds { AreRounds readying.again source.now.chart (option_map (λ u. u.now) rounds) }
+    ensures { (file : List ℕ) → IsReadyFormat readying.entry file source.now.text ready_format.entry
+        → AnswersOf O.contents (ChartCommand.Ready readying.entry) file source.now result
+        output.old output.new }
+{
+    let query = ReadyQuery::of(readying.queues, only, readying.show, ready_format);
+    let finishes = write_ready(alloc, source.chart(), rounds, query, output)?;
+    Ok(ended_by(finishes))
+}
+
+/// Prints whether a system of these ready instances can stick, for the chart of a text in the file
+/// of this name, with these rounds.
+fn print_ready<'w, O: Write>(
+    alloc: Global,
+    readying: ReadyArgs<'w>,
+    only: Option<&[bool]>,
+    rounds: Option<&Unrolled<'_>>,
+    file: &str,
+    source: &Source,
+    output: &mut O,
+) -> Result<Status, Refusal<'w>>
+    requires only { AreReady source.now.chart (names_of readying) (option_copied only) }
+    requires rounds { AreRounds readying.again source.now.chart (option_map (λ u. u.now) rounds) }
+    ensures { AnswersOf O.contents (ChartCommand.Ready readying.entry) file.now source.now result
+        output.old output.new }
+{
+    match readying.format {
+        Format::Text => {
+            let event_style = readying.event_style;
+            let event_positions = event_positions_of(
+                alloc,
+                event_style.places,
+                file,
+                source.text(),
+            )?;
+            let style = style_of(event_style, event_positions.as_ref());
+            let ready_format = ReadyFormat::Lines(style);
+            ready_in(alloc, readying, only, rounds, ready_format, source, output)
+        }
+        Format::Count => {
+            let ready_format = ReadyFormat::Count(file.as_bytes());
+            ready_in(alloc, readying, only, rounds, ready_format, source, output)
+        }
+        Format::Lines => {
+            let event_positions = EventPositions::of(alloc, file.as_bytes(), source.text())?;
+            let ready_format = ReadyFormat::Editor(&event_positions);
+            ready_in(alloc, readying, only, rounds, ready_format, source, output)
+        }
+    }
+}
+
 /// Writes whether a system of ready instances can stick, for the chart of a text in the file of
 /// this name.
 fn ready<'w, O: Write>(
@@ -264,16 +329,7 @@ fn ready<'w, O: Write>(
     let only = lent(&lines);
     let rounds = rounds_of(alloc, readying.again, chart)?;
     let rounds = rounds.as_ref();
-    let event_positions = event_positions_of(
-        alloc,
-        readying.event_style.places,
-        file,
-        source.text(),
-    )?;
-    let style = style_of(readying.event_style, event_positions.as_ref());
-    let query = ReadyQuery::of(readying.queues, only, readying.show, style);
-    let finishes = write_ready(alloc, chart, rounds, query, output)?;
-    Ok(ended_by(finishes))
+    print_ready(alloc, readying, only, rounds, file, source, output)
 }
 
 /// Prints the answer to a task on the chart of a text in the file of this name.

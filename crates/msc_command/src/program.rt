@@ -189,7 +189,8 @@ pub fn refuse_words<E: Write>(faults: &mut E, error: &io::Error) -> u8
 /// - `follow --queues QUEUES FILE`: a run that keeps the drawing, or the ring of steps by which none
 ///   does.
 /// - `ready --queues QUEUES [--only NAME].. FILE`: whether instances that wait for one message can
-///   stick. `--again` of `check` and `ready` adds what is between a round and the next.
+///   stick, in the same formats. `--again` of `check` and `ready` adds what is between a round and
+///   the next.
 /// - `run --queues QUEUES [--patience N] FILE`: an execution, in which an instance gives up after N
 ///   rounds in a row without a message.
 /// - `list FILE`: the events with their numbers; `draw [--queues QUEUES] FILE`: the chart as a

@@ -5,7 +5,7 @@ ghost use Rattle.std.specs.Prelude.{map, option_map, true};
 ghost use Rattle.clap.specs.Matches.{first_value, found_of};
 ghost use Rattle.msc_command.specs.Asking.{architecture, file_of, format, names_kind, AreAllowed};
 ghost use Rattle.msc_command.specs.Asking.{AsksFor, IsDrawnFormat, IsEventWord, IsFlag};
-ghost use Rattle.msc_command.specs.Asking.{IsEventStyle};
+ghost use Rattle.msc_command.specs.Asking.{format_named, format_of_sticks, IsEventStyle};
 ghost use Rattle.msc_command.specs.Asking.{chart_named, cross_named, lacks_choices, language_named};
 ghost use Rattle.msc_command.specs.Asking.{own_named, par_named, AreCheckArgs, IsDiagram};
 ghost use Rattle.msc_command.specs.Asking.{AreLinkWords, AreQuietArgs};
@@ -133,6 +133,7 @@ pub(crate) struct ReadyArgs<'w> {
     pub show: u32,
     /// Whether sticks between a round of the chart and the next are included.
     pub again: bool,
+    pub format: Format,
     pub event_style: EventStyle,
 }
 
@@ -247,6 +248,7 @@ pub(crate) fn format_of(task: Task<'_>) -> Format
 {
     match task {
         Task::Chart(ChartCommand::Check(check_args), _) => check_args.format,
+        Task::Chart(ChartCommand::Ready(ready_args), _) => ready_args.format,
         Task::Scenarios(words) if !words.quiet => words.check_args.format,
         Task::Read | Task::Chart(..) | Task::Draw(..) => Format::Text,
         Task::Import(_) | Task::Scenarios(_) => Format::Text,
@@ -378,14 +380,28 @@ fn check_options_of(words: &ArgMatches, shown: u32) -> CheckOptions
     }
 }
 
-/// The form of the answer.
-fn format_asked(words: &ArgMatches) -> Format
-    ensures { result ≡ format (found_of words.now) }
+/// The form that a word names: text, if no word does.
+fn format_named(word: Option<&str>) -> Format
+    ensures { result ≡ format_named (option_map (λ w. w.now) word.entry) }
 {
-    match words.get_str(ArgName::ChartFormat.name()) {
+    match word {
         Some(word) => Format::of(word).unwrap_or(Format::Text),
         None => Format::Text,
     }
+}
+
+/// The form of the answer of `msc check`.
+fn format_asked(words: &ArgMatches) -> Format
+    ensures { result ≡ format (found_of words.now) }
+{
+    format_named(words.get_str(ArgName::ChartFormat.name()))
+}
+
+/// The form of the answer of `msc ready`.
+fn format_of_sticks(words: &ArgMatches) -> Format
+    ensures { result ≡ format_of_sticks (found_of words.now) }
+{
+    format_named(words.get_str(ArgName::FormatSticks.name()))
 }
 
 /// Whether notes follow the line of a refusal: with `--places`, and on a terminal without
@@ -785,6 +801,7 @@ fn ready_of<'w>(queues: Queues, words: &'w ArgMatches) -> Task<'w>
         only: texts_of(words, ArgName::Only),
         show: number_of(words, ArgName::ShowSticks, u32::MAX),
         again: is_given(words, ArgName::Again),
+        format: format_of_sticks(words),
         event_style: event_style_of(words),
     };
     Task::Chart(ChartCommand::Ready(ready_args), link_words_of(words))

@@ -38,6 +38,7 @@ pub(crate) enum ArgName {
     Only,
     Allow,
     ChartFormat,
+    FormatSticks,
     Quiet,
     Words,
     Short,
@@ -137,7 +138,7 @@ impl ArgName {
             ArgName::Show | ArgName::ShowSticks => "show",
             ArgName::Only => "only",
             ArgName::Allow => "allow",
-            ArgName::ChartFormat => "format",
+            ArgName::ChartFormat | ArgName::FormatSticks => "format",
             ArgName::Quiet => "quiet",
             ArgName::Words => "words",
             ArgName::Short => "short",
@@ -181,7 +182,7 @@ impl ArgName {
             ArgName::Queues => ValueKind::Architecture,
             ArgName::QueuesIfAny => ValueKind::ArchitectureIfAny,
             ArgName::Allow => ValueKind::Kinds,
-            ArgName::ChartFormat => ValueKind::Format,
+            ArgName::ChartFormat | ArgName::FormatSticks => ValueKind::Format,
             ArgName::From | ArgName::ScenariosFrom => ValueKind::Language,
             ArgName::Choose => ValueKind::Choices,
             ArgName::Rounds => ValueKind::Rounds,
@@ -216,6 +217,9 @@ impl ArgName {
             }
             ArgName::ChartFormat => {
                 "Print lines of text, lines that editors read, or one line with the number of races"
+            }
+            ArgName::FormatSticks => {
+                "Print lines of text, lines that editors read, or one line with the number of sticks"
             }
             ArgName::Quiet => "Print nothing; the status tells",
             ArgName::Words => "Print a run in words, a line for each of its events",
@@ -364,7 +368,7 @@ const REPORT: [ArgName; 7] = [
 ];
 
 /// The words after `ready`, in the order of the help.
-const READY: [ArgName; 11] = [
+const READY: [ArgName; 12] = [
     ArgName::Queues,
     ArgName::Pair,
     ArgName::Mailbox,
@@ -372,6 +376,7 @@ const READY: [ArgName; 11] = [
     ArgName::Only,
     ArgName::ShowSticks,
     ArgName::Again,
+    ArgName::FormatSticks,
     ArgName::Words,
     ArgName::Places,
     ArgName::Plain,

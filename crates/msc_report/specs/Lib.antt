@@ -16,6 +16,7 @@ pub mod Reasons
 pub mod Following
 pub mod BlockedPairs
 pub mod Rounds
+pub mod ReadyFormats
 pub mod Fitting
 -- what the code keeps
 pub mod Spans

@@ -10,12 +10,13 @@ use Rattle.msc_chart.specs.Rounds.{event_of, number_of, round_of}
 use Rattle.msc_judge.specs.declared.renderer.Finding.{Finding}
 use Rattle.msc_place.specs.EventPositions.{EventPositionsIn}
 use Rattle.msc_reason.specs.declared.cause.Cause.{Cause}
-use Rattle.msc_report.specs.Editors.{grave_line, note_line}
+use Rattle.msc_report.specs.Editors.{again_lines}
 use Rattle.msc_report.specs.Lines.{both_at, kind_line, shown_line}
 use Rattle.msc_report.specs.BlockedPairs.{told_pair, waits_text}
 use Rattle.msc_report.specs.Styles.{at_text, event_positions_in}
 use Rattle.msc_report.specs.Texts.{text_line}
 use Rattle.msc_report.specs.Verdicts.{event_at}
+use Rattle.msc_report.specs.declared.editor.PairKind.TheVariants.{Race}
 use Rattle.msc_report.specs.declared.style.Style.{Style}
 
 -- the event of the chart that event k of two rounds is
@@ -78,9 +79,7 @@ round_finding event_positions d f line = round_bare event_positions d f ++ shown
 
 -- its lines for editors
 abbrev pub round_warning : EventPositionsIn → Drawing → Finding → List ℕ
-round_warning event_positions d f =
-    grave_line event_positions (codes "again") d (once d f.first) (once d f.second) f.cause
-    ++ note_line event_positions (once d f.second) (codes "the event of the next round")
+round_warning event_positions d f = again_lines event_positions d (once d f.first) (once d f.second) (Race f.cause)
 
 -- the output of an input, in its round
 abbrev pub output_in : Drawing → ℕ → ℕ

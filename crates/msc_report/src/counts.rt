@@ -1,8 +1,8 @@
-//! The renderer of a count: one line for each chart.
+//! The renderer of a count, one line for each chart, and that line of sticks.
 
 ghost use Rattle.std.specs.Prelude.{◌≡◌, [], ◌++◌, OnOk};
 ghost use Rattle.std.specs.Io.KnownBytes.{Appends};
-ghost use Rattle.msc_report.specs.Counts.{tally_line};
+ghost use Rattle.msc_report.specs.Counts.{ready_tally_line, tally_line};
 
 use msc_chart::{Chart, Event};
 use msc_judge::{Finding, Heading, Renderer};
@@ -30,6 +30,26 @@ pub fn write_tally<W: Write>(writer: &mut W, file: &[u8], heading: Heading) -> i
     } else {
         let (races, closest) = (heading.races, heading.closest.unwrap_or(0));
         write!(writer, "races {races} closest {closest} ")?;
+    }
+    write_file(writer, file)?;
+    writer.write_all(b"\n")
+}
+
+/// Writes the line of a file: that there are no sticks, or how many, and how many of them are
+/// first.
+pub fn write_ready_tally<W: Write>(
+    writer: &mut W,
+    file: &[u8],
+    sticks: u32,
+    first: u32,
+) -> io::Result<()>
+    ensures { OnOk result (Appends (W.contents writer.old) (W.contents writer.new)
+        (ready_tally_line file.now sticks first)) }
+{
+    if sticks == 0 {
+        writer.write_all(b"finishes ")?;
+    } else {
+        write!(writer, "sticks {sticks} first {first} ")?;
     }
     write_file(writer, file)?;
     writer.write_all(b"\n")

@@ -1,15 +1,17 @@
 //! The renderer of lines for editors: that no run keeps the drawing; each race as a line that begins
-//! with its place, and a note at the event drawn below it; and each mark that accepts no race.
+//! with its place, and a note at the event drawn below it; and each mark that accepts no race. The
+//! lines of sticks and of races that are left have the same form.
 
-ghost use Rattle.std.specs.Prelude.{◌≡◌, ◌<◌, [], ◌++◌, IfOk, OnOk, length};
+ghost use Rattle.std.specs.Prelude.{◌≡◌, ◌<◌, [], ◌++◌, IfOk, OnOk, length, option_map};
 ghost use Rattle.std.specs.Io.KnownBytes.{Appends};
 ghost use Rattle.msc_chart.specs.Drawings.{Drawing};
 ghost use Rattle.msc_place.specs.EventPositions.{EventPositionsIn};
 ghost use Rattle.msc_report.specs.EventTexts.{AreTextsOf};
 ghost use Rattle.msc_report.specs.Fitting.{FitsEditor};
 ghost use Rattle.msc_report.specs.EventPositionTexts.{AreEventPositionsOf};
-ghost use Rattle.msc_report.specs.Editors.{editor_text, grave_line, kind_text, level_word};
-ghost use Rattle.msc_report.specs.Editors.{note_line, told_text};
+ghost use Rattle.msc_report.specs.Editors.{again_lines, bracketed, editor_text, grave_line};
+ghost use Rattle.msc_report.specs.Editors.{level_word, note_line, pair_lines, pair_word};
+ghost use Rattle.msc_report.specs.Editors.{race_level, told_text};
 ghost use Rattle.msc_report.specs.Following.{never_error, AreStepsOf};
 ghost use Rattle.msc_report.specs.Stale.{stale_warnings};
 
@@ -33,9 +35,20 @@ pub struct Editor<'s> {
     pub event_positions: &'s EventPositions<'s>,
 }
 
+/// What a pair of events is, in lines for editors.
+#[derive(Clone, Copy)]
+pub(crate) enum PairKind {
+    /// A race, with its kind and what it lacks if this is requested.
+    Race(Option<Cause>),
+    /// A stick.
+    Stick,
+    /// A race that is left.
+    Left,
+}
+
 /// The word for the level of a race: one that every run reverses is an error.
-fn level_word(cause: Option<Cause>) -> &'static str
-    ensures { result.now ≡ level_word cause }
+fn race_level(cause: Option<Cause>) -> &'static str
+    ensures { result.now ≡ race_level cause }
 {
     match cause {
         Some(cause) if cause.always => "error",
@@ -43,15 +56,40 @@ fn level_word(cause: Option<Cause>) -> &'static str
     }
 }
 
-/// Writes the kind of a race, if it is given.
-fn write_kind<W: Write>(writer: &mut W, cause: Option<Cause>) -> io::Result<()>
+impl PairKind {
+    /// The word for its level: a stick is an error.
+    fn level_word(self) -> &'static str
+        ensures { result.now ≡ level_word self }
+    {
+        match self {
+            PairKind::Race(cause) => race_level(cause),
+            PairKind::Stick => "error",
+            PairKind::Left => "warning",
+        }
+    }
+
+    /// The word for what it is, if one is printed: that of a race is its kind.
+    fn word(self) -> Option<&'static str>
+        ensures { option_map (λ word. word.now) result ≡ pair_word self }
+    {
+        match self {
+            PairKind::Race(Some(cause)) => Some(cause.kind.word()),
+            PairKind::Race(None) => None,
+            PairKind::Stick => Some("stick"),
+            PairKind::Left => Some("race"),
+        }
+    }
+}
+
+/// Writes a word between brackets after a space, if there is one.
+fn write_bracketed<W: Write>(writer: &mut W, word: Option<&str>) -> io::Result<()>
     ensures { OnOk result (Appends (W.contents writer.old) (W.contents writer.new)
-        (kind_text cause)) }
+        (bracketed (option_map (λ word. word.now) word.entry))) }
 {
-    match cause {
-        Some(cause) => {
+    match word {
+        Some(word) => {
             writer.write_all(b" [")?;
-            writer.write_all(cause.kind.word().as_bytes())?;
+            writer.write_all(word.as_bytes())?;
             writer.write_all(b"]")
         }
         None => Ok(()),
@@ -79,38 +117,34 @@ fn write_told<W: Write>(
 }
 
 impl<'s> Editor<'s> {
-    /// Writes the line of two racing events, at the first of them, after a word.
-    pub(crate) fn write_grave<W: Write>(
+    /// Writes the line of a pair of events, at the first of them, after a word.
+    fn write_grave<W: Write>(
         &self,
         writer: &mut W,
         chart: &Chart,
         word: &str,
         e: Event,
         f: Event,
-        cause: Option<Cause>,
+        kind: PairKind,
     ) -> io::Result<()>
         requires e_known { e < length chart.now.events }
         requires f_known { f < length chart.now.events }
         ensures { OnOk result (Appends (W.contents writer.old) (W.contents writer.new)
-            (grave_line self.now.event_positions.now word.now chart.now e f cause)) }
+            (grave_line self.now.event_positions.now word.now chart.now e f kind)) }
     {
         self.event_positions.write_event_position(writer, e)?;
-        let level = level_word(cause);
+        let level = kind.level_word();
         writer.write_all(b": ")?;
         writer.write_all(level.as_bytes())?;
         writer.write_all(b": ")?;
         write_told(writer, chart, word, e, f)?;
-        write_kind(writer, cause)?;
+        let name = kind.word();
+        write_bracketed(writer, name)?;
         writer.write_all(b"\n")
     }
 
     /// Writes a note at an event.
-    pub(crate) fn write_note<W: Write>(
-        &self,
-        writer: &mut W,
-        f: Event,
-        note: &str,
-    ) -> io::Result<()>
+    fn write_note<W: Write>(&self, writer: &mut W, f: Event, note: &str) -> io::Result<()>
         ensures { OnOk result (Appends (W.contents writer.old) (W.contents writer.new)
             (note_line self.now.event_positions.now f note.now)) }
     {
@@ -118,6 +152,84 @@ impl<'s> Editor<'s> {
         writer.write_all(b": note: ")?;
         writer.write_all(note.as_bytes())?;
         writer.write_all(b"\n")
+    }
+
+    /// Writes both lines of a pair of events of one round, after a word.
+    fn write_pair<W: Write>(
+        &self,
+        writer: &mut W,
+        chart: &Chart,
+        word: &str,
+        e: Event,
+        f: Event,
+        kind: PairKind,
+    ) -> io::Result<()>
+        requires e_known { e < length chart.now.events }
+        requires f_known { f < length chart.now.events }
+        ensures { OnOk result (Appends (W.contents writer.old) (W.contents writer.new)
+            (pair_lines self.now.event_positions.now word.now chart.now e f kind)) }
+    {
+        self.write_grave(writer, chart, word, e, f, kind)?;
+        self.write_note(writer, f, "the event drawn below it")
+    }
+
+    /// Appends the same to a page. The only error is want of memory.
+    pub(crate) fn print_pair(
+        &self,
+        page: &mut Page,
+        chart: &Chart,
+        word: &str,
+        e: Event,
+        f: Event,
+        kind: PairKind,
+    ) -> Result<(), AllocError>
+        requires e_known { e < length chart.now.events }
+        requires f_known { f < length chart.now.events }
+        ensures { OnOk result (page.new.bytes.items ≡ page.old.bytes.items
+            ++ pair_lines self.now.event_positions.now word.now chart.now e f kind) }
+    {
+        match self.write_pair(page, chart, word, e, f, kind) {
+            Ok(()) => Ok(()),
+            Err(_) => Err(AllocError),
+        }
+    }
+
+    /// Writes both lines of a pair of an event of a round and one of the next.
+    pub(crate) fn write_again<W: Write>(
+        &self,
+        writer: &mut W,
+        chart: &Chart,
+        e: Event,
+        f: Event,
+        kind: PairKind,
+    ) -> io::Result<()>
+        requires e_known { e < length chart.now.events }
+        requires f_known { f < length chart.now.events }
+        ensures { OnOk result (Appends (W.contents writer.old) (W.contents writer.new)
+            (again_lines self.now.event_positions.now chart.now e f kind)) }
+    {
+        self.write_grave(writer, chart, "again", e, f, kind)?;
+        self.write_note(writer, f, "the event of the next round")
+    }
+
+    /// Appends the same to a page. The only error is want of memory.
+    pub(crate) fn print_again(
+        &self,
+        page: &mut Page,
+        chart: &Chart,
+        e: Event,
+        f: Event,
+        kind: PairKind,
+    ) -> Result<(), AllocError>
+        requires e_known { e < length chart.now.events }
+        requires f_known { f < length chart.now.events }
+        ensures { OnOk result (page.new.bytes.items ≡ page.old.bytes.items
+            ++ again_lines self.now.event_positions.now chart.now e f kind) }
+    {
+        match self.write_again(page, chart, e, f, kind) {
+            Ok(()) => Ok(()),
+            Err(_) => Err(AllocError),
+        }
     }
 
     /// Writes both lines of a race.
@@ -133,20 +245,20 @@ impl<'s> Editor<'s> {
             (editor_text self.now.event_positions.now chart.now finding)) }
     {
         let (e, f) = (finding.first, finding.second);
-        self.write_grave(writer, chart, "race", e, f, finding.cause)?;
-        self.write_note(writer, f, "the event drawn below it")
+        self.write_pair(writer, chart, "race", e, f, PairKind::Race(finding.cause))
     }
 }
 
-/// Appends the kind of a race to a page, if it is given.
-fn print_kind(page: &mut Page, cause: Option<Cause>) -> Result<(), AllocError>
-    ensures { OnOk result (page.new.bytes.items ≡ page.old.bytes.items ++ kind_text cause) }
+/// Appends a word between brackets after a space to a page, if there is one.
+fn print_bracketed(page: &mut Page, word: Option<&str>) -> Result<(), AllocError>
+    ensures { OnOk result (page.new.bytes.items ≡ page.old.bytes.items
+        ++ bracketed (option_map (λ word. word.now) word.entry)) }
 {
-    let Some(cause) = cause else {
+    let Some(word) = word else {
         return Ok(());
     };
     page.bytes.extend_from_slice(b" [")?;
-    page.bytes.extend_from_slice(cause.kind.word().as_bytes())?;
+    page.bytes.extend_from_slice(word.as_bytes())?;
     page.bytes.extend_from_slice(b"]")
 }
 
@@ -158,14 +270,14 @@ pub(crate) struct WarningTexts {
 }
 
 impl WarningTexts {
-    /// Appends the line of two racing events, at the first of them, after a word.
+    /// Appends the line of a pair of events, at the first of them, after a word.
     fn print_grave(
         &self,
         page: &mut Page,
         word: &str,
         e: Event,
         f: Event,
-        cause: Option<Cause>,
+        kind: PairKind,
     ) -> Result<(), AllocError>
         requires e_known { e < length self.now.texts }
         requires f_known { f < length self.now.texts }
@@ -173,15 +285,16 @@ impl WarningTexts {
         ensures { (d : Drawing) (event_positions : EventPositionsIn) → AreTextsOf d self.now.texts
             → AreEventPositionsOf event_positions (length self.now.places) self.now.places
             → OnOk result (page.new.bytes.items
-            ≡ page.old.bytes.items ++ grave_line event_positions word.now d e f cause) }
+            ≡ page.old.bytes.items ++ grave_line event_positions word.now d e f kind) }
     {
-        let level = level_word(cause);
+        let level = kind.level_word();
         page.bytes.extend_from_slice(self.places.event_position(e))?;
         page.bytes.extend_from_slice(b": ")?;
         page.bytes.extend_from_slice(level.as_bytes())?;
         page.bytes.extend_from_slice(b": ")?;
         self.texts.print_told_words(page, word, e, f)?;
-        print_kind(page, cause)?;
+        let name = kind.word();
+        print_bracketed(page, name)?;
         page.bytes.extend_from_slice(b"\n")?;
         Ok(())
     }
@@ -254,7 +367,7 @@ impl<'s, 'r> EditorLines<'s, 'r> {
             ≡ page.old.bytes.items ++ editor_text event_positions d finding) }
     {
         let (e, f) = (finding.first, finding.second);
-        made.print_grave(page, "race", e, f, finding.cause)?;
+        made.print_grave(page, "race", e, f, PairKind::Race(finding.cause))?;
         made.print_note(page, f, "the event drawn below it")
     }
 }

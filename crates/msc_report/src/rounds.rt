@@ -14,6 +14,8 @@ ghost use Rattle.msc_judge.specs.Renderings.{NamesEvents};
 ghost use Rattle.msc_reason.specs.Named.{AreEventsOf, NamesCause};
 ghost use Rattle.msc_report.specs.EventTexts.{AreTextsOf, EventText};
 ghost use Rattle.msc_report.specs.Lines.{both_at};
+ghost use Rattle.msc_report.specs.ReadyFormats.{ready_again_behind, ready_again_run};
+ghost use Rattle.msc_report.specs.ReadyFormats.{ready_again_stick};
 ghost use Rattle.msc_report.specs.Rounds.{again_behind, again_count, again_needs, again_stick};
 ghost use Rattle.msc_report.specs.Rounds.{again_text, both_told, once, output_in, round_bare};
 ghost use Rattle.msc_report.specs.Rounds.{round_finding, round_cause, round_line, round_name};
@@ -23,11 +25,12 @@ ghost use Rattle.msc_report.specs.BlockedPairs.{waits_text};
 ghost use Rattle.msc_report.specs.Styles.{event_positions_in};
 ghost use Rattle.msc_report.specs.Verdicts.{spaced};
 
-use crate::editor::Editor;
+use crate::editor::{Editor, PairKind};
 use crate::event_texts::{EventTexts, print_spaced};
 use crate::lines::{print_kind, print_places, write_both_at};
 use crate::names::EventNames;
 use crate::race::write_event_at;
+use crate::ready_format::ReadyFormat;
 use crate::sticks::{print_told_pair, print_waits, write_told_pair};
 use crate::style::Style;
 use itoa::Buffer;
@@ -327,41 +330,102 @@ impl RoundNames<'_> {
         self.chart.facts();
         print_waits(page, self.chart, words, self.once(k), self.once(l))
     }
-}
 
-impl EventNames for RoundNames<'_> {
-    ghost drawing = { λ s. two_rounds s.chart.now };
-
-    ghost stick_text = { λ s style p. again_stick style s.chart.now p.0 p.1 };
-
-    ghost behind_text = { λ s p. again_behind s.chart.now p };
-
-    ghost run_lines = { λ s words run. round_run_text words s.chart.now run };
-
-    fn print_blocked_pair(
+    /// Appends a stick, two inputs of one line, in a style, without what shows it.
+    fn print_stick(
         &self,
         page: &mut Page,
-        stick: (Event, Event),
         style: Style<'_>,
-    ) -> Result<(), AllocError> {
-        let (k, l) = stick;
+        k: Event,
+        l: Event,
+    ) -> Result<(), AllocError>
+        requires k_input { IsTrue (is_input (two_rounds self.now.chart.now).events k) }
+        requires l_input { IsTrue (is_input (two_rounds self.now.chart.now).events l) }
+        ensures { OnOk result (page.new.bytes.items
+            ≡ page.old.bytes.items ++ again_stick style.entry self.now.chart.now k l) }
+    {
         self.print_again(page, style.event_positions, k, l)?;
         let (s, t) = (self.output(k), self.output(l));
         self.print_needs(page, style.event_positions, s, t)?;
         self.print_waits(page, style.words, k, l)
     }
 
-    fn print_behind(&self, page: &mut Page, ahead: (Event, Event)) -> Result<(), AllocError> {
+    /// Appends the line of the stick that is ahead of another.
+    fn print_ahead(&self, page: &mut Page, ahead: (Event, Event)) -> Result<(), AllocError>
+        requires first { ahead.0 < length (two_rounds self.now.chart.now).events }
+        requires second { ahead.1 < length (two_rounds self.now.chart.now).events }
+        ensures { OnOk result (page.new.bytes.items
+            ≡ page.old.bytes.items ++ again_behind self.now.chart.now ahead) }
+    {
         page.bytes.extend_from_slice(b"behind")?;
         self.print_spaced_name(page, ahead.0)?;
         self.print_spaced_name(page, ahead.1)?;
         page.bytes.extend_from_slice(b"\n")
     }
 
-    fn print_run(&self, page: &mut Page, words: bool, run: &[Event]) -> Result<(), AllocError> {
+    /// Appends a run: by the names of its events, or in words, a line for each.
+    fn print_run_in(&self, page: &mut Page, words: bool, run: &[Event]) -> Result<(), AllocError>
+        requires { AreEventsOf (two_rounds self.now.chart.now) run.now }
+        ensures { OnOk result (page.new.bytes.items
+            ≡ page.old.bytes.items ++ round_run_text words self.now.chart.now run.now) }
+    {
         match self.write_run_in(page, words, run) {
             Ok(()) => Ok(()),
             Err(_) => Err(AllocError),
+        }
+    }
+}
+
+impl EventNames for RoundNames<'_> {
+    ghost drawing = { λ s. two_rounds s.chart.now };
+
+    ghost stick_text = { λ s format p. ready_again_stick format s.chart.now p };
+
+    ghost behind_text = { λ s format p. ready_again_behind format s.chart.now p };
+
+    ghost run_lines = { λ s format run. ready_again_run format s.chart.now run };
+
+    fn print_blocked_pair(
+        &self,
+        page: &mut Page,
+        format: ReadyFormat<'_>,
+        stick: (Event, Event),
+    ) -> Result<(), AllocError> {
+        let (k, l) = stick;
+        match format {
+            ReadyFormat::Lines(style) => self.print_stick(page, style, k, l),
+            ReadyFormat::Count(_) => Ok(()),
+            ReadyFormat::Editor(event_positions) => {
+                let editor = Editor { event_positions };
+                let (e, f) = (self.once(k), self.once(l));
+                editor.print_again(page, self.chart, e, f, PairKind::Stick)
+            }
+        }
+    }
+
+    fn print_behind(
+        &self,
+        page: &mut Page,
+        format: ReadyFormat<'_>,
+        ahead: (Event, Event),
+    ) -> Result<(), AllocError> {
+        match format {
+            ReadyFormat::Lines(_) => self.print_ahead(page, ahead),
+            ReadyFormat::Count(_) => Ok(()),
+            ReadyFormat::Editor(_) => Ok(()),
+        }
+    }
+
+    fn print_run(
+        &self,
+        page: &mut Page,
+        format: ReadyFormat<'_>,
+        run: &[Event],
+    ) -> Result<(), AllocError> {
+        match format {
+            ReadyFormat::Lines(style) => self.print_run_in(page, style.words, run),
+            ReadyFormat::Count(_) => Ok(()),
+            ReadyFormat::Editor(_) => Ok(()),
         }
     }
 }
@@ -438,7 +502,7 @@ impl<'s> Renderer for RoundLines<'s> {
         run: &[Event],
     ) -> Result<Vec<u8>, AllocError> {
         let mut lines = Page::new(alloc);
-        self.names.print_run(&mut lines, self.style.words, run)?;
+        self.names.print_run_in(&mut lines, self.style.words, run)?;
         Ok(lines.bytes)
     }
 
@@ -488,8 +552,13 @@ impl RoundEditor<'_> {
         let editor = Editor {
             event_positions: self.event_positions,
         };
-        editor.write_grave(writer, self.names.chart, "again", e, f, finding.cause)?;
-        editor.write_note(writer, f, "the event of the next round")
+        editor.write_again(
+            writer,
+            self.names.chart,
+            e,
+            f,
+            PairKind::Race(finding.cause),
+        )
     }
 }
 

@@ -6,7 +6,9 @@ ghost use Rattle.std.specs.Io.KnownBytes.{Appends};
 ghost use Rattle.std.specs.Option.{option_copied};
 ghost use Rattle.msc_chart.specs.Charts.{is_input};
 ghost use Rattle.msc_chart.specs.Drawings.{Drawing};
+ghost use Rattle.msc_reason.specs.Named.{AreEventsOf};
 ghost use Rattle.msc_report.specs.EventTexts.{AreTextsOf};
+ghost use Rattle.msc_report.specs.ReadyFormats.{ready_behind, ready_left, ready_run, ready_stick};
 ghost use Rattle.msc_report.specs.BlockedPairs.{bare_stick, behind_line, coming_text};
 ghost use Rattle.msc_report.specs.BlockedPairs.{finishing_line};
 ghost use Rattle.msc_report.specs.BlockedPairs.{left_race, owner_text, ready_head};
@@ -15,11 +17,13 @@ ghost use Rattle.msc_report.specs.BlockedPairs.{told_pair};
 ghost use Rattle.msc_report.specs.BlockedPairs.{waits_line, waits_text};
 ghost use Rattle.msc_report.specs.Styles.{run_text};
 
+use crate::editor::{Editor, PairKind};
 use crate::event_texts::EventTexts;
 use crate::lines::{print_placed_pair, print_places};
 use crate::links::write_queues;
 use crate::names::EventNames;
 use crate::race::{write_events, write_instance, write_pair_place, write_signal};
+use crate::ready_format::ReadyFormat;
 use crate::reasons::write_run_in;
 use crate::style::{Style, write_at};
 use crate::verdict::write_name_line;
@@ -247,57 +251,138 @@ impl OneRound<'_> {
         let (s, t) = (self.chart.other_end(e), self.chart.other_end(f));
         print_placed_pair(page, self.texts, event_positions, "needs", s, t)
     }
-}
 
-impl EventNames for OneRound<'_> {
-    ghost drawing = { λ s. s.chart.now };
-
-    ghost stick_text = { λ s style p. bare_stick style s.chart.now p.0 p.1 };
-
-    ghost behind_text = { λ s p. behind_line p };
-
-    ghost run_lines = { λ s words run. run_text words s.chart.now run };
-
-    fn print_blocked_pair(
+    /// Appends a stick, two inputs of one line, in a style, without what shows it.
+    fn print_stick(
         &self,
         page: &mut Page,
-        stick: (Event, Event),
         style: Style<'_>,
-    ) -> Result<(), AllocError> {
-        let (e, f) = stick;
+        e: Event,
+        f: Event,
+    ) -> Result<(), AllocError>
+        requires e_input { IsTrue (is_input self.now.chart.now.events e) }
+        requires f_input { IsTrue (is_input self.now.chart.now.events f) }
+        ensures { OnOk result (page.new.bytes.items
+            ≡ page.old.bytes.items ++ bare_stick style.entry self.now.chart.now e f) }
+    {
         self.print_blocked_pair_lines(page, style.event_positions, e, f)?;
         print_waits(page, self.chart, style.words, e, f)
     }
 
-    fn print_behind(&self, page: &mut Page, ahead: (Event, Event)) -> Result<(), AllocError> {
+    /// Appends the line of the stick that is ahead of another.
+    fn print_ahead(&self, page: &mut Page, ahead: (Event, Event)) -> Result<(), AllocError>
+        requires first { ahead.0 < length self.now.chart.now.events }
+        requires second { ahead.1 < length self.now.chart.now.events }
+        ensures { OnOk result (page.new.bytes.items ≡ page.old.bytes.items ++ behind_line ahead) }
+    {
         page.bytes.extend_from_slice(b"behind")?;
         page.bytes.extend_from_slice(self.texts.number(ahead.0))?;
         page.bytes.extend_from_slice(self.texts.number(ahead.1))?;
         page.bytes.extend_from_slice(b"\n")
     }
 
-    fn print_run(&self, page: &mut Page, words: bool, run: &[Event]) -> Result<(), AllocError> {
+    /// Appends a run: by the numbers of its events, or in words, a line for each.
+    fn print_run_in(&self, page: &mut Page, words: bool, run: &[Event]) -> Result<(), AllocError>
+        requires { AreEventsOf self.now.chart.now run.now }
+        ensures { OnOk result (page.new.bytes.items
+            ≡ page.old.bytes.items ++ run_text words self.now.chart.now run.now) }
+    {
         match write_run_in(page, self.chart, words, run) {
             Ok(()) => Ok(()),
             Err(_) => Err(AllocError),
         }
     }
+
+    /// Appends a race that is left in a style: with its place, if places are printed.
+    fn print_race(
+        &self,
+        page: &mut Page,
+        style: Style<'_>,
+        e: Event,
+        f: Event,
+    ) -> Result<(), AllocError>
+        requires e_known { e < length self.now.chart.now.events }
+        requires f_known { f < length self.now.chart.now.events }
+        ensures { OnOk result (page.new.bytes.items
+            ≡ page.old.bytes.items ++ left_race style.entry self.now.chart.now (e, f)) }
+    {
+        self.texts.print_race(&mut page.bytes, e, f)?;
+        print_places(page, style.event_positions, e, f)
+    }
+
+    /// Appends a race that is left, in a format. The only error is want of memory.
+    pub fn print_left_race(
+        &self,
+        page: &mut Page,
+        format: ReadyFormat<'_>,
+        race: (Event, Event),
+    ) -> Result<(), AllocError>
+        requires first { race.0 < length self.now.chart.now.events }
+        requires second { race.1 < length self.now.chart.now.events }
+        ensures { OnOk result (page.new.bytes.items
+            ≡ page.old.bytes.items ++ ready_left format.entry self.now.chart.now race) }
+    {
+        let (e, f) = race;
+        match format {
+            ReadyFormat::Lines(style) => self.print_race(page, style, e, f),
+            ReadyFormat::Count(_) => Ok(()),
+            ReadyFormat::Editor(event_positions) => {
+                let editor = Editor { event_positions };
+                editor.print_pair(page, self.chart, "race", e, f, PairKind::Left)
+            }
+        }
+    }
 }
 
-/// Appends a race that is left, made from the texts of events, with its place, if places are
-/// printed.
-pub fn print_left_race(
-    page: &mut Page,
-    texts: &EventTexts,
-    e: Event,
-    f: Event,
-    style: Style<'_>,
-) -> Result<(), AllocError>
-    requires e_known { e < length texts.now }
-    requires f_known { f < length texts.now }
-    ensures { (d : Drawing) → AreTextsOf d texts.now → OnOk result
-        (page.new.bytes.items ≡ page.old.bytes.items ++ left_race style.entry d (e, f)) }
-{
-    texts.print_race(&mut page.bytes, e, f)?;
-    print_places(page, style.event_positions, e, f)
+impl EventNames for OneRound<'_> {
+    ghost drawing = { λ s. s.chart.now };
+
+    ghost stick_text = { λ s format p. ready_stick format s.chart.now p };
+
+    ghost behind_text = { λ s format p. ready_behind format p };
+
+    ghost run_lines = { λ s format run. ready_run format s.chart.now run };
+
+    fn print_blocked_pair(
+        &self,
+        page: &mut Page,
+        format: ReadyFormat<'_>,
+        stick: (Event, Event),
+    ) -> Result<(), AllocError> {
+        let (e, f) = stick;
+        match format {
+            ReadyFormat::Lines(style) => self.print_stick(page, style, e, f),
+            ReadyFormat::Count(_) => Ok(()),
+            ReadyFormat::Editor(event_positions) => {
+                let editor = Editor { event_positions };
+                editor.print_pair(page, self.chart, "stick", e, f, PairKind::Stick)
+            }
+        }
+    }
+
+    fn print_behind(
+        &self,
+        page: &mut Page,
+        format: ReadyFormat<'_>,
+        ahead: (Event, Event),
+    ) -> Result<(), AllocError> {
+        match format {
+            ReadyFormat::Lines(_) => self.print_ahead(page, ahead),
+            ReadyFormat::Count(_) => Ok(()),
+            ReadyFormat::Editor(_) => Ok(()),
+        }
+    }
+
+    fn print_run(
+        &self,
+        page: &mut Page,
+        format: ReadyFormat<'_>,
+        run: &[Event],
+    ) -> Result<(), AllocError> {
+        match format {
+            ReadyFormat::Lines(style) => self.print_run_in(page, style.words, run),
+            ReadyFormat::Count(_) => Ok(()),
+            ReadyFormat::Editor(_) => Ok(()),
+        }
+    }
 }

@@ -2,3 +2,4 @@ pub mod Barred
 pub mod Judged
 pub mod Readied
 pub mod BlockedPairLemmas
+pub mod FirstOnes

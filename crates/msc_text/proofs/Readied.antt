@@ -1,5 +1,5 @@
 -- Sticks and races that are left, as they are printed.
-use Rattle.std.proofs.Common.{◌≡◌, ℕ, ◌<◌, Bool, List, [], ◌∷◌, ◌++◌, Option, None, Some, Result, Ok, Err, true, false, ◌&&◌, nat_eq, inr, length, get_or, refl, sym, ap, ◌∙◌, subst, arith}
+use Rattle.std.proofs.Common.{◌≡◌, ℕ, ◌<◌, Bool, List, [], ◌∷◌, ◌++◌, Option, None, Some, Result, Ok, Err, true, false, ◌&&◌, cond, nat_eq, inr, length, get_or, refl, sym, ap, ◌∙◌, subst, arith}
 use Rattle.std.specs.Option.{option_copied}
 use Rattle.std.specs.Prelude.{◌↔◌, All, IfOk, IsTrue}
 use Rattle.std.specs.List.{flat_map}
@@ -29,23 +29,22 @@ use Rattle.msc_ready.specs.Running.{AreBlockedPairRuns}
 use Rattle.msc_ready.specs.BlockedPairs.{is_blocked_pair, AreLeft, IsBlockedPair}
 use Rattle.msc_ready.specs.Views.{blocked_pairs_from, blocked_pairs_of, AreAhead, AreBlockedPairs, HasAhead}
 use Rattle.msc_ready.proofs.Left.{left_test}
-use Rattle.msc_report.specs.Rounds.{again_count}
-use Rattle.msc_report.specs.BlockedPairs.{left_line, left_race, ready_head}
-use Rattle.msc_report.specs.declared.style.Style.{Style}
+use Rattle.msc_report.specs.ReadyFormats.{left_comes_last, ready_again_count, ready_left, ready_left_count, runs_shown}
+use Rattle.msc_report.specs.declared.ready_format.ReadyFormat.{ReadyFormat}
 use Rattle.msc_text.specs.LeftRaces.{left_from, left_in}
-use Rattle.msc_text.specs.Readied.{AreRoundsOf, AreUnrolled, CanPrintStick, IsReadyOf, IsReadyText}
-use Rattle.msc_text.specs.Readying.{again_text, again_texts, body_text, finishes, left_behind, lines_of, more_after, once_texts, ready_text, told_left, told_sticks, AreStickFacts, StickFacts, PrintsAgain, PrintsBetween, PrintsReady}
+use Rattle.msc_text.specs.Readied.{has_none_left, AreRoundsOf, AreUnrolled, CanPrintStick, IsReadyOf, IsReadyText}
+use Rattle.msc_text.specs.Readying.{again_text, again_texts, finishes, left_behind, left_pairs, left_text, lines_of, more_after, once_texts, ready_text, rest_in, told_left, told_sticks, AreStickFacts, StickFacts, PrintsAgain, PrintsBetween, PrintsReady}
 use Rattle.msc_text.specs.declared.readying.ReadyAnswer.{ReadyAnswer}
 use Rattle.msc_text.specs.declared.readying.StickTable.{StickTable}
 use Rattle.msc_judge.proofs.Listed.{all_of as all_pairs}
 
 -- what is printed of the blocked pairs between two rounds, by what is known of them
-pub prints_between : (d : Drawing) (queues : Queues) (only : Option (List Bool)) (more : ℕ) (style : Style) (r : ReadyChart)
+pub prints_between : (d : Drawing) (queues : Queues) (only : Option (List Bool)) (more : ℕ) (format : ReadyFormat) (r : ReadyChart)
     (ahead : List (Option (ℕ × ℕ))) (runs : ℕ → List ℕ) → IsReadyOf (two_rounds d) queues only r
     → HasVisualOrder r → AreBetween r d (between_of r d) → AreAhead r ahead (length r.chart.events)
     → AreBlockedPairRuns (wiring_of r) (ready_in r) runs
-    → PrintsBetween d queues only more style (nat_eq (length (between_of r d)) 0) (again_text style d r ahead runs more)
-prints_between d queues only more style r ahead runs its visual blocked_pairs are_ahead are_runs =
+    → PrintsBetween d queues only more format (nat_eq (length (between_of r d)) 0) (again_text format d r ahead runs more)
+prints_between d queues only more format r ahead runs its visual blocked_pairs are_ahead are_runs =
     let same : r ≡ ready_chart (two_rounds d) queues (lines_of only) r.order =
     ap (λ (c : Drawing). ready_chart c r.queues r.lines r.order) its.chart
     ∙ ap (λ (q : Queues). ready_chart (two_rounds d) q r.lines r.order) its.queues
@@ -59,15 +58,16 @@ prints_between d queues only more style r ahead runs its visual blocked_pairs ar
       runs = runs;
       are_runs = subst (λ (x : ReadyChart). AreBlockedPairRuns (wiring_of x) (ready_in x) runs) same are_runs;
       answered = ap (λ (x : ReadyChart). nat_eq (length (between_of x d)) 0) same;
-      text = ap (λ (x : ReadyChart). again_text style d x ahead runs more) same;
+      text = ap (λ (x : ReadyChart). again_text format d x ahead runs more) same;
     }
 
-module _ (d : Drawing) (queues : Queues) (only : Option (List Bool)) (again : Bool) (show : ℕ) (style : Style) where
+module _ (d : Drawing) (queues : Queues) (only : Option (List Bool)) (again : Bool) (show : ℕ) (format : ReadyFormat) where
   -- what is printed of a chart with ready instances, by what is known of it, and of two rounds
   pub prints : (r : ReadyChart) (k : StickFacts) → IsReadyOf d queues only r
       → IsAccepted r.chart → HasVisualOrder r → AreBlockedPairs r (blocked_pairs_of r) → AreStickFacts r k
-      → (none : Bool) (behind : List ℕ) → PrintsAgain again d queues only (more_after r show k) style none behind
-      → PrintsReady d queues only again show style (finishes r only k && none) (ready_text style r only show k ++ behind)
+      → (none : Bool) (behind : List ℕ) → PrintsAgain again d queues only (more_after r (runs_shown format show) k) format none behind
+      → PrintsReady d queues only again show format (finishes r only k && none)
+      (ready_text format r only (runs_shown format show) k ++ rest_in format (left_text format r only k) behind)
   prints r k its accepted visual blocked_pairs is none behind rounds =
       let same : r ≡ ready_chart d queues (lines_of only) r.order =
       ap (λ (c : Drawing). ready_chart c r.queues r.lines r.order) its.chart
@@ -82,9 +82,9 @@ module _ (d : Drawing) (queues : Queues) (only : Option (List Bool)) (again : Bo
         is = subst (λ (x : ReadyChart). AreStickFacts x k) same is;
         none = none;
         behind = behind;
-        rounds = subst (λ (x : ReadyChart). PrintsAgain again d queues only (more_after x show k) style none behind) same rounds;
+        rounds = subst (λ (x : ReadyChart). PrintsAgain again d queues only (more_after x (runs_shown format show) k) format none behind) same rounds;
         answered = ap (λ (x : ReadyChart). finishes x only k && none) same;
-        text = ap (λ (x : ReadyChart). ready_text style x only show k ++ behind) same;
+        text = ap (λ (x : ReadyChart). ready_text format x only (runs_shown format show) k ++ rest_in format (left_text format x only k) behind) same;
       }
 
 -- what is known of a chart of which these are: whether some ready run is whole, and which blocked
@@ -176,26 +176,26 @@ tells contents says (Ok answer) old new right text is same written = (text, subs
 tells contents says (Err Memory) old new right text is same written = inr (right, text, is, written)
 tells contents says (Err Device) old new right text is same written = tt
 
-module _ (a b : Printed) (style : Style) (r : ReadyChart) (ahead list : List (Option (ℕ × ℕ))) (same : ahead ≡ list) (runs : ℕ → List ℕ) (show : ℕ) where
+module _ (a b : Printed) (format : ReadyFormat) (r : ReadyChart) (ahead list : List (Option (ℕ × ℕ))) (same : ahead ≡ list) (runs : ℕ → List ℕ) (show : ℕ) where
   -- the blocked pairs that a source of pairs gives are all blocked pairs
   pub blocked_pairs_rows : (d : Drawing) → d ≡ r.chart
-      → Prints a b (told_sticks (once_texts style d) ahead runs show (below (blocked_pairs_from r) (length r.chart.events)))
-      → Prints a b (told_sticks (once_texts style r.chart) list runs show (blocked_pairs_of r))
+      → Prints a b (told_sticks (once_texts format d) ahead runs show (below (blocked_pairs_from r) (length r.chart.events)))
+      → Prints a b (told_sticks (once_texts format r.chart) list runs show (blocked_pairs_of r))
   blocked_pairs_rows d chart put =
-      subst (λ (x : Drawing). Prints a b (told_sticks (once_texts style x) list runs show (blocked_pairs_of r))) chart
-      (subst (λ (l : List (Option (ℕ × ℕ))). Prints a b (told_sticks (once_texts style d) l runs show (blocked_pairs_of r))) same
-      (subst (λ (pairs : List (ℕ × ℕ)). Prints a b (told_sticks (once_texts style d) ahead runs show pairs))
+      subst (λ (x : Drawing). Prints a b (told_sticks (once_texts format x) list runs show (blocked_pairs_of r))) chart
+      (subst (λ (l : List (Option (ℕ × ℕ))). Prints a b (told_sticks (once_texts format d) l runs show (blocked_pairs_of r))) same
+      (subst (λ (pairs : List (ℕ × ℕ)). Prints a b (told_sticks (once_texts format d) ahead runs show pairs))
       (all_pairs (is_blocked_pair (wiring_of r) (ready_in r) r.order) (length r.chart.events)) put))
 
   -- and so it is between two rounds, after their number
-  pub between_rows : (c : Printed) (d : Drawing) (count : ℕ) → count ≡ length (between_of r d) → Prints c a (again_count count)
-      → Prints a b (told_sticks (again_texts style d) ahead runs show (below (between_from r d) (length r.chart.events)))
-      → Prints c b (again_text style d r list runs show)
+  pub between_rows : (c : Printed) (d : Drawing) (count : ℕ) → count ≡ length (between_of r d) → Prints c a (ready_again_count format count)
+      → Prints a b (told_sticks (again_texts format d) ahead runs show (below (between_from r d) (length r.chart.events)))
+      → Prints c b (again_text format d r list runs show)
   between_rows c d count number head put =
-      prints_then c a b (again_count (length (between_of r d))) (told_sticks (again_texts style d) list runs show (between_of r d))
-      (subst (λ (n : ℕ). Prints c a (again_count n)) number head)
-      (subst (λ (l : List (Option (ℕ × ℕ))). Prints a b (told_sticks (again_texts style d) l runs show (between_of r d))) same
-      (subst (λ (pairs : List (ℕ × ℕ)). Prints a b (told_sticks (again_texts style d) ahead runs show pairs))
+      prints_then c a b (ready_again_count format (length (between_of r d))) (told_sticks (again_texts format d) list runs show (between_of r d))
+      (subst (λ (n : ℕ). Prints c a (ready_again_count format n)) number head)
+      (subst (λ (l : List (Option (ℕ × ℕ))). Prints a b (told_sticks (again_texts format d) l runs show (between_of r d))) same
+      (subst (λ (pairs : List (ℕ × ℕ)). Prints a b (told_sticks (again_texts format d) ahead runs show pairs))
       (all_pairs (is_between r d) (length r.chart.events)) put))
 
 -- how many more runs are shown after all blocked pairs
@@ -208,39 +208,57 @@ blocked_pairs_count r ahead list show result same =
     ∙ ap (λ (l : List (Option (ℕ × ℕ))). left_behind l show (blocked_pairs_of r)) same)
 
 -- the races that are left are printed after their number
-pub left_prints : (a b c : Printed) (style : Style) (r : ReadyChart) (wired : IsWired (wiring_of r)) (d : Drawing) (count : ℕ) → d ≡ r.chart
+pub left_prints : (a b c : Printed) (format : ReadyFormat) (r : ReadyChart) (wired : IsWired (wiring_of r)) (d : Drawing) (count : ℕ) → d ≡ r.chart
     → ((left : ℕ → ℕ → Bool) → AreLeft (wiring_of r) (ready_in r) left → count ≡ length (pairs_of left (length r.chart.events)))
-    → Prints a b (left_line count)
-    → Prints b c (rows_from (λ m p. left_race style d p) (λ m p. m) 0 (below (left_from r wired) (length r.chart.events)))
+    → Prints a b (ready_left_count format count)
+    → Prints b c (rows_from (λ m p. ready_left format d p) (λ m p. m) 0 (below (left_from r wired) (length r.chart.events)))
     → (left : ℕ → ℕ → Bool) → AreLeft (wiring_of r) (ready_in r) left
-    → Prints a c (told_left style r.chart (pairs_of left (length r.chart.events)))
-left_prints a b c style r wired d count chart number head put left are =
+    → Prints a c (told_left format r.chart (pairs_of left (length r.chart.events)))
+left_prints a b c format r wired d count chart number head put left are =
     let pairs = pairs_of left (length r.chart.events) in
-    prints_then a b c (left_line (length pairs)) (flat_map (left_race style r.chart) pairs)
-    (subst (λ (n : ℕ). Prints a b (left_line n)) (number left are) head)
-    (subst (λ (x : Drawing). Prints b c (flat_map (left_race style x) pairs)) chart
-    (subst (Prints b c) (left_rows r wired (left_race style d) left are) put))
+    prints_then a b c (ready_left_count format (length pairs)) (flat_map (ready_left format r.chart) pairs)
+    (subst (λ (n : ℕ). Prints a b (ready_left_count format n)) (number left are) head)
+    (subst (λ (x : Drawing). Prints b c (flat_map (ready_left format x) pairs)) chart
+    (subst (Prints b c) (left_rows r wired (ready_left format d) left are) put))
 
--- the head and what follows it are the answer on a chart
-pub once_prints : (a b c : Printed) (style : Style) (r s : ReadyChart) (only : Option (List Bool)) (show count : ℕ) (may : Bool) (k : StickFacts)
-    → s ≡ r → count ≡ length (blocked_pairs_of r) → k.may ≡ may → Prints a b (ready_head s.chart s.queues only count may)
-    → Prints b c (body_text style r only show k) → Prints a c (ready_text style r only show k)
-once_prints a b c style r s only show count may k same number known head body =
-    prints_then a b c (ready_head r.chart r.queues only (length (blocked_pairs_of r)) k.may) (body_text style r only show k)
-    (subst (λ (m : Bool). Prints a b (ready_head r.chart r.queues only (length (blocked_pairs_of r)) m)) (sym known)
-    (subst (λ (n : ℕ). Prints a b (ready_head r.chart r.queues only n may)) number
-    (subst (λ (x : ReadyChart). Prints a b (ready_head x.chart x.queues only count may)) same head)))
-    body
+-- a system finishes if it has no blocked pair, and no race is left where these are told
+pub finishes_so : (r : ReadyChart) (only : Option (List Bool)) (k : StickFacts)
+    → (nat_eq (length (blocked_pairs_of r)) 0 && has_none_left r only k) ≡ finishes r only k
+finishes_so r None k = alone (nat_eq (length (blocked_pairs_of r)) 0)
+  where
+    -- without a list, no race is told
+    alone : (all : Bool) → (all && true) ≡ all
+    alone true = refl
+    alone false = refl
+finishes_so r (Some lines) k = both (nat_eq (length (blocked_pairs_of r)) 0) (nat_eq (length (left_pairs r k)) 0)
+  where
+    -- with one, races are told where no blocked pair is
+    both : (all left : Bool) → (all && cond all left true) ≡ (all && left)
+    both true left = refl
+    both false left = refl
 
 -- what is known of two rounds is of the chart of two rounds
 pub rounds_unrolled : (d : Drawing) (queues : Queues) (only : Option (List Bool)) (two : Option StickTable) → AreRoundsOf d queues only two → AreUnrolled d two
 rounds_unrolled d queues only None are = tt
 rounds_unrolled d queues only (Some two) are = (are.0.chart, are.1)
 
--- the answer on a chart and that on two rounds are the answer
+-- what is printed of races that are left and of two rounds, in the order of the format
+pub last_prints : (a b c : Printed) (format : ReadyFormat) (left again : List ℕ) → left_comes_last format ≡ true
+    → Prints a b again → Prints b c left → Prints a c (rest_in format left again)
+last_prints a b c format left again last first then =
+    subst (λ (l : Bool). Prints a c (cond l (again ++ left) (left ++ again))) (sym last) (prints_then a b c again left first then)
+
+pub above_prints : (a b c : Printed) (format : ReadyFormat) (left again : List ℕ) → left_comes_last format ≡ false
+    → Prints a b left → Prints b c again → Prints a c (rest_in format left again)
+above_prints a b c format left again above first then =
+    subst (λ (l : Bool). Prints a c (cond l (again ++ left) (left ++ again))) (sym above) (prints_then a b c left again first then)
+
+-- what is printed of a chart, and what follows it, are the answer
 pub answer_prints : (a b c : Printed) (answer : ReadyAnswer) (text : List ℕ) (is : IsReadyText answer text)
-    → Prints a b (ready_text answer.query.style answer.one.now.blocked_pairs (option_copied answer.query.only) answer.query.show is.known)
-    → Prints b c is.behind → Prints a c text
+    → Prints a b (ready_text answer.query.format answer.one.now.blocked_pairs (option_copied answer.query.only) answer.query.show is.known)
+    → Prints b c (rest_in answer.query.format (left_text answer.query.format answer.one.now.blocked_pairs (option_copied answer.query.only) is.known) is.behind)
+    → Prints a c text
 answer_prints a b c answer text is first then =
     subst (Prints a c) (sym is.same)
-    (prints_then a b c (ready_text answer.query.style answer.one.now.blocked_pairs (option_copied answer.query.only) answer.query.show is.known) is.behind first then)
+    (prints_then a b c (ready_text answer.query.format answer.one.now.blocked_pairs (option_copied answer.query.only) answer.query.show is.known)
+    (rest_in answer.query.format (left_text answer.query.format answer.one.now.blocked_pairs (option_copied answer.query.only) is.known) is.behind) first then)

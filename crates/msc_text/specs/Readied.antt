@@ -1,5 +1,5 @@
 -- The rows of blocked pairs and of races that are left, and the answer on ready instances.
-use Rattle.std.specs.Prelude.{◌≡◌, ℕ, ◌<◌, ◌&&◌, Bool, true, List, [], ◌++◌, Option, None, Some, MatchOption, IsTrue, length, nat_eq, is_some}
+use Rattle.std.specs.Prelude.{◌≡◌, ℕ, ◌<◌, ◌&&◌, Bool, true, cond, List, [], ◌++◌, Option, None, Some, MatchOption, IsTrue, length, nat_eq, is_some}
 use Rattle.std.specs.List.{All}
 use Rattle.std.specs.Option.{option_copied}
 use Rattle.msc_chart.specs.declared.queue.Queues.{Queues}
@@ -10,11 +10,11 @@ use Rattle.msc_ready.specs.Held.{ready_in, wiring_of, HasVisualOrder, ReadyChart
 use Rattle.msc_ready.specs.Rounds.{between_of, AreBetween}
 use Rattle.msc_ready.specs.Running.{AreBlockedPairRuns}
 use Rattle.msc_ready.specs.BlockedPairs.{IsBlockedPair}
-use Rattle.msc_ready.specs.Views.{HasAhead}
+use Rattle.msc_ready.specs.Views.{blocked_pairs_of, HasAhead}
 use Rattle.msc_reason.specs.Named.{AreEventsOf}
 use Rattle.msc_report.specs.EventTexts.{AreTextsOf}
-use Rattle.msc_report.specs.declared.style.Style.{Style}
-use Rattle.msc_text.specs.Readying.{again_text, finishes, lines_of, more_after, ready_text, AreStickFacts, StickFacts, PrintsAgain, StickTexts}
+use Rattle.msc_report.specs.declared.ready_format.ReadyFormat.{ReadyFormat}
+use Rattle.msc_text.specs.Readying.{again_text, finishes, left_pairs, left_text, lines_of, more_after, ready_text, rest_in, tells_left, AreStickFacts, StickFacts, PrintsAgain, StickTexts}
 use Rattle.msc_text.specs.declared.readying.ReadyAnswer.{ReadyAnswer}
 use Rattle.msc_text.specs.declared.readying.StickTable.{StickTable}
 use Rattle.msc_text.specs.declared.blocked_pairs.KnownRun.{KnownRun}
@@ -80,18 +80,23 @@ abbrev pub has_none_between : Drawing → Option StickTable → Bool
 has_none_between d None = true
 has_none_between d (Some two) = nat_eq (length (between_of two.blocked_pairs d)) 0
 
+-- no race is left, if those that are left are told
+abbrev pub has_none_left : ReadyChart → Option (List Bool) → StickFacts → Bool
+has_none_left r only k =
+    cond (tells_left only (length (blocked_pairs_of r))) (nat_eq (length (left_pairs r k)) 0) true
+
 -- this is the text on the blocked pairs between two rounds, if they are asked for
-abbrev pub IsAgainText : Style → Drawing → Option StickTable → ℕ → List ℕ → Type 0
-IsAgainText style d None more text = text ≡ []
-IsAgainText style d (Some two) more text =
+abbrev pub IsAgainText : ReadyFormat → Drawing → Option StickTable → ℕ → List ℕ → Type 0
+IsAgainText format d None more text = text ≡ []
+IsAgainText format d (Some two) more text =
     (runs : ℕ → List ℕ) × AreBlockedPairRuns (wiring_of two.blocked_pairs) (ready_in two.blocked_pairs) runs
-    × (text ≡ again_text style d two.blocked_pairs two.ahead.items runs more)
+    × (text ≡ again_text format d two.blocked_pairs two.ahead.items runs more)
 
 -- there is such a text, and it is what is promised
 abbrev pub HasAgainText : Drawing → Queues → Option (List Bool) → Option StickTable → Type 0
 HasAgainText d queues only two =
-    (more : ℕ) (style : Style) → (text : List ℕ) × IsAgainText style d two more text
-    × PrintsAgain (is_some two) d queues only more style (has_none_between d two) text
+    (more : ℕ) (format : ReadyFormat) → (text : List ℕ) × IsAgainText format d two more text
+    × PrintsAgain (is_some two) d queues only more format (has_none_between d two) text
 
 -- the answer can be printed
 pub record CanPrintReady (answer : ReadyAnswer) : Type 0 where
@@ -99,6 +104,7 @@ pub record CanPrintReady (answer : ReadyAnswer) : Type 0 where
   pub ahead : HasAhead answer.one.now.blocked_pairs answer.one.now.ahead.items
   pub texts : AreTextsOf answer.one.now.blocked_pairs.chart answer.texts.now
   pub two : AreUnrolled answer.names.chart.now (option_copied answer.two)
+  pub count : answer.count ≡ length (blocked_pairs_of answer.one.now.blocked_pairs)
 
 -- this is its text
 pub record IsReadyText (answer : ReadyAnswer) (text : List ℕ) : Type 0 where
@@ -107,8 +113,10 @@ pub record IsReadyText (answer : ReadyAnswer) (text : List ℕ) : Type 0 where
   pub ahead : known.ahead ≡ answer.one.now.ahead.items
   pub may : known.may ≡ answer.may
   pub behind : List ℕ
-  pub again : IsAgainText answer.query.style answer.names.chart.now (option_copied answer.two) (more_after answer.one.now.blocked_pairs answer.query.show known) behind
-  pub same : text ≡ ready_text answer.query.style answer.one.now.blocked_pairs (option_copied answer.query.only) answer.query.show known ++ behind
+  pub again : IsAgainText answer.query.format answer.names.chart.now (option_copied answer.two) (more_after answer.one.now.blocked_pairs answer.query.show known) behind
+  pub same : text
+      ≡ ready_text answer.query.format answer.one.now.blocked_pairs (option_copied answer.query.only) answer.query.show known
+      ++ rest_in answer.query.format (left_text answer.query.format answer.one.now.blocked_pairs (option_copied answer.query.only) known) behind
 
 -- and it is answered whether the system finishes, and there is no blocked pair between two rounds
 abbrev pub IsReadyAnswer : ReadyAnswer → Bool → Type 0

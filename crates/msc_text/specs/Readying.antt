@@ -1,6 +1,6 @@
 -- What is printed of a chart whose instances are ready, or some of them.
-use Rattle.std.specs.Prelude.{◌≡◌, ◌↔◌, ◌-◌, ℕ, Bool, true, false, ◌&&◌, cond, List, [], ◌∷◌, ◌++◌, Option, None, Some, IsTrue, get_or, is_some, length, nat_eq}
-use Rattle.std.specs.List.{flat_map}
+use Rattle.std.specs.Prelude.{◌≡◌, ◌↔◌, ◌-◌, ℕ, Bool, true, false, ◌&&◌, cond, not, List, [], ◌++◌, Option, None, Some, IsTrue, get_or, is_some, length, nat_eq}
+use Rattle.std.specs.List.{count_by, flat_map}
 use Rattle.msc_chart.specs.declared.queue.Queues.{Queues}
 use Rattle.msc_chart.specs.Drawings.{Drawing, IsAccepted}
 use Rattle.msc_chart.specs.Lists.{pairs_of}
@@ -13,10 +13,11 @@ use Rattle.msc_ready.specs.Rounds.{between_of, AreBetween}
 use Rattle.msc_ready.specs.Running.{AreBlockedPairRuns}
 use Rattle.msc_ready.specs.BlockedPairs.{AreLeft}
 use Rattle.msc_ready.specs.Views.{blocked_pairs_of, AreAhead, AreBlockedPairs}
-use Rattle.msc_report.specs.Rounds.{again_behind, again_count, again_stick, round_run_text}
-use Rattle.msc_report.specs.BlockedPairs.{bare_stick, behind_line, left_line, left_race, ready_head}
-use Rattle.msc_report.specs.Styles.{run_text}
-use Rattle.msc_report.specs.declared.style.Style.{Style}
+use Rattle.msc_report.specs.BlockedPairs.{ready_head}
+use Rattle.msc_report.specs.Counts.{ready_tally_line}
+use Rattle.msc_report.specs.ReadyFormats.{left_comes_last, ready_again_behind, ready_again_count, ready_again_run, ready_again_stick, ready_behind, ready_left, ready_left_count, ready_run, ready_stick, runs_shown}
+use Rattle.msc_report.specs.declared.ready_format.ReadyFormat.{ReadyFormat}
+use Rattle.msc_report.specs.declared.ready_format.ReadyFormat.TheVariants.{Lines, Count, Editor}
 
 -- what is known of a chart with ready instances: whether some ready run is whole, of each event as
 -- the second of blocked pairs which blocked pair is ahead of it, the run of each that is first, and
@@ -37,6 +38,10 @@ pub record AreStickFacts (r : ReadyChart) (k : StickFacts) : Type 0 where
 -- the blocked pair that is ahead of those with this second event, where there is one
 abbrev pub ahead_in : List (Option (ℕ × ℕ)) → ℕ → Option (ℕ × ℕ)
 ahead_in all f = get_or all f None
+
+-- how many of these blocked pairs are first: no blocked pair is ahead of them
+abbrev pub first_in : List (Option (ℕ × ℕ)) → List (ℕ × ℕ) → ℕ
+first_in ahead pairs = count_by (λ p. not (is_some (ahead_in ahead p.1))) pairs
 
 -- a run, where so many more are shown
 abbrev pub shown_run : ℕ → List ℕ → Option (List ℕ)
@@ -63,19 +68,19 @@ pub record StickTexts : Type 0 where
   pub run : List ℕ → List ℕ
 
 -- those of a chart
-abbrev pub once_texts : Style → Drawing → StickTexts
-once_texts style d = record {
-  bare = λ p. bare_stick style d p.0 p.1;
-  behind = behind_line;
-  run = run_text style.words d;
+abbrev pub once_texts : ReadyFormat → Drawing → StickTexts
+once_texts format d = record {
+  bare = ready_stick format d;
+  behind = ready_behind format;
+  run = ready_run format d;
 }
 
 -- those of two rounds of a chart
-abbrev pub again_texts : Style → Drawing → StickTexts
-again_texts style d = record {
-  bare = λ p. again_stick style d p.0 p.1;
-  behind = again_behind d;
-  run = round_run_text style.words d;
+abbrev pub again_texts : ReadyFormat → Drawing → StickTexts
+again_texts format d = record {
+  bare = ready_again_stick format d;
+  behind = ready_again_behind format d;
+  run = ready_again_run format d;
 }
 
 -- what shows a blocked pair: which one is ahead of it, or, where none is, a run, where one is shown
@@ -95,8 +100,8 @@ told_sticks texts ahead runs more blocked_pairs =
     rows_from (told_stick texts ahead (λ p. runs p.1)) (after_stick ahead) more blocked_pairs
 
 -- how many races are left, and each of them in their order
-abbrev pub told_left : Style → Drawing → List (ℕ × ℕ) → List ℕ
-told_left style d pairs = left_line (length pairs) ++ flat_map (left_race style d) pairs
+abbrev pub told_left : ReadyFormat → Drawing → List (ℕ × ℕ) → List ℕ
+told_left format d pairs = ready_left_count format (length pairs) ++ flat_map (ready_left format d) pairs
 
 -- the races that are left are told where not all instances are ready, and there is no blocked pair
 abbrev pub tells_left : Option (List Bool) → ℕ → Bool
@@ -116,17 +121,27 @@ abbrev pub finishes : ReadyChart → Option (List Bool) → StickFacts → Bool
 finishes r None k = nat_eq (length (blocked_pairs_of r)) 0
 finishes r (Some lines) k = nat_eq (length (blocked_pairs_of r)) 0 && nat_eq (length (left_pairs r k)) 0
 
--- what is written behind the head
-abbrev pub body_text : Style → ReadyChart → Option (List Bool) → ℕ → StickFacts → List ℕ
-body_text style r only show k =
-    cond (tells_left only (length (blocked_pairs_of r)))
-    (told_left style r.chart (left_pairs r k))
-    (told_sticks (once_texts style r.chart) k.ahead k.runs show (blocked_pairs_of r))
+-- what is written before the blocked pairs: in lines of text a head, and for a count the line of the
+-- file
+abbrev pub head_in : ReadyFormat → ReadyChart → Option (List Bool) → StickFacts → List ℕ
+head_in (Lines style) r only k = ready_head r.chart r.queues only (length (blocked_pairs_of r)) k.may
+head_in (Count file) r only k = ready_tally_line file.now (length (blocked_pairs_of r)) (first_in k.ahead (blocked_pairs_of r))
+head_in (Editor event_positions) r only k = []
 
--- all that is written
-abbrev pub ready_text : Style → ReadyChart → Option (List Bool) → ℕ → StickFacts → List ℕ
-ready_text style r only show k =
-    ready_head r.chart r.queues only (length (blocked_pairs_of r)) k.may ++ body_text style r only show k
+-- what is written of the races that are left, where they are told
+abbrev pub left_text : ReadyFormat → ReadyChart → Option (List Bool) → StickFacts → List ℕ
+left_text format r only k =
+    cond (tells_left only (length (blocked_pairs_of r))) (told_left format r.chart (left_pairs r k)) []
+
+-- the head and the blocked pairs, with runs for so many that are first
+abbrev pub ready_text : ReadyFormat → ReadyChart → Option (List Bool) → ℕ → StickFacts → List ℕ
+ready_text format r only show k =
+    head_in format r only k ++ told_sticks (once_texts format r.chart) k.ahead k.runs show (blocked_pairs_of r)
+
+-- what follows these, of races that are left and of two rounds: in lines for editors the former come
+-- last
+abbrev pub rest_in : ReadyFormat → List ℕ → List ℕ → List ℕ
+rest_in format left again = cond (left_comes_last format) (again ++ left) (left ++ again)
 
 -- how many more runs are shown behind it
 abbrev pub more_after : ReadyChart → ℕ → StickFacts → ℕ
@@ -134,14 +149,15 @@ more_after r show k = left_behind k.ahead show (blocked_pairs_of r)
 
 -- what is written of the blocked pairs between two rounds: how many there are, and each of them in
 -- their order, where so many more runs are shown
-abbrev pub again_text : Style → Drawing → ReadyChart → List (Option (ℕ × ℕ)) → (ℕ → List ℕ) → ℕ → List ℕ
-again_text style d two ahead runs more =
-    again_count (length (between_of two d)) ++ told_sticks (again_texts style d) ahead runs more (between_of two d)
+abbrev pub again_text : ReadyFormat → Drawing → ReadyChart → List (Option (ℕ × ℕ)) → (ℕ → List ℕ) → ℕ → List ℕ
+again_text format d two ahead runs more =
+    ready_again_count format (length (between_of two d))
+    ++ told_sticks (again_texts format d) ahead runs more (between_of two d)
 
 -- What is printed of the blocked pairs between two rounds of a chart, where so many more runs are
 -- shown, and whether there is none. The blocked pair that is ahead of one is that of all blocked
 -- pairs of two rounds.
-pub record PrintsBetween (d : Drawing) (queues : Queues) (only : Option (List Bool)) (more : ℕ) (style : Style) (none : Bool) (printed : List ℕ) : Type 0 where
+pub record PrintsBetween (d : Drawing) (queues : Queues) (only : Option (List Bool)) (more : ℕ) (format : ReadyFormat) (none : Bool) (printed : List ℕ) : Type 0 where
   pub order : Table
   pub visual : HasVisualOrder (ready_chart (two_rounds d) queues (lines_of only) order)
   pub blocked_pairs : AreBetween (ready_chart (two_rounds d) queues (lines_of only) order) d (between_of (ready_chart (two_rounds d) queues (lines_of only) order) d)
@@ -150,17 +166,17 @@ pub record PrintsBetween (d : Drawing) (queues : Queues) (only : Option (List Bo
   pub runs : ℕ → List ℕ
   pub are_runs : AreBlockedPairRuns (wiring_of (ready_chart (two_rounds d) queues (lines_of only) order)) (ready_in (ready_chart (two_rounds d) queues (lines_of only) order)) runs
   pub answered : none ≡ nat_eq (length (between_of (ready_chart (two_rounds d) queues (lines_of only) order) d)) 0
-  pub text : printed ≡ again_text style d (ready_chart (two_rounds d) queues (lines_of only) order) ahead runs more
+  pub text : printed ≡ again_text format d (ready_chart (two_rounds d) queues (lines_of only) order) ahead runs more
 
 -- the same, where two rounds are asked for; else nothing is printed
-abbrev pub PrintsAgain : Bool → Drawing → Queues → Option (List Bool) → ℕ → Style → Bool → List ℕ → Type 0
-PrintsAgain false d queues only more style none printed = (none ≡ true) × (printed ≡ [])
-PrintsAgain true d queues only more style none printed = PrintsBetween d queues only more style none printed
+abbrev pub PrintsAgain : Bool → Drawing → Queues → Option (List Bool) → ℕ → ReadyFormat → Bool → List ℕ → Type 0
+PrintsAgain false d queues only more format none printed = (none ≡ true) × (printed ≡ [])
+PrintsAgain true d queues only more format none printed = PrintsBetween d queues only more format none printed
 
--- What is printed of a chart whose instances are ready, or those of a list, where runs are shown
--- for so many first blocked pairs, and whether the system finishes; and behind it of two rounds,
--- where they are asked for, and whether there is no blocked pair between them.
-pub record PrintsReady (d : Drawing) (queues : Queues) (only : Option (List Bool)) (again : Bool) (show : ℕ) (style : Style) (passed : Bool) (printed : List ℕ) : Type 0 where
+-- What is printed of a chart whose instances are ready, or those of a list, in a format, where runs
+-- are shown for so many first blocked pairs if the format has them, and whether the system finishes;
+-- and of two rounds, where they are asked for, and whether there is no blocked pair between them.
+pub record PrintsReady (d : Drawing) (queues : Queues) (only : Option (List Bool)) (again : Bool) (show : ℕ) (format : ReadyFormat) (passed : Bool) (printed : List ℕ) : Type 0 where
   pub accepted : IsAccepted d
   pub order : Table
   pub visual : HasVisualOrder (ready_chart d queues (lines_of only) order)
@@ -169,6 +185,8 @@ pub record PrintsReady (d : Drawing) (queues : Queues) (only : Option (List Bool
   pub is : AreStickFacts (ready_chart d queues (lines_of only) order) known
   pub none : Bool
   pub behind : List ℕ
-  pub rounds : PrintsAgain again d queues only (more_after (ready_chart d queues (lines_of only) order) show known) style none behind
+  pub rounds : PrintsAgain again d queues only (more_after (ready_chart d queues (lines_of only) order) (runs_shown format show) known) format none behind
   pub answered : passed ≡ (finishes (ready_chart d queues (lines_of only) order) only known && none)
-  pub text : printed ≡ ready_text style (ready_chart d queues (lines_of only) order) only show known ++ behind
+  pub text : printed
+      ≡ ready_text format (ready_chart d queues (lines_of only) order) only (runs_shown format show) known
+      ++ rest_in format (left_text format (ready_chart d queues (lines_of only) order) only known) behind

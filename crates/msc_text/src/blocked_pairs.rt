@@ -15,7 +15,7 @@ use msc_chart::Event;
 use msc_print::{Page, Pair, Printer, Rows, Text};
 use msc_ready::BlockedPairs;
 use msc_ready::laws::{each_first_blocked_pair_has_one_run, ready_runs_keep_ready_lines};
-use msc_report::{EventNames, Style};
+use msc_report::{EventNames, ReadyFormat};
 use std::alloc::{AllocError, Global};
 use std::io::Write;
 
@@ -23,7 +23,7 @@ use std::io::Write;
 #[derive(Drop)]
 struct StickRow<'r, N> {
     names: &'r N,
-    style: Style<'r>,
+    format: ReadyFormat<'r>,
     blocked_pair: Pair,
     ahead: Option<Pair>,
     run: Option<&'r [Event]>,
@@ -35,16 +35,16 @@ impl<N: EventNames> StickRow<'_, N> {
         requires { CanAppendStick (N.drawing self.now.names.now) self.now.blocked_pair self.now.ahead
             (option_copied self.now.run) }
         ensures { OnOk result (page.new.bytes.items ≡ page.old.bytes.items
-            ++ showing_text (stick_texts (N.stick_text self.now.names.now self.now.style)
-            (N.behind_text self.now.names.now)
-            (N.run_lines self.now.names.now self.now.style.words))
+            ++ showing_text (stick_texts (N.stick_text self.now.names.now self.now.format)
+            (N.behind_text self.now.names.now self.now.format)
+            (N.run_lines self.now.names.now self.now.format))
             self.now.ahead (option_copied self.now.run)) }
     {
         if let Some(ahead) = self.ahead {
-            return self.names.print_behind(page, ahead);
+            return self.names.print_behind(page, self.format, ahead);
         }
         match self.run {
-            Some(run) => self.names.print_run(page, self.style.words, run),
+            Some(run) => self.names.print_run(page, self.format, run),
             None => Ok(()),
         }
     }
@@ -54,14 +54,14 @@ impl<N: EventNames> Text for StickRow<'_, N> {
     ghost can_append = { λ s. CanAppendStick (N.drawing s.names.now) s.blocked_pair s.ahead
         (option_copied s.run) };
 
-    ghost bytes = { λ s. N.stick_text s.names.now s.style s.blocked_pair
-        ++ showing_text (stick_texts (N.stick_text s.names.now s.style)
-        (N.behind_text s.names.now) (N.run_lines s.names.now s.style.words))
+    ghost bytes = { λ s. N.stick_text s.names.now s.format s.blocked_pair
+        ++ showing_text (stick_texts (N.stick_text s.names.now s.format)
+        (N.behind_text s.names.now s.format) (N.run_lines s.names.now s.format))
         s.ahead (option_copied s.run) };
 
     fn append(&self, page: &mut Page) -> Result<(), AllocError> {
         self.names
-            .print_blocked_pair(page, self.blocked_pair, self.style)?;
+            .print_blocked_pair(page, self.format, self.blocked_pair)?;
         self.print_shown(page)
     }
 }
@@ -95,7 +95,7 @@ pub(crate) struct StickRows<'r, 'a, N> {
     /// For each event the blocked pair that is ahead of those that end with it.
     pub ahead: &'r [Option<Pair>],
     pub names: N,
-    pub style: Style<'r>,
+    pub format: ReadyFormat<'r>,
 }
 
 impl<N: EventNames> StickRows<'_, '_, N> {
@@ -108,14 +108,16 @@ impl<N: EventNames> StickRows<'_, '_, N> {
         run: Option<&[Event]>,
     )
         requires { CanAppendStick (N.drawing self.now.names) blocked_pair ahead (option_copied run) }
-        ensures { Prints printer.old printer.new (N.stick_text self.now.names self.now.style blocked_pair
-            ++ showing_text (stick_texts (N.stick_text self.now.names self.now.style)
-            (N.behind_text self.now.names) (N.run_lines self.now.names self.now.style.words))
+        ensures { Prints printer.old printer.new
+            (N.stick_text self.now.names self.now.format blocked_pair
+            ++ showing_text (stick_texts (N.stick_text self.now.names self.now.format)
+            (N.behind_text self.now.names self.now.format)
+            (N.run_lines self.now.names self.now.format))
             ahead (option_copied run.entry)) }
     {
         printer.print_text(&StickRow {
             names: &self.names,
-            style: self.style,
+            format: self.format,
             blocked_pair,
             ahead,
             run,
@@ -140,8 +142,8 @@ impl<N: EventNames> StickRows<'_, '_, N> {
         ensures printed { (runs : ℕ → List ℕ)
             → AreBlockedPairRuns (wiring_of self.now.blocked_pairs.now) (ready_in self.now.blocked_pairs.now) runs
             → Prints printer.old printer.new
-            (N.stick_text self.now.names self.now.style blocked_pair
-            ++ N.run_lines self.now.names self.now.style.words (runs blocked_pair.1)) }
+            (N.stick_text self.now.names self.now.format blocked_pair
+            ++ N.run_lines self.now.names self.now.format (runs blocked_pair.1)) }
     {
         each_first_blocked_pair_has_one_run();
         ready_runs_keep_ready_lines();
@@ -183,9 +185,10 @@ impl<N: EventNames> StickRows<'_, '_, N> {
         ensures printed { (runs : ℕ → List ℕ)
             → AreBlockedPairRuns (wiring_of self.now.blocked_pairs.now) (ready_in self.now.blocked_pairs.now) runs
             → Prints printer.old printer.new
-            (N.stick_text self.now.names self.now.style blocked_pair
-            ++ showing_text (stick_texts (N.stick_text self.now.names self.now.style)
-            (N.behind_text self.now.names) (N.run_lines self.now.names self.now.style.words))
+            (N.stick_text self.now.names self.now.format blocked_pair
+            ++ showing_text (stick_texts (N.stick_text self.now.names self.now.format)
+            (N.behind_text self.now.names self.now.format)
+            (N.run_lines self.now.names self.now.format))
             None (shown_run more (runs blocked_pair.1))) }
     {
         if more == 0 {
@@ -204,8 +207,8 @@ impl<N: EventNames> Rows for StickRows<'_, '_, N> {
 
     ghost are_runs = { λ s runs. ArePairRuns s.blocked_pairs.now runs };
 
-    ghost row_text = { λ s runs. told_stick (stick_texts (N.stick_text s.names s.style)
-        (N.behind_text s.names) (N.run_lines s.names s.style.words)) s.ahead.now runs };
+    ghost row_text = { λ s runs. told_stick (stick_texts (N.stick_text s.names s.format)
+        (N.behind_text s.names s.format) (N.run_lines s.names s.format)) s.ahead.now runs };
 
     ghost after = { λ s. after_stick s.ahead.now };
 

@@ -1,55 +1,48 @@
 //! The rows of races that are left.
 
 ghost use Rattle.std.specs.Prelude.{◌<◌, length};
-ghost use Rattle.msc_report.specs.EventTexts.{AreTextsOf};
-ghost use Rattle.msc_report.specs.BlockedPairs.{left_race};
+ghost use Rattle.msc_report.specs.ReadyFormats.{ready_left};
 
-use msc_chart::Chart;
 use msc_print::{Page, Pair, Printer, Rows, Text};
-use msc_report::{EventTexts, Style, print_left_race};
+use msc_report::{OneRound, ReadyFormat};
 use std::alloc::{AllocError, Global};
 use std::io::Write;
 
-/// A race that is left, with its place if places are printed.
+/// A race that is left, in a format.
 #[derive(Clone, Copy)]
-struct LeftRow<'r, 't> {
-    chart: &'r Chart,
-    texts: &'t EventTexts,
-    style: Style<'r>,
+struct LeftRow<'r, 'f> {
+    names: OneRound<'r>,
+    format: ReadyFormat<'f>,
     race: Pair,
-    ghost made: { AreTextsOf chart.now texts.now },
 }
 
 impl Text for LeftRow<'_, '_> {
-    ghost can_append = { λ s. (s.race.0 < length s.chart.now.events)
-        × (s.race.1 < length s.chart.now.events) };
+    ghost can_append = { λ s. (s.race.0 < length s.names.chart.now.events)
+        × (s.race.1 < length s.names.chart.now.events) };
 
-    ghost bytes = { λ s. left_race s.style s.chart.now s.race };
+    ghost bytes = { λ s. ready_left s.format s.names.chart.now s.race };
 
     fn append(&self, page: &mut Page) -> Result<(), AllocError> {
-        print_left_race(page, self.texts, self.race.0, self.race.1, self.style)
+        self.names.print_left_race(page, self.format, self.race)
     }
 }
 
 /// The rows of races that are left. The count stays as it is.
 #[derive(Clone, Copy)]
-pub(crate) struct LeftRows<'r, 't> {
-    pub chart: &'r Chart,
-    /// The texts of its events.
-    pub texts: &'t EventTexts,
-    pub style: Style<'r>,
-    ghost made: { AreTextsOf chart.now texts.now },
+pub(crate) struct LeftRows<'r, 'f> {
+    pub names: OneRound<'r>,
+    pub format: ReadyFormat<'f>,
 }
 
 impl Rows for LeftRows<'_, '_> {
     type Memo = ();
 
-    ghost can_print = { λ s p. (p.0 < length s.chart.now.events)
-        × (p.1 < length s.chart.now.events) };
+    ghost can_print = { λ s p. (p.0 < length s.names.chart.now.events)
+        × (p.1 < length s.names.chart.now.events) };
 
     ghost are_runs = { λ s runs. Unit {0} };
 
-    ghost row_text = { λ s runs n p. left_race s.style s.chart.now p };
+    ghost row_text = { λ s runs n p. ready_left s.format s.names.chart.now p };
 
     ghost after = { λ s n p. n };
 
@@ -68,9 +61,8 @@ impl Rows for LeftRows<'_, '_> {
         pair: Pair,
     ) -> u32 {
         printer.print_text(&LeftRow {
-            chart: self.chart,
-            texts: self.texts,
-            style: self.style,
+            names: self.names,
+            format: self.format,
             race: pair,
         });
         count

@@ -1,7 +1,8 @@
 //! Whether a system of ready instances can stick, in bytes.
 
-ghost use Rattle.std.specs.Prelude.{◌≡◌, ℕ, Bool, List, ◌++◌, IfOk, None, Option};
-ghost use Rattle.std.specs.Prelude.{Some, is_some, length, nat_eq};
+ghost use Rattle.std.specs.Prelude.{◌≡◌, ◌<◌, ℕ, ◌&&◌, Bool, List, IfOk, Option, Some, is_some};
+ghost use Rattle.std.specs.Prelude.{length, nat_eq};
+ghost use Rattle.std.specs.List.{All};
 ghost use Rattle.std.specs.Option.{option_copied};
 ghost use Rattle.msc_chart.specs.Drawings.{Drawing};
 ghost use Rattle.msc_chart.specs.Lists.{pairs_of};
@@ -13,14 +14,17 @@ ghost use Rattle.msc_ready.specs.Rounds.{between_of};
 ghost use Rattle.msc_ready.specs.Running.{AreBlockedPairRuns};
 ghost use Rattle.msc_ready.specs.BlockedPairs.{AreLeft};
 ghost use Rattle.msc_ready.specs.Views.{blocked_pairs_of, HasAhead};
+ghost use Rattle.msc_report.specs.Counts.{ready_tally_line};
 ghost use Rattle.msc_report.specs.EventTexts.{AreTextsOf};
 ghost use Rattle.msc_report.specs.BlockedPairs.{ready_head};
-ghost use Rattle.msc_text.specs.Readying.{again_text, body_text, finishes, left_behind, lines_of};
-ghost use Rattle.msc_text.specs.Readying.{more_after, once_texts, ready_text, told_left};
-ghost use Rattle.msc_text.specs.Readying.{told_sticks};
+ghost use Rattle.msc_report.specs.ReadyFormats.{ready_again_count, ready_left_count};
+ghost use Rattle.msc_text.specs.Readying.{again_text, first_in, head_in, left_behind, left_text};
+ghost use Rattle.msc_text.specs.Readying.{lines_of, more_after, once_texts, ready_text, rest_in};
+ghost use Rattle.msc_text.specs.Readying.{told_left, told_sticks};
 ghost use Rattle.msc_text.specs.Readying.{AreStickFacts, StickFacts, PrintsReady};
 ghost use Rattle.msc_text.specs.Judging.{AreItsRounds};
-ghost use Rattle.msc_text.specs.Readied.{has_none_between, AreBetweenRounds, AreRoundsOf};
+ghost use Rattle.msc_text.specs.Readied.{has_none_between, has_none_left, AreBetweenRounds};
+ghost use Rattle.msc_text.specs.Readied.{AreRoundsOf};
 ghost use Rattle.msc_text.specs.Readied.{AreUnrolled};
 ghost use Rattle.msc_text.specs.Readied.{CanPrintReady, HasAgainText, IsAgainText, IsReadyAnswer};
 ghost use Rattle.msc_text.specs.Readied.{IsReadyOf, IsReadyText};
@@ -30,10 +34,12 @@ use crate::left::LeftRows;
 use crate::sources::{AllBlockedPairs, BlockedPairsBetween, LeftRaces};
 use msc_chart::laws::ends_share_queues;
 use msc_chart::{Chart, Event, Queues, RoundNumbers, Unrolled};
-use msc_print::{Page, Print, Printer, Text, WriteFault, print_pairs, write_by};
+use msc_print::{Page, Pair, Print, Printer, Text, WriteFault, print_pairs, write_by};
 use msc_ready::laws::{each_first_blocked_pair_has_one_run, races_left_are_told};
 use msc_ready::{BlockedPairs, Ready, RoundBlockedPairs};
-use msc_report::{EventTexts, OneRound, RoundNames, Style, write_ready_head};
+use msc_report::{
+    EventTexts, OneRound, ReadyFormat, RoundNames, write_ready_head, write_ready_tally,
+};
 use std::alloc::{AllocError, Global};
 use std::io::Write;
 
@@ -44,10 +50,10 @@ pub struct ReadyQuery<'q> {
     pub queues: Queues,
     /// Which instances are ready. Without a list, all are.
     pub only: Option<&'q [bool]>,
-    /// The number of first blocked pairs for which a run is printed.
+    /// The number of first blocked pairs for which a run is printed, if the format has runs.
     pub show: u32,
-    /// How events are printed.
-    pub style: Style<'q>,
+    /// The format of the answer.
+    pub format: ReadyFormat<'q>,
 }
 
 impl<'q> ReadyQuery<'q> {
@@ -56,20 +62,20 @@ impl<'q> ReadyQuery<'q> {
         queues: Queues,
         only: Option<&'q [bool]>,
         show: u32,
-        style: Style<'q>,
+        format: ReadyFormat<'q>,
     ) -> ReadyQuery<'q>
         ensures { result ≡ record {
           queues = queues;
           only = only.entry;
           show = show;
-          style = style.entry;
+          format = format.entry;
         } }
     {
         ReadyQuery {
             queues,
             only,
             show,
-            style,
+            format,
         }
     }
 }
@@ -92,6 +98,42 @@ fn ready_of<'a>(
             Ready::some(alloc, chart, queues, list)
         }
         None => Ready::all(alloc, chart, queues),
+    }
+}
+
+/// The number of these blocked pairs that are first, that is, with no other ahead of them.
+fn first_in(ahead: &[Option<Pair>], pairs: &[Pair]) -> usize
+    requires { All (λ p. p.1 < length ahead.now) pairs.now }
+    ensures { result ≡ first_in ahead.now pairs.now }
+{
+    let mut count = 0;
+    for pair in pairs {
+        if ahead[pair.1 as usize].is_none() {
+            count += 1;
+        }
+    }
+    count
+}
+
+/// Prints the number of blocked pairs between two rounds, if the format has it.
+fn print_again_count<W: Write>(printer: &mut Printer<'_, W>, format: ReadyFormat<'_>, count: u32)
+    ensures { Prints printer.old printer.new (ready_again_count format.entry count) }
+{
+    match format {
+        ReadyFormat::Lines(_) => write!(printer, "again {count}\n"),
+        ReadyFormat::Count(_) => {}
+        ReadyFormat::Editor(_) => {}
+    }
+}
+
+/// Prints the number of races that are left, if the format has it.
+fn print_left_count<W: Write>(printer: &mut Printer<'_, W>, format: ReadyFormat<'_>, count: u32)
+    ensures { Prints printer.old printer.new (ready_left_count format.entry count) }
+{
+    match format {
+        ReadyFormat::Lines(_) => write!(printer, "races {count}\n"),
+        ReadyFormat::Count(_) => {}
+        ReadyFormat::Editor(_) => {}
     }
 }
 
@@ -140,6 +182,27 @@ impl<'a> StickTable<'a> {
         between.facts();
     }
 
+    /// The number of first blocked pairs, of `count` blocked pairs. An error is a growth of memory
+    /// that was refused.
+    fn count_first(&self, alloc: Global, count: u32) -> Result<u32, AllocError>
+        requires ahead { HasAhead self.now.blocked_pairs self.now.ahead.items }
+        requires count { count ≡ length (blocked_pairs_of self.now.blocked_pairs) }
+        ensures { IfOk result (λ first.
+            first ≡ first_in self.now.ahead.items (blocked_pairs_of self.now.blocked_pairs)) }
+    {
+        self.blocked_pairs.facts();
+        if count == 0 {
+            return Ok(0);
+        }
+        let mut pairs = Vec::new(alloc);
+        let mut first = 0;
+        for e in 0..self.blocked_pairs.ready().events() {
+            self.blocked_pairs.next(&mut pairs, e)?;
+            first += first_in(self.ahead.as_slice(), pairs.as_slice()) as u32;
+        }
+        Ok(first)
+    }
+
     /// Prints all blocked pairs, with runs for up to `show` first ones. It returns how many more
     /// runs may be shown.
     fn print_sticks<W: Write>(
@@ -147,7 +210,7 @@ impl<'a> StickTable<'a> {
         alloc: Global,
         printer: &mut Printer<'_, W>,
         texts: &EventTexts,
-        style: Style<'_>,
+        format: ReadyFormat<'_>,
         show: u32,
     ) -> Result<u32, AllocError>
         requires ahead { HasAhead self.now.blocked_pairs self.now.ahead.items }
@@ -157,7 +220,7 @@ impl<'a> StickTable<'a> {
         ensures printed { (runs : ℕ → List ℕ)
             → AreBlockedPairRuns (wiring_of self.now.blocked_pairs) (ready_in self.now.blocked_pairs) runs
             → Prints printer.old printer.new (told_sticks
-            (once_texts style.entry self.now.blocked_pairs.chart) self.now.ahead.items runs show
+            (once_texts format.entry self.now.blocked_pairs.chart) self.now.ahead.items runs show
             (blocked_pairs_of self.now.blocked_pairs)) }
     {
         self.blocked_pairs.facts();
@@ -172,20 +235,53 @@ impl<'a> StickTable<'a> {
             blocked_pairs: &self.blocked_pairs,
             ahead: self.ahead.as_slice(),
             names,
-            style,
+            format,
         };
         print_pairs(alloc, printer, &pairs, &mut Vec::new(alloc), &rows, show)
     }
 
+    /// Prints the number of races that are left, and then all of them. It returns whether there is
+    /// none.
+    fn print_races<W: Write>(
+        &self,
+        alloc: Global,
+        printer: &mut Printer<'_, W>,
+        texts: &EventTexts,
+        format: ReadyFormat<'_>,
+    ) -> Result<bool, AllocError>
+        requires { AreTextsOf self.now.blocked_pairs.chart texts.now }
+        ensures none { IfOk result (λ none. (left : ℕ → ℕ → Bool)
+            → AreLeft (wiring_of self.now.blocked_pairs) (ready_in self.now.blocked_pairs) left
+            → none ≡ nat_eq (length
+            (pairs_of left (length self.now.blocked_pairs.chart.events))) 0) }
+        ensures printed { (left : ℕ → ℕ → Bool)
+            → AreLeft (wiring_of self.now.blocked_pairs) (ready_in self.now.blocked_pairs) left
+            → Prints printer.old printer.new (told_left format.entry self.now.blocked_pairs.chart
+            (pairs_of left (length self.now.blocked_pairs.chart.events))) }
+    {
+        ends_share_queues();
+        let ready = self.blocked_pairs.ready();
+        ready.facts();
+        let count = ready.count_left();
+        print_left_count(printer, format, count);
+        let pairs = LeftRaces { ready };
+        let names = OneRound {
+            chart: ready.chart(),
+            texts,
+        };
+        let rows = LeftRows { names, format };
+        print_pairs(alloc, printer, &pairs, &mut Vec::new(alloc), &rows, 0)?;
+        Ok(count == 0)
+    }
+
     /// Prints the number of blocked pairs between two rounds, and then all of them, with runs for
-    /// up to
-    /// `show` first ones. It returns whether there is none.
+    /// up to `show` first ones. It returns whether there is none.
     fn print_between<W: Write>(
         &self,
         alloc: Global,
         printer: &mut Printer<'_, W>,
         names: RoundNames<'_>,
-        style: Style<'_>,
+        format: ReadyFormat<'_>,
         show: u32,
     ) -> Result<bool, AllocError>
         requires two_rounds { self.now.blocked_pairs.chart ≡ two_rounds names.chart.now }
@@ -194,7 +290,7 @@ impl<'a> StickTable<'a> {
             ≡ nat_eq (length (between_of self.now.blocked_pairs names.entry.chart.now)) 0) }
         ensures printed { (runs : ℕ → List ℕ)
             → AreBlockedPairRuns (wiring_of self.now.blocked_pairs) (ready_in self.now.blocked_pairs) runs
-            → Prints printer.old printer.new (again_text style.entry names.entry.chart.now
+            → Prints printer.old printer.new (again_text format.entry names.entry.chart.now
             self.now.blocked_pairs self.now.ahead.items runs show) }
     {
         names.chart.facts();
@@ -204,12 +300,12 @@ impl<'a> StickTable<'a> {
             names,
         };
         let count = pairs.rounds().count();
-        write!(printer, "again {count}\n");
+        print_again_count(printer, format, count);
         let rows = StickRows {
             blocked_pairs: &self.blocked_pairs,
             ahead: self.ahead.as_slice(),
             names,
-            style,
+            format,
         };
         print_pairs(alloc, printer, &pairs, &mut Vec::new(alloc), &rows, show)?;
         Ok(count == 0)
@@ -271,111 +367,98 @@ impl Text for ReadyHead<'_, '_> {
     }
 }
 
+/// The line of the file of this name, with these numbers of blocked pairs and of first ones.
+#[derive(Clone, Copy)]
+struct ReadyTally<'f> {
+    file: &'f [u8],
+    count: u32,
+    first: u32,
+}
+
+impl Text for ReadyTally<'_> {
+    ghost can_append = { λ s. Unit {0} };
+
+    ghost bytes = { λ s. ready_tally_line s.file.now s.count s.first };
+
+    fn append(&self, page: &mut Page) -> Result<(), AllocError> {
+        match write_ready_tally(page, self.file, self.count, self.first) {
+            Ok(()) => Ok(()),
+            Err(_) => Err(AllocError),
+        }
+    }
+}
+
+/// Whether a system with `count` blocked pairs passes, if no race is left and no blocked pair is
+/// between two rounds.
+fn passes(count: u32, none_left: bool, none_between: bool) -> bool
+    ensures { result ≡ ((nat_eq count 0 && none_left) && none_between) }
+{
+    count == 0 && none_left && none_between
+}
+
 /// The answer to a query: the table of the chart, that of its two rounds if the query includes
 /// them, and whether some ready run is whole.
 #[derive(Clone, Copy)]
-struct ReadyAnswer<'r, 'a, 's, 'b, 'n, 'q, 't> {
+struct ReadyAnswer<'r, 'a, 's, 'b, 'n, 'q> {
     one: &'r StickTable<'a>,
     /// The texts of the events of the chart.
-    texts: &'t EventTexts,
+    texts: &'r EventTexts,
     two: Option<&'s StickTable<'b>>,
     names: RoundNames<'n>,
+    /// The number of blocked pairs of the chart.
+    count: u32,
     may: bool,
     query: ReadyQuery<'q>,
 }
 
-impl ReadyAnswer<'_, '_, '_, '_, '_, '_, '_> {
-    /// Prints the number of races that are left, and then all of them. It returns whether there is
-    /// none.
+impl ReadyAnswer<'_, '_, '_, '_, '_, '_> {
+    /// Prints what precedes the blocked pairs. If memory runs out, the printer stops.
+    fn print_head<W: Write>(&self, alloc: Global, printer: &mut Printer<'_, W>)
+        requires { CanPrintReady self.now }
+        ensures { (k : StickFacts) → k.ahead ≡ self.now.one.now.ahead.items → k.may ≡ self.now.may
+            → Prints printer.old printer.new (head_in self.now.query.format
+            self.now.one.now.blocked_pairs (option_copied self.now.query.only) k) }
+    {
+        match self.query.format {
+            ReadyFormat::Lines(_) => printer.print_text(&ReadyHead {
+                ready: self.one.blocked_pairs.ready(),
+                only: self.query.only,
+                count: self.count,
+                may: self.may,
+            }),
+            ReadyFormat::Count(file) => match self.one.count_first(alloc, self.count) {
+                Ok(first) => printer.print_text(&ReadyTally {
+                    file,
+                    count: self.count,
+                    first,
+                }),
+                Err(_) => printer.stop(),
+            },
+            ReadyFormat::Editor(_) => {}
+        }
+    }
+
+    /// Prints the races that are left, if they are printed. It returns whether none of these is
+    /// left.
     fn print_left<W: Write>(
         &self,
         alloc: Global,
         printer: &mut Printer<'_, W>,
     ) -> Result<bool, AllocError>
-        requires { AreTextsOf self.now.one.now.blocked_pairs.chart self.now.texts.now }
-        ensures none { IfOk result (λ none. (left : ℕ → ℕ → Bool)
-            → AreLeft (wiring_of self.now.one.now.blocked_pairs) (ready_in self.now.one.now.blocked_pairs) left
-            → none ≡ nat_eq
-            (length (pairs_of left (length self.now.one.now.blocked_pairs.chart.events))) 0) }
-        ensures printed { (left : ℕ → ℕ → Bool)
-            → AreLeft (wiring_of self.now.one.now.blocked_pairs) (ready_in self.now.one.now.blocked_pairs) left
-            → Prints printer.old printer.new (told_left self.now.query.style
-            self.now.one.now.blocked_pairs.chart
-            (pairs_of left (length self.now.one.now.blocked_pairs.chart.events))) }
-    {
-        ends_share_queues();
-        let ready = self.one.blocked_pairs.ready();
-        ready.facts();
-        let count = ready.count_left();
-        write!(printer, "races {count}\n");
-        let pairs = LeftRaces { ready };
-        let rows = LeftRows {
-            chart: ready.chart(),
-            texts: self.texts,
-            style: self.query.style,
-        };
-        print_pairs(alloc, printer, &pairs, &mut Vec::new(alloc), &rows, 0)?;
-        Ok(count == 0)
-    }
-
-    /// Prints what follows the head. It returns whether the system finishes, and no race is left if
-    /// races are printed; and how many more runs may be shown.
-    fn print_body<W: Write>(
-        &self,
-        alloc: Global,
-        printer: &mut Printer<'_, W>,
-    ) -> Result<(bool, u32), AllocError>
-        requires ahead { HasAhead self.now.one.now.blocked_pairs self.now.one.now.ahead.items }
-        requires texts { AreTextsOf self.now.one.now.blocked_pairs.chart self.now.texts.now }
-        ensures passed { IfOk result (λ done. (k : StickFacts)
-            → AreStickFacts self.now.one.now.blocked_pairs k
-            → done.0 ≡ finishes self.now.one.now.blocked_pairs (option_copied self.now.query.only) k) }
-        ensures more { IfOk result (λ done. (k : StickFacts)
-            → k.ahead ≡ self.now.one.now.ahead.items
-            → done.1 ≡ more_after self.now.one.now.blocked_pairs self.now.query.show k) }
-        ensures printed { (k : StickFacts) → AreStickFacts self.now.one.now.blocked_pairs k
-            → k.ahead ≡ self.now.one.now.ahead.items
-            → Prints printer.old printer.new (body_text self.now.query.style
-            self.now.one.now.blocked_pairs (option_copied self.now.query.only) self.now.query.show k) }
-    {
-        let query = self.query;
-        let count = self.one.blocked_pairs.count();
-        if count == 0 && query.only.is_some() {
-            let none = self.print_left(alloc, printer)?;
-            return Ok((none, query.show));
-        }
-        let more = self
-            .one
-            .print_sticks(alloc, printer, self.texts, query.style, query.show)?;
-        Ok((count == 0, more))
-    }
-
-    /// Prints the answer on the chart, and returns the same as `print_body`.
-    fn print_once<W: Write>(
-        &self,
-        alloc: Global,
-        printer: &mut Printer<'_, W>,
-    ) -> Result<(bool, u32), AllocError>
         requires { CanPrintReady self.now }
-        ensures passed { IfOk result (λ done. (k : StickFacts)
+        ensures none { IfOk result (λ none. (k : StickFacts)
             → AreStickFacts self.now.one.now.blocked_pairs k
-            → done.0 ≡ finishes self.now.one.now.blocked_pairs (option_copied self.now.query.only) k) }
-        ensures more { IfOk result (λ done. (k : StickFacts)
-            → k.ahead ≡ self.now.one.now.ahead.items
-            → done.1 ≡ more_after self.now.one.now.blocked_pairs self.now.query.show k) }
+            → none ≡ has_none_left self.now.one.now.blocked_pairs
+            (option_copied self.now.query.only) k) }
         ensures printed { (k : StickFacts) → AreStickFacts self.now.one.now.blocked_pairs k
-            → k.ahead ≡ self.now.one.now.ahead.items → k.may ≡ self.now.may
-            → Prints printer.old printer.new (ready_text self.now.query.style
-            self.now.one.now.blocked_pairs (option_copied self.now.query.only) self.now.query.show k) }
+            → Prints printer.old printer.new (left_text self.now.query.format
+            self.now.one.now.blocked_pairs (option_copied self.now.query.only) k) }
     {
-        let blocked_pairs = &self.one.blocked_pairs;
-        printer.print_text(&ReadyHead {
-            ready: blocked_pairs.ready(),
-            only: self.query.only,
-            count: blocked_pairs.count(),
-            may: self.may,
-        });
-        self.print_body(alloc, printer)
+        if self.count == 0 && self.query.only.is_some() {
+            let format = self.query.format;
+            return self.one.print_races(alloc, printer, self.texts, format);
+        }
+        Ok(true)
     }
 
     /// Prints the answer on two rounds, if the query includes them, with up to `more` runs. It
@@ -389,18 +472,74 @@ impl ReadyAnswer<'_, '_, '_, '_, '_, '_, '_> {
         requires { CanPrintReady self.now }
         ensures none { IfOk result (λ none. none
             ≡ has_none_between self.now.names.chart.now (option_copied self.now.two)) }
-        ensures printed { (text : List ℕ) → IsAgainText self.now.query.style
+        ensures printed { (text : List ℕ) → IsAgainText self.now.query.format
             self.now.names.chart.now (option_copied self.now.two) more text
             → Prints printer.old printer.new text }
     {
         match self.two {
-            Some(two) => two.print_between(alloc, printer, self.names, self.query.style, more),
+            Some(two) => two.print_between(alloc, printer, self.names, self.query.format, more),
             None => Ok(true),
         }
     }
+
+    /// Prints what follows the blocked pairs of the chart, with up to `more` runs: the races that
+    /// are left and the answer on two rounds, in the order of the format. It returns whether no
+    /// race is left, and whether no blocked pair is between two rounds.
+    fn print_rest<W: Write>(
+        &self,
+        alloc: Global,
+        printer: &mut Printer<'_, W>,
+        more: u32,
+    ) -> (Result<bool, AllocError>, Result<bool, AllocError>)
+        requires { CanPrintReady self.now }
+        ensures left { IfOk result.0 (λ none. (k : StickFacts)
+            → AreStickFacts self.now.one.now.blocked_pairs k
+            → none ≡ has_none_left self.now.one.now.blocked_pairs
+            (option_copied self.now.query.only) k) }
+        ensures between { IfOk result.1 (λ none. none
+            ≡ has_none_between self.now.names.chart.now (option_copied self.now.two)) }
+        ensures printed { (k : StickFacts) (text : List ℕ)
+            → AreStickFacts self.now.one.now.blocked_pairs k
+            → IsAgainText self.now.query.format self.now.names.chart.now
+            (option_copied self.now.two) more text
+            → Prints printer.old printer.new (rest_in self.now.query.format
+            (left_text self.now.query.format self.now.one.now.blocked_pairs
+            (option_copied self.now.query.only) k) text) }
+    {
+        if self.query.format.left_comes_last() {
+            let between = self.print_again(alloc, printer, more);
+            let left = self.print_left(alloc, printer);
+            return (left, between);
+        }
+        let left = self.print_left(alloc, printer);
+        let between = self.print_again(alloc, printer, more);
+        (left, between)
+    }
+
+    /// Prints all that comes before what `print_rest` prints. It returns how many more runs may be
+    /// shown.
+    fn print_once<W: Write>(
+        &self,
+        alloc: Global,
+        printer: &mut Printer<'_, W>,
+    ) -> Result<u32, AllocError>
+        requires { CanPrintReady self.now }
+        ensures more { IfOk result (λ more. (k : StickFacts)
+            → k.ahead ≡ self.now.one.now.ahead.items
+            → more ≡ more_after self.now.one.now.blocked_pairs self.now.query.show k) }
+        ensures printed { (k : StickFacts) → AreStickFacts self.now.one.now.blocked_pairs k
+            → k.ahead ≡ self.now.one.now.ahead.items → k.may ≡ self.now.may
+            → Prints printer.old printer.new (ready_text self.now.query.format
+            self.now.one.now.blocked_pairs (option_copied self.now.query.only) self.now.query.show k) }
+    {
+        let query = self.query;
+        self.print_head(alloc, printer);
+        self.one
+            .print_sticks(alloc, printer, self.texts, query.format, query.show)
+    }
 }
 
-impl Print for ReadyAnswer<'_, '_, '_, '_, '_, '_, '_> {
+impl Print for ReadyAnswer<'_, '_, '_, '_, '_, '_> {
     ghost can_print = { CanPrintReady };
 
     ghost is_text = { IsReadyText };
@@ -413,9 +552,9 @@ impl Print for ReadyAnswer<'_, '_, '_, '_, '_, '_, '_> {
         printer: &mut Printer<'_, W>,
     ) -> Result<bool, AllocError> {
         match self.print_once(alloc, printer) {
-            Ok((passed, more)) => {
-                let none = self.print_again(alloc, printer, more)?;
-                Ok(passed && none)
+            Ok(more) => {
+                let (left, between) = self.print_rest(alloc, printer, more);
+                Ok(passes(self.count, left?, between?))
             }
             Err(_) => {
                 printer.stop();
@@ -426,12 +565,13 @@ impl Print for ReadyAnswer<'_, '_, '_, '_, '_, '_, '_> {
 }
 
 /// Writes whether a system of ready instances can stick under an architecture, and its blocked
-/// pairs, in order. The first `show` blocked pairs that are first have a run after which the system
-/// has stuck; any other names the blocked pair that is ahead of it. With a list of ready instances,
-/// the answer is about these, and if there is no blocked pair, the races that are left follow. With
-/// two rounds of the chart, the blocked pairs between these follow in the same way, with the runs
-/// that `show` leaves. Returns whether there is no blocked pair, and no race is left if races are
-/// printed.
+/// pairs, in order. In lines of text the first `show` blocked pairs that are first have a run after
+/// which the system has stuck; any other names the blocked pair that is ahead of it. With a list of
+/// ready instances, the answer is about these, and if there is no blocked pair, the races that are
+/// left follow. With two rounds of the chart, the blocked pairs between these follow in the same
+/// way, with the runs that `show` leaves; in lines for editors they precede races that are left. A
+/// count has neither: it is of the blocked pairs of one round. Returns whether there is no blocked
+/// pair, and, with a list, no race is left.
 ///
 /// After `Memory` a beginning of the answer may have been written. `Device` says that a write
 /// failed.
@@ -446,7 +586,7 @@ pub fn write_ready<W: Write>(
         → length l ≡ length chart.now.instances }
     requires rounds { AreItsRounds chart.now rounds }
     ensures { Tells W.contents (PrintsReady chart.now query.entry.queues
-        (option_copied query.entry.only) (is_some rounds.entry) query.entry.show query.entry.style)
+        (option_copied query.entry.only) (is_some rounds.entry) query.entry.show query.entry.format)
         result writer.old writer.new }
 {
     each_first_blocked_pair_has_one_run();
@@ -466,13 +606,15 @@ pub fn write_ready<W: Write>(
     ready.facts();
     let may = ready.may_finish(alloc)?;
     let both = two.as_ref();
+    let show = query.format.runs_shown(query.show);
     let answer = ReadyAnswer {
         one: &one,
         texts: &texts,
         two: both,
         names,
+        count: one.blocked_pairs.count(),
         may,
-        query,
+        query: ReadyQuery { show, ..query },
     };
     write_by(alloc, &answer, writer)
 }

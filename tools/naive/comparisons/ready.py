@@ -1,8 +1,7 @@
 """What `msc ready` prints of small random charts with its options."""
 from generators.charts import small_chart
 from generators.links import some_queues
-from harness import Answer, joined
-from models.ready import ALL, answer
+from models.ready import ALL, answered
 
 NEEDS_PROGRAM = True
 OPTIONS = {"number": 100, "messages": 5, "lines": 4, "uniform": False}
@@ -14,13 +13,14 @@ def compare_one(trial, text, given, queues):
     only = [pick.choice(names) for _ in range(pick.choice([0, 0, 1, 2]))]
     show = pick.choice([0, 1, ALL])
     words, placed = pick.random() < 0.5, pick.random() < 0.5
-    lines, status = answer(text, queues, only, show, words, "-" if placed else None)
-    asked = ["ready", *given.words(), "--show", str(show)]
+    form = pick.choice(["text", "text", "count", "lines", "lines"])
+    wanted = answered(text, queues, only, show, words, "-" if placed else None, form)
+    asked = ["ready", *given.words(), "--show", str(show), *["--format", form] * (form != "text")]
     asked += [word for name in only for word in ("--only", name)]
     asked += ["--words"] * words + ["--places"] * placed + ["-"]
-    trial.noted["sticks"] += sum(line.startswith("stick ") for line in lines)
-    told = joined(lines)
-    wanted = Answer(b"", told, status) if status == 2 else Answer(told, b"", status)
+    trial.noted["sticks"] += wanted.output.count(b"stick ")
+    trial.noted["in lines"] += wanted.output.count(b"[stick]")
+    trial.noted["left in lines"] += wanted.output.count(b"[race]")
     trial.compare(asked, text.encode("latin-1"), wanted)
 
 

@@ -1,14 +1,14 @@
 """Instances that are ready: sticks, and what `msc ready` prints, straight from the definitions.
 
-    tools/naive/print.py ready [--only NAME].. [--show N] [--words] [--places FILE]
+    tools/naive/print.py ready [--only NAME].. [--show N] [--words] [--places FILE] [--format F]
                                [RULE].. pair|mailbox|single|own < CHART
 
-prints what `msc ready` prints. An instance that is ready takes a message only when all that is
-drawn before has happened, and leaves the others in their queues. Each definition is a function of
-its own, written for a reader and not for speed. It shares nothing with the crates. The text has to
-be a chart: it names no fault but those of links, and that of a name that no instance has. It is
-read as bytes, each of which is a character here. The exit status is 0 where the chart finishes
-without races, 1 where it does not, 2 for a fault.
+prints what `msc ready` prints. F is text, count or lines. An instance that is ready takes a message
+only when all that is drawn before has happened, and leaves the others in their queues. Each
+definition is a function of its own, written for a reader and not for speed. It shares nothing with
+the crates. The text has to be a chart: it names no fault but those of links, and that of a name
+that no instance has. It is read as bytes, each of which is a character here. The exit status is 0
+where the chart finishes without races, 1 where it does not, 2 for a fault.
 """
 import functools
 import itertools
@@ -186,15 +186,65 @@ def signal(event):
     return event.text.removeprefix("in ")
 
 
+def unknown_name(drawn, only):
+    """The line of the fault that a name is that of no instance, or None."""
+    lacking = [name for name in only if name not in drawn.names]
+    return f"ready fault 1: no instance {lacking[0]}" if lacking else None
+
+
+def system_of(drawn, only):
+    """The chart with these ready instances, or with all."""
+    return Ready(drawn, {i for i, name in enumerate(drawn.names) if name in only or not only})
+
+
+def refused(line, form):
+    """What is printed of a fault without a place, in a format."""
+    told = joined([f"-:1:1: error: {line}"]) if form == "lines" else b""
+    return Answer(told, joined([line]), 2)
+
+
+def tally(system, file):
+    """The line of a count."""
+    if not system.sticks:
+        return f"finishes {file}"
+    first = sum(not system.ahead(f) for _, f in system.sticks)
+    return f"sticks {len(system.sticks)} first {first} {file}"
+
+
+def editor_lines(drawn, word, pairs, places, level, name):
+    """Pairs of events as editors read them."""
+    for e, f in pairs:
+        yield f"{places[e]}: {level}: {pair_words(drawn, word, e, f)} [{name}]"
+        yield f"{places[f]}: note: the event drawn below it"
+
+
+def for_editors(text, queues, only):
+    """The sticks as editors read them, the races that are left, and the exit status."""
+    drawn, places = Chart(text, queues), places_of(text.encode("latin-1"))
+    system = system_of(drawn, only)
+    races = system.races() if only and not system.sticks else []
+    sticks = list(editor_lines(drawn, "stick", system.sticks, places, "error", "stick"))
+    left = list(editor_lines(drawn, "race", races, places, "warning", "race"))
+    return sticks, left, int(bool(system.sticks or races))
+
+
+def formatted(text, queues, only, form):
+    """The lines of `msc ready` in a format that is not text, and the exit status."""
+    sticks, left, status = for_editors(text, queues, only)
+    if form == "count":
+        return [tally(system_of(Chart(text, queues), only), "-")], status
+    return [*sticks, *left], status
+
+
 def answer(text, queues, only=(), show=ALL, words=False, file=None):
-    """The lines of `msc ready`, and the exit status."""
+    """The lines of `msc ready` as text, and the exit status."""
     drawn = Chart(text, queues)
-    for name in only:
-        if name not in drawn.names:
-            return [f"ready fault 1: no instance {name}"], 2
+    fault = unknown_name(drawn, only)
+    if fault:
+        return [fault], 2
     places = places_of(text.encode("latin-1"))
-    lines = {i for i, name in enumerate(drawn.names) if name in only or not only}
-    system = Ready(drawn, lines)
+    system = system_of(drawn, only)
+    lines = system.ready
     told = drawn.head()
 
     def at(*events):
@@ -235,16 +285,27 @@ def answer(text, queues, only=(), show=ALL, words=False, file=None):
     return told, 1
 
 
+def answered(text, queues, only, show, words, file, form):
+    """What `msc ready` prints in a format."""
+    fault = unknown_name(Chart(text, queues), only)
+    if fault:
+        return refused(fault, form)
+    if form != "text":
+        lines, status = formatted(text, queues, only, form)
+    else:
+        lines, status = answer(text, queues, only, show, words, file)
+    return Answer(joined(lines), b"", status)
+
+
 def main(given):
     words = parser(__doc__)
     words.add_argument("--only", action="append", default=[], metavar="NAME")
     words.add_argument("--show", type=int, default=ALL, metavar="N")
     words.add_argument("--words", action="store_true")
     words.add_argument("--places", metavar="FILE")
+    words.add_argument("--format", default="text", choices=["text", "count", "lines"])
     add_queues(words, "queues")
     it = words.parse_args(given)
     text = sys.stdin.buffer.read()
     queues, held = of_chart(text, given_of(it)), text.decode("latin-1")
-    lines, status = answer(held, queues, it.only, it.show, it.words, it.places)
-    told = joined(lines)
-    return put(Answer(b"", told, status) if status == 2 else Answer(told, b"", status))
+    return put(answered(held, queues, it.only, it.show, it.words, it.places, it.format))

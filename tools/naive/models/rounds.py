@@ -4,7 +4,7 @@ definitions of docs/MODEL.md.
     tools/naive/print.py rounds check [--closest] [--why] [--most N] [--show N] [--allow KIND]
                                       [--accept] [--format F] [-q] [--words] [--short] [--places]
                                       [RULE].. pair|mailbox|single|own < CHART
-    tools/naive/print.py rounds ready [--only NAME].. [--show N] [--words] [--places]
+    tools/naive/print.py rounds ready [--only NAME].. [--show N] [--words] [--places] [--format F]
                                       [RULE].. pair|mailbox|single|own < CHART
 
 print what these print. Rounds of a chart are made as a text: each instance has its statements
@@ -22,7 +22,8 @@ from models.links import add_queues, given_of
 from models.marks import fault_of, marks_for
 from models.own import of_chart
 from models.races import KINDS, chosen, closest_of, kind, share_queue, shown_run, study
-from models.ready import ALL, Ready, pair_words, signal
+from models.ready import ALL, for_editors, formatted, pair_words, refused, signal, system_of
+from models.ready import unknown_name
 from models.shown import named, places_of
 
 # messages and actions of a chart, of which two rounds are a chart too
@@ -185,19 +186,56 @@ def stick_lines(two, system, places, pairs, show, words):
             yield from run_lines(two, system.stick_run(y), words)
 
 
+def sticks_between(text, queues, only):
+    """Two rounds of a chart, as a system, and the sticks between them."""
+    two = Several(text, queues, 2)
+    system = system_of(two, only)
+    return two, system, [stick for stick in system.sticks if two.crosses(*stick)]
+
+
 def ready_answer(text, queues, only=(), show=ALL, words=False, placed=False):
-    """The lines of `msc ready --again`, and the exit status."""
+    """The lines of `msc ready --again` as text, and the exit status."""
     lines, status = ready.answer(text, queues, only, show, words, "-" if placed else None)
     if status == 2:
         return lines, status
-    two = Several(text, queues, 2)
-    chosen_lines = {i for i, name in enumerate(two.names) if name in only or not only}
-    alone, system = Ready(two.one, chosen_lines), Ready(two, chosen_lines)
+    two, system, pairs = sticks_between(text, queues, only)
+    alone = system_of(two.one, only)
     first = sum(not alone.ahead(f) for _, f in alone.sticks)
     places = places_of(text.encode("latin-1")) if placed else None
-    pairs = [stick for stick in system.sticks if two.crosses(*stick)]
     more = stick_lines(two, system, places, pairs, max(show - first, 0), words)
     return [*lines, *more], int(status or bool(pairs))
+
+
+def editor_sticks(two, places, pairs):
+    """The sticks between two rounds as editors read them."""
+    for x, y in pairs:
+        (e, _), (f, _) = two.place[x], two.place[y]
+        yield f"{places[e]}: error: {heading(two, x, y)} [stick]"
+        yield f"{places[f]}: note: the event of the next round"
+
+
+def ready_formatted(text, queues, only, form):
+    """The lines of `msc ready --again` in a format that is not text, and the exit status. Races
+    that are left come last."""
+    two, _, pairs = sticks_between(text, queues, only)
+    sticks, left, status = for_editors(text, queues, only)
+    status = int(status or bool(pairs))
+    if form == "count":
+        return formatted(text, queues, only, form)[0], status
+    places = places_of(text.encode("latin-1"))
+    return [*sticks, *editor_sticks(two, places, pairs), *left], status
+
+
+def ready_answered(text, queues, only, show, words, placed, form):
+    """What `msc ready --again` prints in a format."""
+    fault = unknown_name(Chart(text, queues), only)
+    if fault:
+        return refused(fault, form)
+    if form != "text":
+        lines, status = ready_formatted(text, queues, only, form)
+    else:
+        lines, status = ready_answer(text, queues, only, show, words, placed)
+    return Answer(joined(lines), b"", status)
 
 
 def fault_of_rounds(text, queues):
@@ -210,20 +248,26 @@ def fault_of_rounds(text, queues):
     return None
 
 
+def check_answered(text, queues, given):
+    """What `msc check --again` prints; of a fault its line."""
+    fault = given.accept and fault_of(text) or fault_of_rounds(text, queues)
+    if fault:
+        return Answer(b"", joined([fault]), 2)
+    lines, status = check_answer(text, queues, vars(given), marks_for(text, queues))
+    return Answer(joined(lines), b"", status)
+
+
 def printed(given):
-    """The lines of the command that is given, and its status."""
+    """What the command that is given prints."""
     held = sys.stdin.buffer.read()
     text, queues = held.decode("latin-1"), of_chart(held, given_of(given))
-    fault = given.accept and fault_of(text) if given.command == "check" else None
-    if given.command == "ready":
-        lacking = [name for name in given.only if name not in Chart(text, queues).names]
-        fault = f"ready fault 1: no instance {lacking[0]}" if lacking else None
-    fault = fault or fault_of_rounds(text, queues)
-    if fault:
-        return [fault], 2
     if given.command == "check":
-        return check_answer(text, queues, vars(given), marks_for(text, queues))
-    return ready_answer(text, queues, given.only, given.show, given.words, given.places)
+        return check_answered(text, queues, given)
+    fault = unknown_name(Chart(text, queues), given.only) or fault_of_rounds(text, queues)
+    if fault:
+        return refused(fault, given.format)
+    return ready_answered(text, queues, given.only, given.show, given.words, given.places,
+                          given.format)
 
 
 def arguments(about, given):
@@ -236,12 +280,12 @@ def arguments(about, given):
         command.add_argument("--words", action="store_true")
         command.add_argument("--places", action="store_true")
         add_queues(command, "queues")
+        command.add_argument("--format", default="text", choices=["text", "count", "lines"])
         if name == "ready":
             command.add_argument("--only", action="append", default=[], metavar="NAME")
             continue
         command.add_argument("--most", type=int, default=ALL, metavar="N")
         command.add_argument("--allow", action="append", default=[], choices=KINDS)
-        command.add_argument("--format", default="text", choices=["text", "count", "lines"])
         command.add_argument("-q", "--quiet", action="store_true")
         for flag in ("closest", "why", "accept", "short"):
             command.add_argument(f"--{flag}", action="store_true")
@@ -249,6 +293,4 @@ def arguments(about, given):
 
 
 def main(given):
-    lines, status = printed(arguments(__doc__, given))
-    told = joined(lines)
-    return put(Answer(b"", told, status) if status == 2 else Answer(told, b"", status))
+    return put(printed(arguments(__doc__, given)))

@@ -25,7 +25,7 @@ returns-in-Some-clause-printed g c runs are =
     let self = c.args.self.now in
     let its = c.in-Some.ensures runs (subst (AreRuns runs) (sym c.as_slice.ensures.value) (c.requires.known runs are)) in
     subst (λ (run : List ℕ). Prints c.args.printer.now c.print_with.new.printer
-    (g.N.EventNames.stick_text self.names self.style c.args.blocked_pair ++ g.N.EventNames.run_lines self.names self.style.words run)) its c.print_with.ensures
+    (g.N.EventNames.stick_text self.names self.format c.args.blocked_pair ++ g.N.EventNames.run_lines self.names self.format run)) its c.print_with.ensures
 
 pub print_with-requires-in-Ok : goal.print_with-requires-in-Ok
 print_with-requires-in-Ok g c =
@@ -62,7 +62,7 @@ returns-then-is_err-clause-printed g c runs are =
     let e : ℕ = c.args.blocked_pair.0 in
     let f : ℕ = c.args.blocked_pair.1 in
     let own = c.each_first_blocked_pair_has_one_run.ensures.unique r.queues r.chart (ready_in r) e e f c.in-Ok.run'.items (runs f) is (are e f c.requires.blocked_pair) in
-    let text : List ℕ → List ℕ = λ run. g.N.EventNames.stick_text self.names self.style c.args.blocked_pair ++ g.N.EventNames.run_lines self.names self.style.words run in
+    let text : List ℕ → List ℕ = λ run. g.N.EventNames.stick_text self.names self.format c.args.blocked_pair ++ g.N.EventNames.run_lines self.names self.format run in
     let put = subst (λ (run : List ℕ). Prints c.args.printer.now c.print_with-in-Ok.new.printer (text run)) (c.as_slice-in-Ok.ensures.value ∙ own) c.print_with-in-Ok.ensures in
     subst (Prints c.args.printer.now c.stop.new.self) (append-nil (text (runs f)))
     (prints_then c.args.printer.now c.print_with-in-Ok.new.printer c.stop.new.self (text (runs f)) [] put (c.stop.ensures []))

@@ -1,9 +1,18 @@
+use Rattle.std.proofs.Common.{ℕ, List, Option, sym, subst}
 use Rattle.std.specs.Option.{option_copied}
-use Rattle.msc_text.proofs.Readied.{once_prints}
+use Rattle.msc_print.specs.Prints.{Prints}
+use Rattle.msc_print.proofs.PrintLemmas.{prints_then}
+use Rattle.msc_ready.specs.Views.{blocked_pairs_of}
+use Rattle.msc_text.specs.Readying.{head_in, once_texts, told_sticks}
 use Rattle.msc_text.proofs.readying.ReadyAnswer.print_once.Goals as goal
 
 pub returns-clause-printed : goal.returns-clause-printed
 returns-clause-printed g c k is ahead may =
     let self = c.args.self.now in
-    once_prints c.args.printer.now c.print_text.new.self c.print_body.new.printer self.query.style self.one.now.blocked_pairs c.ready.result.now (option_copied self.query.only) self.query.show
-    c.count.result self.may k c.ready.ensures c.count.ensures.number may c.print_text.ensures (c.print_body.ensures.printed k is ahead)
+    let r = self.one.now.blocked_pairs in
+    let format = self.query.format in
+    prints_then c.args.printer.now c.print_head.new.printer c.print_sticks.new.printer (head_in format r (option_copied self.query.only) k)
+    (told_sticks (once_texts format r.chart) k.ahead k.runs self.query.show (blocked_pairs_of r))
+    (c.print_head.ensures k ahead may)
+    (subst (λ (l : List (Option (ℕ × ℕ))). Prints c.print_head.new.printer c.print_sticks.new.printer (told_sticks (once_texts format r.chart) l k.runs self.query.show (blocked_pairs_of r)))
+    (sym ahead) (c.print_sticks.ensures.printed k.runs is.runs))

@@ -1,4 +1,4 @@
-use Rattle.std.proofs.Common.{ℕ, List, length, refl, sym, ap, ◌∙◌, subst}
+use Rattle.std.proofs.Common.{length, refl, sym, ap, ◌∙◌, subst}
 use Rattle.msc_chart.specs.Drawings.{Drawing}
 use Rattle.msc_ready.specs.Held.{ReadyChart}
 use Rattle.msc_ready.specs.Rounds.{between_of}
@@ -18,13 +18,13 @@ returns-in_err-print_pairs-clause-printed g c runs are =
     let d = c.args.names.chart.now in
     let r = c.args.self.now.blocked_pairs in
     let number = c.count-count.ensures.number ∙ ap (λ (x : ReadyChart). length (between_of x c.rounds.result.numbers.now)) c.rounds.ensures.blocked_pairs ∙ ap (λ (x : Drawing). length (between_of r x)) c.rounds.ensures.numbers in
-    between_rows c.write.new.self c.print_pairs.new.printer c.args.style r c.as_slice.result.now c.args.self.now.ahead.items c.as_slice.ensures.value runs c.args.show
-    c.args.printer.now d c.count-count.result number c.write.ensures (c.print_pairs.ensures.printed (λ p. runs p.1) (record { each = runs; are = are; same = λ p. refl }))
+    between_rows c.print_again_count.new.printer c.print_pairs.new.printer c.args.format r c.as_slice.result.now c.args.self.now.ahead.items c.as_slice.ensures.value runs c.args.show
+    c.args.printer.now d c.count-count.result number c.print_again_count.ensures (c.print_pairs.ensures.printed (λ p. runs p.1) (record { each = runs; are = are; same = λ p. refl }))
 
 pub returns-clause-printed : goal.returns-clause-printed
 returns-clause-printed g c runs are =
     let d = c.args.names.chart.now in
     let r = c.args.self.now.blocked_pairs in
     let number = c.count-count.ensures.number ∙ ap (λ (x : ReadyChart). length (between_of x c.rounds.result.numbers.now)) c.rounds.ensures.blocked_pairs ∙ ap (λ (x : Drawing). length (between_of r x)) c.rounds.ensures.numbers in
-    between_rows c.write.new.self c.print_pairs.new.printer c.args.style r c.as_slice.result.now c.args.self.now.ahead.items c.as_slice.ensures.value runs c.args.show
-    c.args.printer.now d c.count-count.result number c.write.ensures (c.print_pairs.ensures.printed (λ p. runs p.1) (record { each = runs; are = are; same = λ p. refl }))
+    between_rows c.print_again_count.new.printer c.print_pairs.new.printer c.args.format r c.as_slice.result.now c.args.self.now.ahead.items c.as_slice.ensures.value runs c.args.show
+    c.args.printer.now d c.count-count.result number c.print_again_count.ensures (c.print_pairs.ensures.printed (λ p. runs p.1) (record { each = runs; are = are; same = λ p. refl }))

@@ -1,4 +1,4 @@
-use Rattle.std.proofs.Common.{ℕ, List, refl, sym, ap, ◌∙◌, subst}
+use Rattle.std.proofs.Common.{refl, sym, ap, ◌∙◌, subst}
 use Rattle.msc_ready.specs.Held.{ReadyChart}
 use Rattle.msc_ready.specs.Views.{HasAhead}
 use Rattle.msc_text.proofs.Readied.{blocked_pairs_count, sticks_printed, blocked_pairs_rows}
@@ -19,5 +19,5 @@ pub returns-clause-printed : goal.returns-clause-printed
 returns-clause-printed g c runs are =
     let r = c.args.self.now.blocked_pairs in
     let named = c.chart.ensures ∙ ap (λ (x : ReadyChart). x.chart) c.ready.ensures in
-    blocked_pairs_rows c.args.printer.now c.print_pairs.new.printer c.args.style r c.as_slice.result.now c.args.self.now.ahead.items c.as_slice.ensures.value runs c.args.show
+    blocked_pairs_rows c.args.printer.now c.print_pairs.new.printer c.args.format r c.as_slice.result.now c.args.self.now.ahead.items c.as_slice.ensures.value runs c.args.show
     c.chart.result.now named (c.print_pairs.ensures.printed (λ p. runs p.1) (record { each = runs; are = are; same = λ p. refl }))

@@ -5,7 +5,7 @@ use Rattle.msc_ready.specs.Held.{ready_in, wiring_of, ReadyChart}
 use Rattle.msc_ready.specs.BlockedPairs.{AreLeft}
 use Rattle.msc_text.specs.Readying.{told_left}
 use Rattle.msc_text.proofs.Readied.{left_printed, left_prints}
-use Rattle.msc_text.proofs.readying.ReadyAnswer.print_left.Goals as goal
+use Rattle.msc_text.proofs.readying.StickTable.print_races.Goals as goal
 
 pub invariant_of-pairs : goal.invariant_of-pairs
 invariant_of-pairs g c =
@@ -18,16 +18,16 @@ print_pairs-requires-clause-pairs g c e inside =
 
 pub returns-in_err-print_pairs-clause-printed : goal.returns-in_err-print_pairs-clause-printed
 returns-in_err-print_pairs-clause-printed g c =
-    let style = c.args.self.now.query.style in
-    let printed = left_prints c.args.printer.now c.write.new.self c.print_pairs.new.printer style c.ready-ready.result.now _ c.chart.result.now c.count_left-count.result
-    c.chart.ensures c.count_left-count.ensures c.write.ensures (c.print_pairs.ensures.printed (λ p. []) tt) in
+    let format = c.args.format in
+    let printed = left_prints c.args.printer.now c.print_left_count.new.printer c.print_pairs.new.printer format c.ready-ready.result.now _ c.chart.result.now c.count_left-count.result
+    c.chart.ensures c.count_left-count.ensures c.print_left_count.ensures (c.print_pairs.ensures.printed (λ p. []) tt) in
     subst (λ (x : ReadyChart). (left : ℕ → ℕ → Bool) → AreLeft (wiring_of x) (ready_in x) left
-    → Prints c.args.printer.now c.print_pairs.new.printer (told_left style x.chart (pairs_of left (length x.chart.events)))) c.ready-ready.ensures printed
+    → Prints c.args.printer.now c.print_pairs.new.printer (told_left format x.chart (pairs_of left (length x.chart.events)))) c.ready-ready.ensures printed
 
 pub returns-clause-printed : goal.returns-clause-printed
 returns-clause-printed g c =
-    let style = c.args.self.now.query.style in
-    let printed = left_prints c.args.printer.now c.write.new.self c.print_pairs.new.printer style c.ready-ready.result.now _ c.chart.result.now c.count_left-count.result
-    c.chart.ensures c.count_left-count.ensures c.write.ensures (c.print_pairs.ensures.printed (λ p. []) tt) in
+    let format = c.args.format in
+    let printed = left_prints c.args.printer.now c.print_left_count.new.printer c.print_pairs.new.printer format c.ready-ready.result.now _ c.chart.result.now c.count_left-count.result
+    c.chart.ensures c.count_left-count.ensures c.print_left_count.ensures (c.print_pairs.ensures.printed (λ p. []) tt) in
     subst (λ (x : ReadyChart). (left : ℕ → ℕ → Bool) → AreLeft (wiring_of x) (ready_in x) left
-    → Prints c.args.printer.now c.print_pairs.new.printer (told_left style x.chart (pairs_of left (length x.chart.events)))) c.ready-ready.ensures printed
+    → Prints c.args.printer.now c.print_pairs.new.printer (told_left format x.chart (pairs_of left (length x.chart.events)))) c.ready-ready.ensures printed
