@@ -1,0 +1,7 @@
+use Rattle.std.proofs.Common.{◌≡◌, drop, map}
+use Rattle.msc_arrow_marks.specs.Heads.{all_of, other_in}
+use Rattle.msc_arrow_marks.proofs.AllLemmas.{met}
+use Rattle.msc_arrow_marks.proofs.head.others_of.Given as goal
+
+abbrev pub invariant-loop-part : goal.invariant-loop-part
+invariant-loop-part l = met other_in l.others.items (drop l.part-index l.parts) ≡ all_of other_in (map (λ part. part.now) l.parts)

@@ -1,0 +1,9 @@
+pub mod WindowLemmas
+pub mod RowsLemmas
+pub mod ColourLemmas
+pub mod SpanLemmas
+pub mod SortingLemmas
+pub mod LineLemmas
+pub mod PlaceLemmas
+pub mod ShownLemmas
+pub mod ShownRows

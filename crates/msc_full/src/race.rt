@@ -1,0 +1,301 @@
+//! Races as diagnostics.
+
+ghost use Rattle.std.specs.Prelude.{◌≡◌, [], IfOk, map};
+ghost use Rattle.std.specs.Option.{option_copied};
+ghost use Rattle.msc_diagnostic.specs.Plain.{plain_mark, plain_note};
+ghost use Rattle.msc_full.specs.Races.{block_of, block_text, events_of, first_place, is_one_span, mark_of, note_of};
+ghost use Rattle.msc_full.specs.Races.{race_level, race_marks, race_notes, race_text, rows_of};
+ghost use Rattle.msc_full.specs.Races.{spoken_race, text_between, way_between, AreStrings};
+
+use crate::event::{ShownEvent, ShownText};
+use msc_chart::Event;
+use msc_diagnostic::{Diagnostic, Level, Mark, Note, NoteKind, Sign, diagnostic_text};
+use msc_reason::Cause;
+use msc_wording::{SpokenPair, SpokenRace, Way};
+use std::alloc::{AllocError, Global};
+
+/// The events of a race, and those of its cause.
+#[derive(Clone, Copy)]
+struct RaceEvents<'t> {
+    first: ShownEvent<'t>,
+    second: ShownEvent<'t>,
+    needed: ShownEvent<'t>,
+    output: ShownEvent<'t>,
+}
+
+/// How the messages of two inputs arrive.
+fn way_between(first: &ShownEvent<'_>, second: &ShownEvent<'_>) -> Way
+    ensures { result ≡ way_between first.now second.now }
+{
+    Way::of(first.kind, second.kind, first.queue == second.queue)
+}
+
+/// A race, as sentences name it.
+fn spoken_race<'t>(events: RaceEvents<'t>, cause: Cause, is_next: bool) -> SpokenRace<'t>
+    ensures { result ≡ spoken_race events.entry cause is_next }
+{
+    SpokenRace {
+        pair: SpokenPair {
+            first: events.first.spoken,
+            second: events.second.spoken,
+            is_next,
+            needed: events.needed.spoken,
+            output: events.output.spoken,
+        },
+        kind: cause.kind,
+        is_always: cause.always,
+        way: way_between(&events.first, &events.second),
+    }
+}
+
+/// The level of a race: one that every run reverses is an error.
+fn race_level(is_always: bool) -> Level
+    ensures { result ≡ race_level is_always }
+{
+    if is_always {
+        Level::Error
+    } else {
+        Level::Warning
+    }
+}
+
+/// Whether two events are in one statement of the text.
+fn is_one_span(first: &ShownEvent<'_>, second: &ShownEvent<'_>) -> bool
+    ensures { result ≡ is_one_span first.now second.now }
+{
+    first.first == second.first && first.past == second.past
+}
+
+/// The place of the event that stands first in the text.
+fn first_place<'t>(first: &ShownEvent<'t>, second: &ShownEvent<'t>) -> &'t str
+    ensures { result ≡ first_place first.now second.now }
+{
+    if second.first < first.first {
+        second.place
+    } else {
+        first.place
+    }
+}
+
+/// The marks of a race: a caret at the event that is drawn first, and a dash at the other one; or one
+/// mark, if both are in one statement.
+fn race_marks(
+    alloc: Global,
+    race: &SpokenRace<'_>,
+    first: &ShownEvent<'_>,
+    second: &ShownEvent<'_>,
+) -> Result<Vec<Mark<'static>>, AllocError>
+    ensures { IfOk result (λ marks.
+        map plain_mark marks.items ≡ race_marks race.now first.now second.now) }
+{
+    let mut marks = Vec::new(alloc);
+    if is_one_span(first, second) {
+        marks.push(mark(first, Sign::Caret, race.shared_label()))?;
+        return Ok(marks);
+    }
+    marks.push(mark(first, Sign::Caret, race.first_label()))?;
+    marks.push(mark(second, Sign::Dash, race.second_label()))?;
+    Ok(marks)
+}
+
+/// The mark of an event.
+fn mark<'l>(event: &ShownEvent<'_>, sign: Sign, label: &'l str) -> Mark<'l>
+    ensures { plain_mark result ≡ mark_of event.now sign label.now }
+{
+    Mark {
+        first: event.first,
+        past: event.past,
+        sign,
+        label,
+    }
+}
+
+/// What the notes of a race say.
+#[derive(Clone, Copy)]
+struct RaceNotes<'n> {
+    reason: &'n str,
+    scenarios: Option<&'n str>,
+    help: &'n str,
+    run: Option<&'n [&'n str]>,
+}
+
+/// A note of one row.
+fn note<'n>(kind: NoteKind, text: &'n str) -> Note<'n>
+    ensures { plain_note result ≡ note_of kind text.now [] }
+{
+    Note {
+        kind,
+        text,
+        rows: &[],
+    }
+}
+
+/// The notes of a race: why it is one, in which scenarios, what would prevent it, and a run.
+fn race_notes<'n>(alloc: Global, said: RaceNotes<'n>) -> Result<Vec<Note<'n>>, AllocError>
+    ensures { IfOk result (λ notes. map plain_note notes.items
+        ≡ race_notes said.entry.reason.now (option_copied said.entry.scenarios)
+        said.entry.help.now (rows_of said.entry.run)) }
+{
+    let mut notes = Vec::new(alloc);
+    notes.push(note(NoteKind::Note, said.reason))?;
+    if let Some(scenarios) = said.scenarios {
+        notes.push(note(NoteKind::Note, scenarios))?;
+    }
+    notes.push(note(NoteKind::Help, said.help))?;
+    if let Some(rows) = said.run {
+        notes.push(Note {
+            kind: NoteKind::Note,
+            text: "a run that shows it:",
+            rows,
+        })?;
+    }
+    Ok(notes)
+}
+
+/// A race whose diagnostic is told.
+#[derive(Clone, Copy)]
+pub struct ShownRace<'t> {
+    /// The event that is drawn first, and the one that can come before it.
+    pub first: Event,
+    pub second: Event,
+    /// Why it is a race, and what it lacks.
+    pub cause: Cause,
+    /// Whether the second event is of the next round.
+    pub is_next: bool,
+    /// In which scenarios of a diagram it is a race, if that is told.
+    pub scenarios: Option<&'t str>,
+    /// The rows of a run that shows it, if one is told.
+    pub run: Option<&'t [&'t str]>,
+}
+
+/// The parts of the diagnostic of a race.
+#[derive(Clone, Copy)]
+struct RaceParts<'n> {
+    level: Level,
+    id: &'n str,
+    sentence: &'n str,
+    place: &'n str,
+}
+
+/// The text of the diagnostic with these parts.
+fn parts_text(
+    alloc: Global,
+    text: ShownText<'_>,
+    parts: RaceParts<'_>,
+    marks: &[Mark<'_>],
+    notes: &[Note<'_>],
+) -> Result<Vec<u8>, AllocError>
+    ensures { IfOk result (λ bytes. bytes.items ≡ block_text text.entry (block_of
+        parts.entry.level parts.entry.id.now parts.entry.sentence.now parts.entry.place.now
+        (map plain_mark marks.now) (map plain_note notes.now))) }
+{
+    let diagnostic = Diagnostic {
+        level: parts.level,
+        id: parts.id,
+        sentence: parts.sentence,
+        place: Some(parts.place),
+        marks,
+        notes,
+    };
+    diagnostic_text(alloc, text.source, &diagnostic, text.colours)
+}
+
+/// What is said of a race.
+#[derive(Drop)]
+struct RaceStrings {
+    sentence: String,
+    reason: String,
+    help: String,
+}
+
+/// What is said of a race: its sentence, its reason and its help.
+fn strings_of(
+    alloc: Global,
+    text: ShownText<'_>,
+    race: &SpokenRace<'_>,
+) -> Result<RaceStrings, AllocError>
+    ensures { IfOk result (λ strings. AreStrings text.entry race.now strings) }
+{
+    let sentence = race.sentence(alloc, text.names)?;
+    let reason = race.reason(alloc, text.names)?;
+    let marked = [race.pair.first.line, race.pair.second.line];
+    let help = race.help(alloc, text.names, &marked)?;
+    Ok(RaceStrings {
+        sentence,
+        reason,
+        help,
+    })
+}
+
+/// The text of the diagnostic of a race between two events.
+fn text_between<'t>(
+    alloc: Global,
+    text: ShownText<'_>,
+    shown: ShownRace<'t>,
+    first: &ShownEvent<'t>,
+    second: &ShownEvent<'t>,
+    race: &SpokenRace<'_>,
+) -> Result<Vec<u8>, AllocError>
+    ensures { IfOk result (λ bytes. bytes.items
+        ≡ text_between text.entry shown.entry first.now second.now race.now) }
+{
+    let strings = strings_of(alloc, text, race)?;
+    let said = RaceNotes {
+        reason: strings.reason.as_str(),
+        scenarios: shown.scenarios,
+        help: strings.help.as_str(),
+        run: shown.run,
+    };
+    let marks = race_marks(alloc, race, first, second)?;
+    let notes = race_notes(alloc, said)?;
+    let parts = RaceParts {
+        level: race_level(race.is_always),
+        id: race.kind.word(),
+        sentence: strings.sentence.as_str(),
+        place: first_place(first, second),
+    };
+    let bytes = parts_text(alloc, text, parts, marks.as_slice(), notes.as_slice())?;
+    Ok(bytes)
+}
+
+/// The events of a race, and those of its cause, if the text has them all.
+fn events_of<'t>(events: &[ShownEvent<'t>], race: ShownRace<'_>) -> Option<RaceEvents<'t>>
+    ensures { result ≡ events_of events.now race.entry }
+{
+    let (Some(first), Some(second)) = (
+        events.get(race.first as usize),
+        events.get(race.second as usize),
+    ) else {
+        return None;
+    };
+    let (Some(needed), Some(output)) = (
+        events.get(race.cause.needed as usize),
+        events.get(race.cause.output as usize),
+    ) else {
+        return None;
+    };
+    Some(RaceEvents {
+        first: *first,
+        second: *second,
+        needed: *needed,
+        output: *output,
+    })
+}
+
+/// A race as a diagnostic, with an empty row after it: that its second event can come before its
+/// first, both in the lines of the text, why, in which scenarios, what would prevent it, and a run.
+/// It is empty if the text lacks one of the events. The only error is want of memory.
+pub fn race_text(
+    alloc: Global,
+    text: ShownText<'_>,
+    race: ShownRace<'_>,
+) -> Result<Vec<u8>, AllocError>
+    ensures { IfOk result (λ bytes. bytes.items ≡ race_text text.entry race.entry) }
+{
+    let Some(events) = events_of(text.events, race) else {
+        return Ok(Vec::new(alloc));
+    };
+    let spoken = spoken_race(events, race.cause, race.is_next);
+    let bytes = text_between(alloc, text, race, &events.first, &events.second, &spoken)?;
+    Ok(bytes)
+}

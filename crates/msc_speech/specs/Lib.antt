@@ -1,0 +1,3 @@
+pub mod Quoting
+pub mod Messages
+pub mod Names

@@ -1,0 +1,2 @@
+-- numbered rows
+mod RunLemmas
