@@ -1,15 +1,20 @@
-//! Findings as people read them: each race as a diagnostic, with the lines of the text that it is
-//! about, why it is a race, and what would prevent it.
+//! Findings as people read them: races, instances that can block, and stale marks, each as a
+//! diagnostic with the lines of the text that it is about, the reason, and what would prevent it.
 //!
 //! Findings are told of events as plain data ([`ShownEvent`]): what people call them, and where they
 //! stand in the text. So charts and diagrams are told of alike. Events are numbered from 0, in the
 //! order of the chart.
 #![tactic(auto)]
 
+mod block;
 mod event;
 mod race;
+mod stale;
+mod stick;
 #[cfg(test)]
 mod tests;
 
 pub use event::{ShownEvent, ShownText};
-pub use race::{ShownRace, race_text};
+pub use race::{ShownRace, left_text, race_text};
+pub use stale::{StaleMark, stale_text};
+pub use stick::{ShownStick, StickShown, stick_text};

@@ -1,27 +1,23 @@
 //! Races as diagnostics.
 
-ghost use Rattle.std.specs.Prelude.{◌≡◌, [], IfOk, map};
+ghost use Rattle.std.specs.Prelude.{◌≡◌, IfOk, map};
 ghost use Rattle.std.specs.Option.{option_copied};
 ghost use Rattle.msc_diagnostic.specs.Plain.{plain_mark, plain_note};
-ghost use Rattle.msc_full.specs.Races.{block_of, block_text, events_of, first_place, is_one_span, mark_of, note_of};
-ghost use Rattle.msc_full.specs.Races.{race_level, race_marks, race_notes, race_text, rows_of};
-ghost use Rattle.msc_full.specs.Races.{spoken_race, text_between, way_between, AreStrings};
+ghost use Rattle.msc_full.specs.Blocks.{rows_of};
+ghost use Rattle.msc_full.specs.Races.{is_one_span, left_between, left_text, numbers_of, race_level};
+ghost use Rattle.msc_full.specs.Races.{race_marks, race_notes};
+ghost use Rattle.msc_full.specs.Races.{race_text, spoken_race, text_between, way_between};
+ghost use Rattle.msc_full.specs.Races.{AreStrings};
 
+use crate::block::{
+    BlockParts, PairEvents, PairNumbers, events_of, first_place, mark, note, parts_text,
+};
 use crate::event::{ShownEvent, ShownText};
 use msc_chart::Event;
-use msc_diagnostic::{Diagnostic, Level, Mark, Note, NoteKind, Sign, diagnostic_text};
+use msc_diagnostic::{Level, Mark, Note, NoteKind, Sign};
 use msc_reason::Cause;
 use msc_wording::{SpokenPair, SpokenRace, Way};
 use std::alloc::{AllocError, Global};
-
-/// The events of a race, and those of its cause.
-#[derive(Clone, Copy)]
-struct RaceEvents<'t> {
-    first: ShownEvent<'t>,
-    second: ShownEvent<'t>,
-    needed: ShownEvent<'t>,
-    output: ShownEvent<'t>,
-}
 
 /// How the messages of two inputs arrive.
 fn way_between(first: &ShownEvent<'_>, second: &ShownEvent<'_>) -> Way
@@ -31,7 +27,7 @@ fn way_between(first: &ShownEvent<'_>, second: &ShownEvent<'_>) -> Way
 }
 
 /// A race, as sentences name it.
-fn spoken_race<'t>(events: RaceEvents<'t>, cause: Cause, is_next: bool) -> SpokenRace<'t>
+fn spoken_race<'t>(events: PairEvents<'t>, cause: Cause, is_next: bool) -> SpokenRace<'t>
     ensures { result ≡ spoken_race events.entry cause is_next }
 {
     SpokenRace {
@@ -66,17 +62,6 @@ fn is_one_span(first: &ShownEvent<'_>, second: &ShownEvent<'_>) -> bool
     first.first == second.first && first.past == second.past
 }
 
-/// The place of the event that stands first in the text.
-fn first_place<'t>(first: &ShownEvent<'t>, second: &ShownEvent<'t>) -> &'t str
-    ensures { result ≡ first_place first.now second.now }
-{
-    if second.first < first.first {
-        second.place
-    } else {
-        first.place
-    }
-}
-
 /// The marks of a race: a caret at the event that is drawn first, and a dash at the other one; or one
 /// mark, if both are in one statement.
 fn race_marks(
@@ -98,18 +83,6 @@ fn race_marks(
     Ok(marks)
 }
 
-/// The mark of an event.
-fn mark<'l>(event: &ShownEvent<'_>, sign: Sign, label: &'l str) -> Mark<'l>
-    ensures { plain_mark result ≡ mark_of event.now sign label.now }
-{
-    Mark {
-        first: event.first,
-        past: event.past,
-        sign,
-        label,
-    }
-}
-
 /// What the notes of a race say.
 #[derive(Clone, Copy)]
 struct RaceNotes<'n> {
@@ -117,17 +90,6 @@ struct RaceNotes<'n> {
     scenarios: Option<&'n str>,
     help: &'n str,
     run: Option<&'n [&'n str]>,
-}
-
-/// A note of one row.
-fn note<'n>(kind: NoteKind, text: &'n str) -> Note<'n>
-    ensures { plain_note result ≡ note_of kind text.now [] }
-{
-    Note {
-        kind,
-        text,
-        rows: &[],
-    }
 }
 
 /// The notes of a race: why it is one, in which scenarios, what would prevent it, and a run.
@@ -166,38 +128,6 @@ pub struct ShownRace<'t> {
     pub scenarios: Option<&'t str>,
     /// The rows of a run that shows it, if one is told.
     pub run: Option<&'t [&'t str]>,
-}
-
-/// The parts of the diagnostic of a race.
-#[derive(Clone, Copy)]
-struct RaceParts<'n> {
-    level: Level,
-    id: &'n str,
-    sentence: &'n str,
-    place: &'n str,
-}
-
-/// The text of the diagnostic with these parts.
-fn parts_text(
-    alloc: Global,
-    text: ShownText<'_>,
-    parts: RaceParts<'_>,
-    marks: &[Mark<'_>],
-    notes: &[Note<'_>],
-) -> Result<Vec<u8>, AllocError>
-    ensures { IfOk result (λ bytes. bytes.items ≡ block_text text.entry (block_of
-        parts.entry.level parts.entry.id.now parts.entry.sentence.now parts.entry.place.now
-        (map plain_mark marks.now) (map plain_note notes.now))) }
-{
-    let diagnostic = Diagnostic {
-        level: parts.level,
-        id: parts.id,
-        sentence: parts.sentence,
-        place: Some(parts.place),
-        marks,
-        notes,
-    };
-    diagnostic_text(alloc, text.source, &diagnostic, text.colours)
 }
 
 /// What is said of a race.
@@ -248,7 +178,7 @@ fn text_between<'t>(
     };
     let marks = race_marks(alloc, race, first, second)?;
     let notes = race_notes(alloc, said)?;
-    let parts = RaceParts {
+    let parts = BlockParts {
         level: race_level(race.is_always),
         id: race.kind.word(),
         sentence: strings.sentence.as_str(),
@@ -258,28 +188,16 @@ fn text_between<'t>(
     Ok(bytes)
 }
 
-/// The events of a race, and those of its cause, if the text has them all.
-fn events_of<'t>(events: &[ShownEvent<'t>], race: ShownRace<'_>) -> Option<RaceEvents<'t>>
-    ensures { result ≡ events_of events.now race.entry }
+/// The numbers of the events of a race, and of those of its cause.
+fn numbers_of(race: ShownRace<'_>) -> PairNumbers
+    ensures { result ≡ numbers_of race.entry }
 {
-    let (Some(first), Some(second)) = (
-        events.get(race.first as usize),
-        events.get(race.second as usize),
-    ) else {
-        return None;
-    };
-    let (Some(needed), Some(output)) = (
-        events.get(race.cause.needed as usize),
-        events.get(race.cause.output as usize),
-    ) else {
-        return None;
-    };
-    Some(RaceEvents {
-        first: *first,
-        second: *second,
-        needed: *needed,
-        output: *output,
-    })
+    PairNumbers {
+        first: race.first,
+        second: race.second,
+        needed: race.cause.needed,
+        output: race.cause.output,
+    }
 }
 
 /// A race as a diagnostic, with an empty row after it: that its second event can come before its
@@ -292,10 +210,51 @@ pub fn race_text(
 ) -> Result<Vec<u8>, AllocError>
     ensures { IfOk result (λ bytes. bytes.items ≡ race_text text.entry race.entry) }
 {
-    let Some(events) = events_of(text.events, race) else {
+    let Some(events) = events_of(text.events, numbers_of(race)) else {
         return Ok(Vec::new(alloc));
     };
     let spoken = spoken_race(events, race.cause, race.is_next);
     let bytes = text_between(alloc, text, race, &events.first, &events.second, &spoken)?;
+    Ok(bytes)
+}
+
+/// The text of the diagnostic of a race that is left, between two events.
+fn left_between<'t>(
+    alloc: Global,
+    text: ShownText<'_>,
+    first: &ShownEvent<'t>,
+    second: &ShownEvent<'t>,
+    race: &SpokenRace<'_>,
+) -> Result<Vec<u8>, AllocError>
+    ensures { IfOk result (λ bytes. bytes.items
+        ≡ left_between text.entry first.now second.now race.now) }
+{
+    let sentence = race.sentence(alloc, text.names)?;
+    let marks = race_marks(alloc, race, first, second)?;
+    let parts = BlockParts {
+        level: Level::Warning,
+        id: "race",
+        sentence: sentence.as_str(),
+        place: first_place(first, second),
+    };
+    let bytes = parts_text(alloc, text, parts, marks.as_slice(), &[])?;
+    Ok(bytes)
+}
+
+/// A race that is left where only some instances are ready, as a diagnostic with an empty row after
+/// it: that its second event can come before its first, both in the lines of the text. It is empty
+/// if the text lacks one of the events. The only error is want of memory.
+pub fn left_text(
+    alloc: Global,
+    text: ShownText<'_>,
+    race: ShownRace<'_>,
+) -> Result<Vec<u8>, AllocError>
+    ensures { IfOk result (λ bytes. bytes.items ≡ left_text text.entry race.entry) }
+{
+    let Some(events) = events_of(text.events, numbers_of(race)) else {
+        return Ok(Vec::new(alloc));
+    };
+    let spoken = spoken_race(events, race.cause, race.is_next);
+    let bytes = left_between(alloc, text, &events.first, &events.second, &spoken)?;
     Ok(bytes)
 }

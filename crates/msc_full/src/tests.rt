@@ -1,6 +1,9 @@
-//! A race of a chart, and its diagnostic.
+//! A race and a stick of charts, a stale mark of a diagram, and their diagnostics.
 
-use crate::{ShownEvent, ShownRace, ShownText, race_text};
+use crate::{
+    ShownEvent, ShownRace, ShownStick, ShownText, StaleMark, StickShown, race_text, stale_text,
+    stick_text,
+};
 use msc_chart::LinkKind;
 use msc_diagnostic::{LineEnds, Source};
 use msc_reason::{Cause, RaceKind};
@@ -125,4 +128,178 @@ fn a_race_is_told(rt: HostRuntime) {
     };
     let told = race_text(rt.alloc(), text, RACE).expect(&rt, "memory for a race");
     assert_eq!(rt; told.as_slice(), PRINTED.as_bytes());
+}
+
+/// A job that is cancelled too soon.
+const CANCELS: &str =
+    "/* A client cancels a job that the dispatcher has passed on to a worker. Drawn for this gallery after
+   job queues with a way to cancel; what a worker does with an unknown job is left out. */
+msc cancel_overtakes;
+instance client;
+  out submit to dispatcher;
+  out cancel to worker;
+  in cancelled from worker;
+endinstance;
+instance dispatcher;
+  in submit from client;
+  out start to worker;
+endinstance;
+instance worker;
+  in start from dispatcher;
+  in cancel from client;
+  out cancelled to client;
+endinstance;
+endmsc;
+";
+
+/// What its instances are called.
+const CANCEL_NAMES: [&str; 3] = ["client", "dispatcher", "worker"];
+
+/// Four of its events: the worker receives both messages, and both are sent.
+const CANCEL_EVENTS: [ShownEvent<'static>; 4] = [
+    ShownEvent {
+        spoken: SpokenEvent {
+            act: Act::Receives,
+            message: "\"start\"",
+            owner: 2,
+            peer: 1,
+            line: 14,
+        },
+        first: 426,
+        past: 451,
+        place: "cancel_overtakes.msc:14:3",
+        kind: LinkKind::Mailbox,
+        queue: 2,
+    },
+    ShownEvent {
+        spoken: SpokenEvent {
+            act: Act::Receives,
+            message: "\"cancel\"",
+            owner: 2,
+            peer: 0,
+            line: 15,
+        },
+        first: 454,
+        past: 476,
+        place: "cancel_overtakes.msc:15:3",
+        kind: LinkKind::Mailbox,
+        queue: 2,
+    },
+    ShownEvent {
+        spoken: SpokenEvent {
+            act: Act::Sends,
+            message: "\"start\"",
+            owner: 1,
+            peer: 2,
+            line: 11,
+        },
+        first: 0,
+        past: 0,
+        place: "cancel_overtakes.msc:11:3",
+        kind: LinkKind::Mailbox,
+        queue: 2,
+    },
+    ShownEvent {
+        spoken: SpokenEvent {
+            act: Act::Sends,
+            message: "\"cancel\"",
+            owner: 0,
+            peer: 2,
+            line: 6,
+        },
+        first: 0,
+        past: 0,
+        place: "cancel_overtakes.msc:6:3",
+        kind: LinkKind::Mailbox,
+        queue: 2,
+    },
+];
+
+/// The stick of the first two.
+const STICK: ShownStick<'static> = ShownStick {
+    first: 0,
+    second: 1,
+    needed: 2,
+    output: 3,
+    is_next: false,
+    shown: StickShown::Run(&[
+        "1. client sends \"submit\" to dispatcher (line 5)",
+        "2. client sends \"cancel\" to worker (line 6)",
+        "3. dispatcher receives \"submit\" from client (line 10)",
+        "4. dispatcher sends \"start\" to worker (line 11)",
+    ]),
+};
+
+/// What is printed of it.
+const STICK_PRINTED: &str =
+    "error[stick]: worker can block: it waits for \"start\" from dispatcher, and \"cancel\" from client is first in its mailbox
+  --> cancel_overtakes.msc:14:3
+   |
+14 |   in start from dispatcher;
+   |   ^^^^^^^^^^^^^^^^^^^^^^^^^ waits for this
+15 |   in cancel from client;
+   |   ---------------------- first in its mailbox
+   |
+   = help: it cannot block here if client sends \"cancel\" (line 6) only after dispatcher has sent \"start\" (line 11)
+   = note: a run that shows it:
+     1. client sends \"submit\" to dispatcher (line 5)
+     2. client sends \"cancel\" to worker (line 6)
+     3. dispatcher receives \"submit\" from client (line 10)
+     4. dispatcher sends \"start\" to worker (line 11)
+
+";
+
+#[test]
+fn a_stick_is_told(rt: HostRuntime) {
+    let source = Source::new(rt.alloc(), CANCELS.as_bytes(), LineEnds::LineFeed);
+    let source = source.expect(&rt, "memory for a text");
+    let text = ShownText {
+        source: &source,
+        names: &CANCEL_NAMES,
+        events: &CANCEL_EVENTS,
+        colours: false,
+    };
+    let told = stick_text(rt.alloc(), text, STICK).expect(&rt, "memory for a stick");
+    assert_eq!(rt; told.as_slice(), STICK_PRINTED.as_bytes());
+}
+
+/// The beginning of a diagram with a mark.
+const PINGS: &str = "sequenceDiagram
+    participant A
+    participant B
+    %% race ok: B answers at once
+    A->>B: ask
+";
+
+/// The mark in it, which accepts no race.
+const STALE: StaleMark<'static> = StaleMark {
+    first: 56,
+    past: 85,
+    place: "stale.mmd:4:5",
+    has_arrow: true,
+};
+
+/// What is printed of it.
+const STALE_PRINTED: &str = "warning[stale]: this mark accepts no race
+ --> stale.mmd:4:5
+  |
+4 |     %% race ok: B answers at once
+  |     ^^^^^^^^^^^^^^^^^^^^^^^^^^^^^
+  |
+  = help: remove it, or correct what it says
+
+";
+
+#[test]
+fn a_stale_mark_is_told(rt: HostRuntime) {
+    let source = Source::new(rt.alloc(), PINGS.as_bytes(), LineEnds::Any);
+    let source = source.expect(&rt, "memory for a text");
+    let text = ShownText {
+        source: &source,
+        names: &[],
+        events: &[],
+        colours: false,
+    };
+    let told = stale_text(rt.alloc(), text, STALE).expect(&rt, "memory for a mark");
+    assert_eq!(rt; told.as_slice(), STALE_PRINTED.as_bytes());
 }
