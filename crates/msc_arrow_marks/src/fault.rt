@@ -9,14 +9,14 @@ pub enum Slip {
     Part,
     /// Only the reason is missing.
     Reason,
-    /// It stands behind an arrow, so it is a part of the arrow's label.
+    /// It follows an arrow on its line, so Mermaid reads it as part of the arrow's label.
     Label,
     /// The arrow below it has a mark already.
     Second,
 }
 
-/// A faulty mark: what is wrong, and the bytes of the comment, or of the arrow whose label it is a
-/// part of.
+/// A faulty mark: what is wrong, and the bytes of the comment, or of the arrow whose label contains
+/// it.
 #[derive(Clone, Copy, Debug, PartialEq, Eq)]
 pub struct FaultyMark {
     pub slip: Slip,

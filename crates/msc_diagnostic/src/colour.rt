@@ -58,7 +58,7 @@ pub(crate) fn put_text(out: &mut Vec<u8>, text: &str) -> Result<(), AllocError>
     out.extend_from_slice(text.as_bytes())
 }
 
-/// Appends the same byte so many times. The only error is want of memory.
+/// Appends `count` copies of a byte. The only error is want of memory.
 pub(crate) fn put_many(
     alloc: Global,
     out: &mut Vec<u8>,

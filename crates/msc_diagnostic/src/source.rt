@@ -17,7 +17,7 @@ pub enum LineEnds {
     Any,
 }
 
-/// The bytes at the front, at most so many.
+/// The first `count` bytes, or all bytes if there are fewer.
 pub(crate) fn front(bytes: &[u8], count: usize) -> &[u8]
     ensures { result.now ≡ take count bytes.now }
 {

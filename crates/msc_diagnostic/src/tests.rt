@@ -1,4 +1,4 @@
-//! Diagnostics, and what is printed of them.
+//! Diagnostics and the rows that they print.
 
 ghost use Rattle.std.specs.Prelude.{◌≡◌};
 ghost use Rattle.msc_diagnostic.specs.Blocks.{diagnostic_text};
@@ -121,7 +121,7 @@ const CHINESE_RACE: Diagnostic<'static> = Diagnostic {
     ],
 };
 
-/// What is printed of it.
+/// The rows of this diagnostic.
 const CHINESE_ROWS: &[&str] = &[
     "warning[queues]: \u{7528}\u{6237} can receive \"\u{77ED}\u{4FE1}\u{FF1A}\u{5E93}\u{5B58}\u{5DF2}\u{9884}\u{7559}\" from \u{5E93}\u{5B58}\u{670D}\u{52A1} before \"\u{5DF2}\u{53D7}\u{7406}\" from API \u{7F51}\u{5173}",
     "  --> chinese.mmd:10:5",
@@ -174,7 +174,7 @@ const ORDER_SAGA: &[&str] = &[
     "    end",
 ];
 
-/// What is printed of a race in it.
+/// The rows for a race in it.
 const ORDER_SAGA_ROWS: &[&str] = &[
     "warning[queues]: Order Service can receive \"stock reserved\" from Inventory Service before \"money reserved\" from Payment Service",
     "  --> order_saga.mmd:9:5",
@@ -212,7 +212,7 @@ const PAYMENT_WEBHOOK: &[&str] = &[
     "    PSP-->>Shop: succeeded",
 ];
 
-/// What is printed of a race in it.
+/// The rows for a race in it.
 const PAYMENT_WEBHOOK_ROWS: &[&str] = &[
     "warning[queues]: Shop can receive \"mark as paid\" from Webhook Worker before \"processing\" from Payment Provider",
     "  --> payment_webhook.mmd:12:5",
@@ -296,7 +296,7 @@ const CAUSAL_NEWS: &[&str] = &[
     "endmsc;",
 ];
 
-/// What is printed of a stick in it, with the rows of a run.
+/// The rows for a stick in it, with a run.
 const CAUSAL_NEWS_ROWS: &[&str] = &[
     "error[stick]: reader can block: it waits for \"correction\" from editor, and the next round's \"article\" from author is first in its mailbox",
     "  --> causal_news.msc:15:3",
@@ -369,7 +369,7 @@ const LONG_LINE: &[&str] = &[
     "                                                                                                                                            /* far to the right */ in m from a;                                                                                                                          in n from c;                                                                                          ",
 ];
 
-/// What is printed of a race in it: a window for each mark.
+/// The rows for a race in it: each mark has a window.
 const LONG_LINE_ROWS: &[&str] = &[
     "warning[queues]: b can receive \"n\" from c before \"m\" from a",
     " --> long_lines.msc:1:164",

@@ -145,7 +145,7 @@ fn ended(alloc: Global, left_out: bool, shown: &[char]) -> Result<Vec<char>, All
     Ok(text)
 }
 
-/// The characters at the front, at most so many.
+/// The first `count` characters, or all characters if there are fewer.
 fn front(characters: &[char], count: usize) -> &[char]
     ensures { result.now ≡ take count characters.now }
 {

@@ -1,4 +1,4 @@
-//! Events and texts, as findings are told of them.
+//! The events and the text that findings are about.
 
 use msc_chart::LinkKind;
 use msc_diagnostic::Source;
@@ -18,7 +18,7 @@ pub struct ShownEvent<'t> {
     pub queue: u32,
 }
 
-/// A text whose findings are told.
+/// A text and its events, of which findings are printed.
 #[derive(Clone, Copy)]
 pub struct ShownText<'t> {
     pub source: &'t Source<'t>,

@@ -1,8 +1,8 @@
 //! Findings as people read them: races, instances that can block, and stale marks, each as a
 //! diagnostic with the lines of the text that it is about, the reason, and what would prevent it.
 //!
-//! Findings are told of events as plain data ([`ShownEvent`]): what people call them, and where they
-//! stand in the text. So charts and diagrams are told of alike. Events are numbered from 0, in the
+//! Events are plain data ([`ShownEvent`]): what people call them, and where they stand in the text. So
+//! charts and diagrams share all of it. Events are numbered from 0, in the
 //! order of the chart.
 #![tactic(auto)]
 

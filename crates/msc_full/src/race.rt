@@ -114,7 +114,7 @@ fn race_notes<'n>(alloc: Global, said: RaceNotes<'n>) -> Result<Vec<Note<'n>>, A
     Ok(notes)
 }
 
-/// A race whose diagnostic is told.
+/// A race to print as a diagnostic.
 #[derive(Clone, Copy)]
 pub struct ShownRace<'t> {
     /// The event that is drawn first, and the one that can come before it.
@@ -124,9 +124,9 @@ pub struct ShownRace<'t> {
     pub cause: Cause,
     /// Whether the second event is of the next round.
     pub is_next: bool,
-    /// In which scenarios of a diagram it is a race, if that is told.
+    /// A note on the scenarios of a diagram in which it is a race, if there is one.
     pub scenarios: Option<&'t str>,
-    /// The rows of a run that shows it, if one is told.
+    /// The rows of a run that shows it, if one is printed.
     pub run: Option<&'t [&'t str]>,
 }
 

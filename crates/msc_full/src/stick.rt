@@ -26,7 +26,7 @@ pub enum StickShown<'t> {
     Behind(&'t str),
 }
 
-/// A stick whose diagnostic is told: an instance waits for its first input, and the message of the
+/// A stick to print as a diagnostic: an instance waits for its first input, and the message of the
 /// second is ahead in their queue.
 #[derive(Clone, Copy)]
 pub struct ShownStick<'t> {

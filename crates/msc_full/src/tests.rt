@@ -101,7 +101,7 @@ const RACE: ShownRace<'static> = ShownRace {
     run: None,
 };
 
-/// What is printed of it.
+/// The text of its diagnostic.
 const PRINTED: &str =
     "warning[early]: sender can receive \"ack0, first\" from receiver before it sends \"frame0, again\" to receiver
  --> alternating_bit.msc:8:3
@@ -230,7 +230,7 @@ const STICK: ShownStick<'static> = ShownStick {
     ]),
 };
 
-/// What is printed of it.
+/// The text of its diagnostic.
 const STICK_PRINTED: &str =
     "error[stick]: worker can block: it waits for \"start\" from dispatcher, and \"cancel\" from client is first in its mailbox
   --> cancel_overtakes.msc:14:3
@@ -279,7 +279,7 @@ const STALE: StaleMark<'static> = StaleMark {
     has_arrow: true,
 };
 
-/// What is printed of it.
+/// The text of its diagnostic.
 const STALE_PRINTED: &str = "warning[stale]: this mark accepts no race
  --> stale.mmd:4:5
   |

@@ -285,16 +285,19 @@ def answer(text, queues, only=(), show=ALL, words=False, file=None):
     return told, 1
 
 
-def answered(text, queues, only, show, words, file, form):
-    """What `msc ready` prints in a format."""
+def in_format(text, queues, only, form, plain, others):
+    """What is printed in a format: `plain` answers in text, and `others` in any other format."""
     fault = unknown_name(Chart(text, queues), only)
     if fault:
         return refused(fault, form)
-    if form != "text":
-        lines, status = formatted(text, queues, only, form)
-    else:
-        lines, status = answer(text, queues, only, show, words, file)
+    lines, status = plain() if form == "text" else others(text, queues, only, form)
     return Answer(joined(lines), b"", status)
+
+
+def answered(text, queues, only, show, words, file, form):
+    """What `msc ready` prints in a format."""
+    return in_format(text, queues, only, form,
+                     lambda: answer(text, queues, only, show, words, file), formatted)
 
 
 def main(given):

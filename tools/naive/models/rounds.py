@@ -22,8 +22,8 @@ from models.links import add_queues, given_of
 from models.marks import fault_of, marks_for
 from models.own import of_chart
 from models.races import KINDS, chosen, closest_of, kind, share_queue, shown_run, study
-from models.ready import ALL, for_editors, formatted, pair_words, refused, signal, system_of
-from models.ready import unknown_name
+from models.ready import ALL, for_editors, formatted, in_format, pair_words, refused, signal
+from models.ready import system_of, unknown_name
 from models.shown import named, places_of
 
 # messages and actions of a chart, of which two rounds are a chart too
@@ -228,14 +228,9 @@ def ready_formatted(text, queues, only, form):
 
 def ready_answered(text, queues, only, show, words, placed, form):
     """What `msc ready --again` prints in a format."""
-    fault = unknown_name(Chart(text, queues), only)
-    if fault:
-        return refused(fault, form)
-    if form != "text":
-        lines, status = ready_formatted(text, queues, only, form)
-    else:
-        lines, status = ready_answer(text, queues, only, show, words, placed)
-    return Answer(joined(lines), b"", status)
+    return in_format(text, queues, only, form,
+                     lambda: ready_answer(text, queues, only, show, words, placed),
+                     ready_formatted)
 
 
 def fault_of_rounds(text, queues):
