@@ -1,15 +1,18 @@
 #!/usr/bin/env python3
-"""Runs `msc` with its streams on a terminal, and looks which of them tell more there.
+"""Runs `msc` with its streams on a terminal, and compares what it prints there.
 
     tools/terminal.py PROGRAM
 
-Behind the line of a fault notes are told on standard error where that is a terminal, where
-`--places` asks for them, and not where `--plain` stands; standard output is the same everywhere.
-Prints how many runs were looked at. The exit status is 1 where one prints something else.
+If standard error is a terminal, notes follow the line of a fault; they do so anywhere with
+`--places`, and nowhere with `--plain`. Standard output is the same everywhere, but for the colours
+of `--format full`: these are printed to a terminal, unless `NO_COLOR` or `TERM` forbids it, or as
+`--color` says. Prints how many runs were compared. The exit status is 1 if one prints something
+else.
 """
 import os
 import pathlib
 import pty
+import re
 import subprocess
 import sys
 
@@ -60,6 +63,24 @@ ANSWERS = [
     ["follow", "--queues", "pair", "charts/urgent_overtakes.msc"],
 ]
 
+FULL = ["check", "--queues", "pair", "--format", "full", "charts/two_phase_commit.msc"]
+
+# Variables, what `--color` says, and whether there are colours on a terminal, and elsewhere.
+COLOURS = [
+    ({"TERM": "xterm"}, None, True, False),
+    ({"TERM": "xterm"}, "auto", True, False),
+    ({"TERM": "xterm"}, "always", True, True),
+    ({"TERM": "xterm"}, "never", False, False),
+    ({"TERM": "xterm", "NO_COLOR": ""}, None, True, False),
+    ({"TERM": "xterm", "NO_COLOR": "1"}, None, False, False),
+    ({"TERM": "xterm", "NO_COLOR": "1"}, "always", True, True),
+    ({"TERM": "dumb"}, None, False, False),
+    ({"TERM": "dumb"}, "always", True, True),
+    ({}, None, True, False),
+]
+# the sequences of colours
+SEQUENCE = re.compile(rb"\x1b\[[0-9;]*m")
+
 
 def read_all(descriptor):
     """What is written to a terminal, until it is closed."""
@@ -75,12 +96,14 @@ def read_all(descriptor):
     return b"".join(parts).replace(b"\r\n", b"\n")
 
 
-def run(program, words, terminal):
-    """What a run writes to standard output and to standard error, where that stream of these two is
-    a terminal."""
+def run(program, words, terminal, variables=None):
+    """What a run writes to standard output and to standard error, if that stream of these two is a
+    terminal."""
     main, own = pty.openpty()
     streams = {"stdout": subprocess.PIPE, "stderr": subprocess.PIPE, terminal: own}
-    with subprocess.Popen([program, *words], cwd=ROOT, stdin=subprocess.DEVNULL, **streams) as ended:
+    with subprocess.Popen(
+        [program, *words], cwd=ROOT, stdin=subprocess.DEVNULL, env=variables, **streams
+    ) as ended:
         os.close(own)
         shown = read_all(main)
         os.close(main)
@@ -88,12 +111,24 @@ def run(program, words, terminal):
     return (shown, piped) if terminal == "stdout" else (piped, shown)
 
 
-def plain(program, words):
-    """What a run writes to both streams where neither is a terminal."""
+def plain(program, words, variables=None):
+    """What a run writes to both streams if neither is a terminal."""
     ended = subprocess.run(
-        [program, *words], cwd=ROOT, stdin=subprocess.DEVNULL, capture_output=True
+        [program, *words], cwd=ROOT, stdin=subprocess.DEVNULL, capture_output=True, env=variables
     )
     return ended.stdout, ended.stderr
+
+
+def has_wrong_colours(program, variables, color, on_terminal, elsewhere):
+    """Whether a run with these variables has colours where it should not, or none where it should,
+    or prints something else besides."""
+    words = [*FULL, *([] if color is None else ["--color", color])]
+    shown = run(program, words, "stdout", variables)[0]
+    piped = plain(program, words, variables)[0]
+    bare = plain(program, [*FULL, "--color", "never"])[0]
+    found = [bool(SEQUENCE.search(text)) for text in (shown, piped)]
+    texts = {SEQUENCE.sub(b"", text) for text in (shown, piped)}
+    return found != [on_terminal, elsewhere] or texts != {bare}
 
 
 def failures(program):
@@ -111,6 +146,9 @@ def failures(program):
     for words in ANSWERS:
         if not plain(program, words) == run(program, words, "stdout") == run(program, words, "stderr"):
             yield words
+    for variables, color, *wanted in COLOURS:
+        if has_wrong_colours(program, variables, color, *wanted):
+            yield variables, color
 
 
 def main():
@@ -118,7 +156,8 @@ def main():
     failed = list(failures(program))
     for words in failed:
         print("terminal: another answer:", words)
-    print(f"terminal: {3 * len(FAULTS) + 3 * len(ANSWERS)} runs, {len(failed)} others")
+    runs = 3 * (len(FAULTS) + len(ANSWERS) + len(COLOURS))
+    print(f"terminal: {runs} runs, {len(failed)} others")
     return 1 if failed else 0
 
 

@@ -2,7 +2,7 @@
 
 use msc_mermaid::Span;
 
-/// What is wrong with a mark.
+/// A fault of a mark.
 #[derive(Clone, Copy, Debug, PartialEq, Eq)]
 pub enum Slip {
     /// What follows `race ok` is no part of a mark.

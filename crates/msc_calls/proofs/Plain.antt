@@ -80,11 +80,11 @@ abbrev by_marks : Texts → EnforcedChart → CheckOptions → Option (Bor PairT
 by_marks r e q accepted stale t =
     let left : LeftOut = record { kinds = q.allowed; accepted = accepted } in
     r.heading (heading_of e q.closest left t.causes)
-    ++ (flat_map (finding_shown r.finding r.run q.show (run_of q.short t)) (findings e q left t.causes) ++ r.end stale)
+    ++ (flat_map (finding_shown r.finding r.run q.show (run_of q.short t)) (findings e q left t.causes) ++ r.end stale None)
 
 -- so what is asked for a verdict is printed as it, where marks are not asked
 pub plain_text : (e : EnforcedChart) (most show : ℕ) (m : Marking) (t : Tables) → m.accepted ≡ None → m.stale.now ≡ [] → length (races_of e) ≤ most
-    → answer_text (texts_in (Lines plain_style) [] e.chart) e (record { closest = false; why = false; allowed = no_kind; most = most; show = show; short = false }) m t
+    → answer_text (texts_in (Lines plain_style) [] e.chart) e (record { closest = false; why = false; allowed = no_kind; most = most; show = show; short = false }) m t true
     ≡ checked_text e.chart e.queues t.runs show (verdict_of (races_of e))
 plain_text e most show m t none no_stale few =
     let q : CheckOptions = record { closest = false; why = false; allowed = no_kind; most = most; show = show; short = false } in

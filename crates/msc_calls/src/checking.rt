@@ -31,7 +31,7 @@ fn all_races(show: u32) -> CheckOptions
 }
 
 /// The format of a verdict.
-fn plain_lines() -> ChartFormat<'static>
+fn plain_lines() -> ChartFormat<'static, 'static>
     ensures { result ≡ ChartFormat.Lines plain_style }
 {
     ChartFormat::Lines(Style::PLAIN)

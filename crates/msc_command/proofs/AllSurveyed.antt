@@ -27,6 +27,7 @@ lines_in : {W : Type 0} (contents : W → Option (List ℕ)) (format : Format) (
 lines_in contents formats.Lines file text refusal old new told = told
 lines_in contents formats.Text file text refusal old new same = ([], refl, rw same (nothing_more _))
 lines_in contents formats.Count file text refusal old new same = ([], refl, rw same (nothing_more _))
+lines_in contents formats.Full file text refusal old new same = ([], refl, rw same (nothing_more _))
 
 module _ {W : Type 0} (contents : W → Option (List ℕ)) (x : ScenarioArgs) (file text : List ℕ) where
   module _ (n : ℕ) where

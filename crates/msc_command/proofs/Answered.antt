@@ -153,13 +153,13 @@ module _ {W : Type 0} (contents : W → Option (List ℕ)) where
   print_so prints refuses bytes status says (Ok s) old new (same, wrote) = (bytes, subst (λ (s : Status). prints s bytes) (sym same) says, wrote)
   print_so prints refuses bytes status says (Err r) old new is = rw is tt
 
-  module _ (c : CheckArgs) (file : List ℕ) (chart_format : ChartFormat) (s : SourceText) (its : IsFormat c file s.text chart_format)
-      (marks : Option (List Mark)) (are : AreMarked c.accept s.text marks) (room : HasRoom c.again s.chart) where
+  module _ (c : CheckArgs) (file : List ℕ) (chart_format : ChartFormat) (s : SourceText) (marks : Option (List Mark))
+      (its : IsFormat c file s marks chart_format) (are : AreMarked c.accept s.text marks) (room : HasRoom c.again s.chart) where
     -- what is judged of a chart, with rounds of it where they are asked for
     judges : (again : Bool) → again ≡ c.again → (passed : Bool) (printed : List ℕ) → JudgesChart s.chart c.queues c.options marks again chart_format passed printed
         → PrintsOf (chart_commands.Check c) file s (ended_by passed) printed
     judges again asked passed printed says =
-        (chart_format, its, marks, are, room, passed, refl, subst (λ (a : Bool). JudgesChart s.chart c.queues c.options marks a chart_format passed printed) asked says)
+        (marks, are, chart_format, its, room, passed, refl, subst (λ (a : Bool). JudgesChart s.chart c.queues c.options marks a chart_format passed printed) asked says)
 
     -- where it was told it was answered
     pub judged : (again : Bool) → again ≡ c.again → (passed : Bool) (old new : W)

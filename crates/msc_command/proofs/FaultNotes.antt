@@ -66,6 +66,7 @@ module _ {W : Type 0} (contents : W → Option (List ℕ)) where
   refused_told : (format : Format) (file text : List ℕ) (refusal : Refusal) (old new : W) → TellsIn contents format file text refusal old new → TellsRefused contents old new
   refused_told formats.Text file text refusal old new same = inl same
   refused_told formats.Count file text refusal old new same = inl same
+  refused_told formats.Full file text refusal old new same = inl same
   refused_told formats.Lines file text refusal old new (printed, is, wrote) = inr (inl (file, text, refusal, printed, is, wrote))
 
   -- and of several diagrams of which one is refused all that is printed did

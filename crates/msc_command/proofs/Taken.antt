@@ -13,7 +13,7 @@ use Rattle.clap.specs.declared.parser.matches.ArgMatches.TheViews.{out-SubComman
 use Rattle.clap.specs.declared.parser.matches.SubCommand.{SubCommand}
 use Rattle.msc_command.specs.Grammar.{AreParsers, AreTaken, IsGrammar, architecture_words, format_words, kind_words, parsers_of}
 use Rattle.msc_command.specs.declared.grammar.Choices.{Choices}
-use Rattle.msc_command.specs.Words.{cross_words, language_words, own_words, par_words}
+use Rattle.msc_command.specs.Words.{color_words, cross_words, language_words, own_words, par_words, stick_format_words}
 use Rattle.msc_command.specs.Program.{ObeysMatches, ObeysNamed}
 use Rattle.msc_command.specs.declared.ending.Status.{Status}
 use Rattle.msc_command.specs.declared.ending.Status.TheVariants.{Refused}
@@ -23,11 +23,15 @@ pub are_parsers : (lent : Choices)
     → map (λ word. word.now) lent.architectures.words.now ≡ architecture_words → map (λ word. word.now) lent.kinds.words.now ≡ kind_words
     → map (λ word. word.now) lent.formats.words.now ≡ format_words → map (λ word. word.now) lent.languages.words.now ≡ language_words
     → map (λ word. word.now) lent.owns.words.now ≡ own_words → map (λ word. word.now) lent.crosses.words.now ≡ cross_words
-    → map (λ word. word.now) lent.pars.words.now ≡ par_words → AreParsers (parsers_of lent)
-are_parsers lent one two three four five six seven = record {
+    → map (λ word. word.now) lent.pars.words.now ≡ par_words
+    → map (λ word. word.now) lent.stick_formats.words.now ≡ stick_format_words → map (λ word. word.now) lent.colors.words.now ≡ color_words
+    → AreParsers (parsers_of lent)
+are_parsers lent one two three four five six seven eight nine = record {
   architectures = (_, refl, one);
   kinds = (_, refl, two);
   formats = (_, refl, three);
+  stick_formats = (_, refl, eight);
+  colors = (_, refl, nine);
   languages = (_, refl, four);
   owns = (_, refl, five);
   crosses = (_, refl, six);

@@ -56,8 +56,8 @@ use Rattle.msc_command.specs.declared.tasks.Task.TheVariants.{Read, Chart, Draw,
 -- how the run ends. A chart is run with a gate that is known to be open.
 abbrev pub PrintsOf : ChartCommand → List ℕ → SourceText → Status → List ℕ → Type 0
 PrintsOf (Check c) file s status printed =
-    (chart_format : ChartFormat) × IsFormat c file s.text chart_format
-    × (marks : Option (List Mark)) × AreMarked c.accept s.text marks × HasRoom c.again s.chart
+    (marks : Option (List Mark)) × AreMarked c.accept s.text marks
+    × (chart_format : ChartFormat) × IsFormat c file s marks chart_format × HasRoom c.again s.chart
     × (passed : Bool) × (status ≡ ended_by passed) × JudgesChart s.chart c.queues c.options marks c.again chart_format passed printed
 PrintsOf (Quiet x) file s status printed =
     (marks : Option (List Mark)) × AreMarked x.accept s.text marks × HasRoom x.again s.chart

@@ -164,6 +164,23 @@ format found = format_named (first_value found (arg_word words.ChartFormat))
 abbrev pub format_of_sticks : Found → Format
 format_of_sticks found = format_named (first_value found (arg_word words.FormatSticks))
 
+-- whether a format is that of findings as people read them
+abbrev pub is_full : Format → Bool
+is_full formats.Text = false
+is_full formats.Count = false
+is_full formats.Lines = false
+is_full formats.Full = true
+
+-- how many races of a chart are shown by runs in a format, if no word gives a number
+abbrev pub runs_in : Format → ℕ
+runs_in format = cond (is_full format) 0 unlimited
+
+-- whether findings have colours by a word, and as this says without one
+abbrev pub colours_by : Option (List ℕ) → Bool → Bool
+colours_by None auto = auto
+colours_by (Some word) auto =
+    cond (bytes_eq word (codes "always")) true (cond (bytes_eq word (codes "never")) false auto)
+
 -- how the words want an answer to speak
 pub record IsEventStyle (found : Found) (event_style : EventStyle) : Type 0 where
   pub places : IsFlag found (arg_word words.Places) event_style.places
@@ -200,6 +217,8 @@ pub record AreCheckArgs (found : Found) (shown : ℕ) (c : CheckArgs) : Type 0 w
   pub accept : IsFlag found (arg_word words.Accept) c.accept
   pub again : IsFlag found (arg_word words.Again) c.again
   pub format_is : c.format ≡ format found
+  pub auto : Bool
+  pub colours : c.colours ≡ colours_by (first_value found (arg_word words.Color)) auto
   pub event_style : IsEventStyle found c.event_style
 
 -- what the words of `check` ask the status to tell alone
@@ -353,7 +372,7 @@ IsOfChart found = (is_of_scenarios found ≡ false) × (lacks_from found ≡ fal
 abbrev pub AsksFor : CommandName → Found → Task → Type 0
 AsksFor command_names.Read found Read = Unit {0}
 AsksFor command_names.Check found (Chart (Check c) links) =
-    IsOfChart found × IsFlag found (arg_word words.Quiet) false × AreCheckArgs found unlimited c × AreLinkWords found links
+    IsOfChart found × IsFlag found (arg_word words.Quiet) false × AreCheckArgs found (runs_in (format found)) c × AreLinkWords found links
 AsksFor command_names.Check found (Chart (Quiet x) links) =
     IsOfChart found × IsFlag found (arg_word words.Quiet) true × AreQuietArgs found x × AreLinkWords found links
 AsksFor command_names.Check found (Scenarios x) = (is_of_scenarios found ≡ true) × IsSurvey found x

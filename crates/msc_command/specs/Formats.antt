@@ -1,7 +1,10 @@
 -- In which format the races of a chart are told, and its sticks.
-use Rattle.std.specs.Prelude.{◌≡◌, ℕ, List}
+use Rattle.std.specs.Prelude.{◌≡◌, ℕ, List, Option}
+use Rattle.msc_mark.specs.declared.mark.Mark.{Mark}
 use Rattle.msc_report.specs.declared.ready_format.ReadyFormat.{ReadyFormat}
 use Rattle.msc_report.specs.declared.ready_format.ReadyFormat.TheVariants as ready_formats
+use Rattle.msc_shown_chart.specs.Charts.{IsFullFormat}
+use Rattle.msc_source.specs.Texts.{SourceText}
 use Rattle.msc_text.specs.declared.judging.ChartFormat.{ChartFormat}
 use Rattle.msc_text.specs.declared.judging.ChartFormat.TheVariants as chart_formats
 use Rattle.msc_command.specs.Sited.{HasEventPositions, IsStyle}
@@ -11,20 +14,23 @@ use Rattle.msc_command.specs.declared.tasks.Format.{Format}
 use Rattle.msc_command.specs.declared.tasks.Format.TheVariants as formats
 use Rattle.msc_command.specs.declared.tasks.EventStyle.{EventStyle}
 
--- the format of a form, for the text of a file of this name
-abbrev pub IsFormatIn : Format → EventStyle → List ℕ → List ℕ → ChartFormat → Type 0
-IsFormatIn formats.Text event_style file text (chart_formats.Lines style) = IsStyle event_style file text style
-IsFormatIn formats.Count event_style file text (chart_formats.Count name) = name.now ≡ file
-IsFormatIn formats.Lines event_style file text (chart_formats.Editor event_positions) = HasEventPositions file text event_positions.now
-IsFormatIn format event_style file text chart_format = ⊥
+-- the format of a form, for the chart of the text of a file of this name, with these marks
+abbrev pub IsFormatIn : Format → CheckArgs → List ℕ → SourceText → Option (List Mark) → ChartFormat → Type 0
+IsFormatIn formats.Text c file s marks (chart_formats.Lines style) = IsStyle c.event_style file s.text style
+IsFormatIn formats.Count c file s marks (chart_formats.Count name) = name.now ≡ file
+IsFormatIn formats.Lines c file s marks (chart_formats.Editor event_positions) = HasEventPositions file s.text event_positions.now
+IsFormatIn formats.Full c file s marks (chart_formats.Full full) = IsFullFormat s.chart c.queues file s.text marks c.colours full
+IsFormatIn format c file s marks chart_format = ⊥
 
 -- the format that is asked for
-abbrev pub IsFormat : CheckArgs → List ℕ → List ℕ → ChartFormat → Type 0
-IsFormat c file text chart_format = IsFormatIn c.format c.event_style file text chart_format
+abbrev pub IsFormat : CheckArgs → List ℕ → SourceText → Option (List Mark) → ChartFormat → Type 0
+IsFormat c file s marks chart_format = IsFormatIn c.format c file s marks chart_format
 
--- the format of a form, of sticks
+-- The format of a form, of sticks. There are no findings as people read them of these: a query that
+-- names that form would have lines of text.
 abbrev pub IsReadyFormatIn : Format → EventStyle → List ℕ → List ℕ → ReadyFormat → Type 0
 IsReadyFormatIn formats.Text event_style file text (ready_formats.Lines style) = IsStyle event_style file text style
+IsReadyFormatIn formats.Full event_style file text (ready_formats.Lines style) = IsStyle event_style file text style
 IsReadyFormatIn formats.Count event_style file text (ready_formats.Count name) = name.now ≡ file
 IsReadyFormatIn formats.Lines event_style file text (ready_formats.Editor event_positions) = HasEventPositions file text event_positions.now
 IsReadyFormatIn format event_style file text ready_format = ⊥

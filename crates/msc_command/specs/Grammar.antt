@@ -18,7 +18,7 @@ use Rattle.msc_command.specs.declared.words.ValueKind.{ValueKind}
 use Rattle.msc_command.specs.declared.words.ValueKind.TheVariants as value_kind
 use Rattle.msc_command.specs.declared.words.CommandName.{CommandName}
 use Rattle.msc_command.specs.declared.words.ArgName.{ArgName}
-use Rattle.msc_command.specs.Words.{format_word, value_kind_of, command_word, command_of_word, command_names, arg_word, args_of, cross_words, language_words, own_words, par_words}
+use Rattle.msc_command.specs.Words.{format_word, value_kind_of, command_word, command_of_word, command_names, arg_word, args_of, color_words, cross_words, language_words, own_words, par_words, stick_format_words}
 use Rattle.msc_reason.specs.Causes.{kind_word}
 use Rattle.msc_reason.specs.declared.cause.RaceKind.TheVariants.{Early, Queues, Unordered, Overtaken}
 
@@ -32,7 +32,7 @@ kind_words = kind_word Early ∷ kind_word Queues ∷ kind_word Unordered ∷ ki
 
 -- the words of the forms of an answer
 abbrev pub format_words : List Text
-format_words = format_word formats.Text ∷ format_word formats.Count ∷ format_word formats.Lines ∷ []
+format_words = format_word formats.Text ∷ format_word formats.Count ∷ format_word formats.Lines ∷ format_word formats.Full ∷ []
 
 -- an argument is read by a rule
 abbrev pub IsArgument : Rule → Arg → Type 0
@@ -99,6 +99,8 @@ pub record Parsers : Type 0 where
   pub architectures : ValueParser
   pub kinds : ValueParser
   pub formats : ValueParser
+  pub stick_formats : ValueParser
+  pub colors : ValueParser
   pub languages : ValueParser
   pub owns : ValueParser
   pub crosses : ValueParser
@@ -110,6 +112,8 @@ parsers_of lent = record {
   architectures = Names lent.architectures.words;
   kinds = Names lent.kinds.words;
   formats = Names lent.formats.words;
+  stick_formats = Names lent.stick_formats.words;
+  colors = Names lent.colors.words;
   languages = Names lent.languages.words;
   owns = Names lent.owns.words;
   crosses = Names lent.crosses.words;
@@ -127,6 +131,8 @@ rule_by p name value_kind.Architecture = needed_rule name p.architectures
 rule_by p name value_kind.ArchitectureIfAny = choice_rule name p.architectures
 rule_by p name value_kind.Kinds = choices_rule name p.kinds
 rule_by p name value_kind.Format = choice_rule name p.formats
+rule_by p name value_kind.FormatSticks = choice_rule name p.stick_formats
+rule_by p name value_kind.Color = choice_rule name p.colors
 rule_by p name value_kind.Names = names_rule name
 rule_by p name value_kind.Links = names_rule name
 rule_by p name value_kind.Language = choice_rule name p.languages
@@ -178,12 +184,14 @@ abbrev pub IsOneOf : List Text → ValueParser → Type 0
 IsOneOf words parser = (names : Bor (List (Bor Text)))
     × (parser ≡ Names names) × (map (λ name. name.now) names.now ≡ words)
 
--- the parsers take the words of architectures, of kinds, of forms, of languages, and of what arrows
--- and parallel branches are
+-- the parsers take the words of architectures, of kinds, of forms, of colours, of languages, and of
+-- what arrows and parallel branches are
 pub record AreParsers (p : Parsers) : Type 0 where
   pub architectures : IsOneOf architecture_words p.architectures
   pub kinds : IsOneOf kind_words p.kinds
   pub formats : IsOneOf format_words p.formats
+  pub stick_formats : IsOneOf stick_format_words p.stick_formats
+  pub colors : IsOneOf color_words p.colors
   pub languages : IsOneOf language_words p.languages
   pub owns : IsOneOf own_words p.owns
   pub crosses : IsOneOf cross_words p.crosses

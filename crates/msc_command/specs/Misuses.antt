@@ -4,11 +4,11 @@ use Rattle.std.specs.Borrow.{Bor}
 use Rattle.clap.specs.Matches.{first_value}
 use Rattle.clap.specs.declared.parser.matches.Found.{Found}
 use Rattle.msc_report.specs.declared.pair.EventName.{EventName}
-use Rattle.msc_command.specs.Asking.{architecture, default_limit, is_limit, is_of_scenarios, lacks_from, lacks_queues, lacks_rounds, IsEventWord, IsFlag, IsNoName, IsOptionNumber, IsTwofold}
+use Rattle.msc_command.specs.Asking.{architecture, default_limit, format, is_full, is_limit, is_of_scenarios, lacks_from, lacks_queues, lacks_rounds, IsEventWord, IsFlag, IsNoName, IsOptionNumber, IsTwofold}
 use Rattle.msc_command.specs.Importing.{gives_choices, gives_rounds}
 use Rattle.msc_command.specs.Words.{arg_word}
 use Rattle.msc_command.specs.declared.misuse.Misuse.{Misuse}
-use Rattle.msc_command.specs.declared.misuse.Misuse.TheVariants.{Excluded, NoQueues, LacksEvent, NoEvent, NoChoices, NoDiagram, NotOfDiagrams, NoRounds, NoLimit}
+use Rattle.msc_command.specs.declared.misuse.Misuse.TheVariants.{Excluded, NoQueues, LacksEvent, NoEvent, NoChoices, NoDiagram, NotOfDiagrams, FullOfDiagrams, NoRounds, NoLimit}
 use Rattle.msc_command.specs.declared.words.CommandName.{CommandName}
 use Rattle.msc_command.specs.declared.words.CommandName.TheVariants as command_names
 use Rattle.msc_command.specs.declared.words.ArgName.{ArgName}
@@ -75,12 +75,16 @@ pub data IsDiagramMisuse (found : Found) (misuse : Misuse) : Type 0 where
       → lacks_rounds (first_value found (arg_word words.Rounds)) ≡ false
       → IsLimitMisuse found misuse → IsDiagramMisuse found misuse
 
+-- findings as people read them cannot be requested of a diagram
+abbrev pub IsFullMisuse : Found → Misuse → Type 0
+IsFullMisuse found misuse = (misuse ≡ FullOfDiagrams) × (is_full (format found) ≡ true)
+
 -- words of diagrams are given to `check` without `--from`, or this is wrong with what it is to do
 -- with a diagram
 abbrev pub IsCheckMisuse : Found → Misuse → Type 0
 IsCheckMisuse found misuse =
     ((misuse ≡ NoDiagram) × (lacks_from found ≡ true))
-    ⊎ ((is_of_scenarios found ≡ true) × IsDiagramMisuse found misuse)
+    ⊎ ((is_of_scenarios found ≡ true) × (IsFullMisuse found misuse ⊎ IsDiagramMisuse found misuse))
 
 -- the word for choices gives none
 pub record IsImportMisuse (found : Found) (misuse : Misuse) : Type 0 where

@@ -59,6 +59,7 @@ draws_branches x text = may_draw x.diagram.manner.par && not (is_ok (imported_al
 -- drawn one below the other
 abbrev pub IsDiagramFormatIn : Format → Bool → List ℕ → Bool → DiagramFormat → Type 0
 IsDiagramFormatIn formats.Text wordy file drawn (diagrams.Lines event_style) = (event_style.words ≡ wordy) × (event_style.drawn ≡ drawn)
+IsDiagramFormatIn formats.Full wordy file drawn (diagrams.Lines event_style) = (event_style.words ≡ wordy) × (event_style.drawn ≡ drawn)
 IsDiagramFormatIn formats.Count wordy file drawn (diagrams.Count name) = name.now ≡ file
 IsDiagramFormatIn formats.Lines wordy file drawn diagrams.Editor = Unit {0}
 IsDiagramFormatIn format wordy file drawn of_diagram = ⊥

@@ -67,6 +67,7 @@ abbrev pub refused_in : Format → List ℕ → List ℕ → List ℕ
 refused_in formats.Text name file = codes "diagram " ++ (name ++ codes "\nrefused\n")
 refused_in formats.Count name file = codes "refused " ++ text_line (map shown_byte file)
 refused_in formats.Lines name file = []
+refused_in formats.Full name file = codes "diagram " ++ (name ++ codes "\nrefused\n")
 
 abbrev pub refused_text : ScenarioArgs → List ℕ → ℕ → List ℕ
 refused_text x file n =

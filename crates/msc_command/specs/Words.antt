@@ -8,7 +8,7 @@ use Rattle.msc_command.specs.declared.words.ValueKind.TheVariants as value_kind
 use Rattle.msc_command.specs.declared.words.CommandName.{CommandName}
 use Rattle.msc_command.specs.declared.words.CommandName.TheVariants.{Read, Check, Explain, Follow, Run, List as Listing, Draw, Reverse, Report, Ready, Import}
 use Rattle.msc_command.specs.declared.words.ArgName.{ArgName}
-use Rattle.msc_command.specs.declared.words.ArgName.TheVariants.{File, Queues, QueuesIfAny, Pair, Mailbox, Single, Closest, Why, Most, Show, ShowSticks, Only, Allow, ChartFormat, FormatSticks, Quiet, Words, Short, Accept, Again, Patience, Places, Plain, Svg, FirstEvent, SecondEvent, From, Choose, Listed, Name, Own, Cross, Par, ScenariosFrom, Rounds, Limit, Fence}
+use Rattle.msc_command.specs.declared.words.ArgName.TheVariants.{File, Queues, QueuesIfAny, Pair, Mailbox, Single, Closest, Why, Most, Show, ShowSticks, Only, Allow, ChartFormat, FormatSticks, Color, Quiet, Words, Short, Accept, Again, Patience, Places, Plain, Svg, FirstEvent, SecondEvent, From, Choose, Listed, Name, Own, Cross, Par, ScenariosFrom, Rounds, Limit, Fence}
 
 -- the name of a word behind a command
 abbrev pub arg_word : ArgName → List ℕ
@@ -27,6 +27,7 @@ arg_word Only = codes "only"
 arg_word Allow = codes "allow"
 arg_word ChartFormat = codes "format"
 arg_word FormatSticks = codes "format"
+arg_word Color = codes "color"
 arg_word Quiet = codes "quiet"
 arg_word Words = codes "words"
 arg_word Short = codes "short"
@@ -66,7 +67,8 @@ value_kind_of ShowSticks = value_kind.Number
 value_kind_of Only = value_kind.Names
 value_kind_of Allow = value_kind.Kinds
 value_kind_of ChartFormat = value_kind.Format
-value_kind_of FormatSticks = value_kind.Format
+value_kind_of FormatSticks = value_kind.FormatSticks
+value_kind_of Color = value_kind.Color
 value_kind_of Quiet = value_kind.NothingOrQ
 value_kind_of Words = value_kind.Nothing
 value_kind_of Short = value_kind.Nothing
@@ -116,7 +118,7 @@ command_of_word name = find (λ command_name. bytes_eq name (command_word comman
 abbrev pub args_of : CommandName → List ArgName
 args_of Read = Places ∷ Plain ∷ File ∷ []
 args_of Check =
-    Queues ∷ Pair ∷ Mailbox ∷ Single ∷ Closest ∷ Why ∷ Most ∷ Show ∷ Allow ∷ Accept ∷ Again ∷ ChartFormat ∷ Quiet ∷ Words ∷ Short
+    Queues ∷ Pair ∷ Mailbox ∷ Single ∷ Closest ∷ Why ∷ Most ∷ Show ∷ Allow ∷ Accept ∷ Again ∷ ChartFormat ∷ Color ∷ Quiet ∷ Words ∷ Short
     ∷ ScenariosFrom ∷ Rounds ∷ Limit ∷ Fence ∷ Name ∷ Own ∷ Cross ∷ Par ∷ Places ∷ Plain ∷ File ∷ []
 args_of Explain = Queues ∷ Pair ∷ Mailbox ∷ Single ∷ Words ∷ Short ∷ Places ∷ Plain ∷ File ∷ FirstEvent ∷ SecondEvent ∷ []
 args_of Follow = Queues ∷ Pair ∷ Mailbox ∷ Single ∷ Words ∷ Places ∷ Plain ∷ File ∷ []
@@ -135,14 +137,23 @@ abbrev pub format_word : Format → List ℕ
 format_word formats.Text = codes "text"
 format_word formats.Count = codes "count"
 format_word formats.Lines = codes "lines"
+format_word formats.Full = codes "full"
 
 -- all forms
 abbrev pub formats_all : List Format
-formats_all = formats.Text ∷ formats.Count ∷ formats.Lines ∷ []
+formats_all = formats.Text ∷ formats.Count ∷ formats.Lines ∷ formats.Full ∷ []
 
 -- the form of a word
 unfoldable pub format_of_word : List ℕ → Option Format
 format_of_word word = find (λ format. bytes_eq word (format_word format)) formats_all
+
+-- the words for the formats of answers on ready instances
+abbrev pub stick_format_words : List (List ℕ)
+stick_format_words = codes "text" ∷ codes "count" ∷ codes "lines" ∷ []
+
+-- those for whether there are colours
+abbrev pub color_words : List (List ℕ)
+color_words = codes "auto" ∷ codes "always" ∷ codes "never" ∷ []
 
 -- the words for the languages of texts
 abbrev pub language_words : List (List ℕ)

@@ -1,6 +1,6 @@
 //! The answers to tasks: each reads the text once, makes its chart, and prints the answer.
 
-ghost use Rattle.std.specs.Prelude.{◌≡◌, ℕ, List, option_map, IfErr, Ok, OnOk};
+ghost use Rattle.std.specs.Prelude.{◌≡◌, ℕ, List, length, map, option_map, IfErr, Ok, OnOk};
 ghost use Rattle.std.specs.Io.KnownBytes.{Keeps};
 ghost use Rattle.std.specs.Option.{option_copied};
 ghost use Rattle.msc_chart.specs.Drawings.{chart_of};
@@ -20,6 +20,8 @@ ghost use Rattle.msc_command.specs.Refused.{TellsUnreadIn};
 ghost use Rattle.msc_command.specs.Surveys.{BeginsOne, BeginsSurvey, Surveys, SurveysOne};
 ghost use Rattle.msc_markdown.specs.Markdowns.{markdown};
 ghost use Rattle.msc_report.specs.Refusals.{of_reading};
+ghost use Rattle.msc_shown_chart.specs.Charts.{IsShownOf};
+ghost use Rattle.msc_shown_chart.specs.Words.{plain_words};
 ghost use Rattle.msc_source.specs.Inputs.{IsReadFrom};
 
 use crate::drawing::page_of;
@@ -49,6 +51,7 @@ use msc_place::EventPositions;
 use msc_place::writing::write_file;
 use msc_print::Page;
 use msc_report::{Fault, ReadyFormat};
+use msc_shown_chart::{ChartWords, LentWords};
 use msc_source::{Language, ReadFault, Reading, Source, read_all};
 use msc_text::{
     ChartFormat, CheckInput, ReadyQuery, explain_pair, follow_drawing, judge_chart, list_chart,
@@ -88,18 +91,77 @@ fn check_in<O: Write>(
     check_args: CheckArgs,
     marks: Option<&Marks>,
     rounds: Option<&Unrolled<'_>>,
-    chart_format: ChartFormat<'_>,
+    chart_format: ChartFormat<'_, '_>,
     source: &Source,
     output: &mut O,
 ) -> Result<Status, Refusal<'static>>
     requires marks { AreMarked check_args.accept source.now.text (option_map (λ m. m.now) marks) }
     requires rounds { AreRounds check_args.again source.now.chart (option_map (λ u. u.now) rounds) }
-    ensures { (file : List ℕ) → IsFormat check_args file source.now.text chart_format.entry
+    ensures { (file : List ℕ) → IsFormat check_args file source.now
+        (option_map (λ m. m.now) marks.entry) chart_format.entry
         → AnswersOf O.contents (ChartCommand.Check check_args) file source.now result output.old output.new }
 {
     let input = CheckInput::of(source.chart(), check_args.queues, marks, rounds);
     let passed = judge_chart(alloc, input, check_args.options, chart_format, output)?;
     Ok(ended_by(passed))
+}
+
+/// Prints the findings on the chart of a text as people read them, with these marks and rounds, and
+/// with these words.
+// Apart from `check_full`, whose words outlast what is lent of them here.
+fn check_with<'x, O: Write>(
+    alloc: Global,
+    check_args: CheckArgs,
+    marks: Option<&Marks>,
+    rounds: Option<&Unrolled<'_>>,
+    words: &'x ChartWords,
+    source: &'x Source<'x>,
+    output: &mut O,
+) -> Result<Status, Refusal<'static>>
+    requires format { check_args.format ≡ Format.Full }
+    requires marks { AreMarked check_args.accept source.now.text (option_map (λ m. m.now) marks) }
+    requires rounds { AreRounds check_args.again source.now.chart (option_map (λ u. u.now) rounds) }
+    requires words { length (map plain_words words.now.events.items)
+        ≡ length source.now.chart.events }
+    ensures { (file : List ℕ) → IsShownOf source.now.chart check_args.queues file source.now.text
+        (option_map (λ m. m.now) marks.entry) words.now
+        → AnswersOf O.contents (ChartCommand.Check check_args) file source.now result output.old output.new }
+{
+    let (chart, text) = (source.chart(), source.text());
+    let lent = LentWords::of(alloc, words, chart, check_args.queues, text)?;
+    let chart_format = ChartFormat::Full(lent.format(check_args.colours));
+    check_in(
+        alloc,
+        check_args,
+        marks,
+        rounds,
+        chart_format,
+        source,
+        output,
+    )
+}
+
+/// Prints the findings on the chart of a text in the file of this name, with these marks and rounds,
+/// as people read them.
+fn check_full<O: Write>(
+    alloc: Global,
+    check_args: CheckArgs,
+    marks: Option<&Marks>,
+    rounds: Option<&Unrolled<'_>>,
+    file: &str,
+    source: &Source,
+    output: &mut O,
+) -> Result<Status, Refusal<'static>>
+    requires format { check_args.format ≡ Format.Full }
+    requires marks { AreMarked check_args.accept source.now.text (option_map (λ m. m.now) marks) }
+    requires rounds { AreRounds check_args.again source.now.chart (option_map (λ u. u.now) rounds) }
+    ensures { AnswersOf O.contents (ChartCommand.Check check_args) file.now source.now result
+        output.old output.new }
+{
+    let (chart, text) = (source.chart(), source.text());
+    let queues = check_args.queues;
+    let words = ChartWords::of(alloc, chart, queues, file.as_bytes(), text, marks)?;
+    check_with(alloc, check_args, marks, rounds, &words, source, output)
 }
 
 /// Prints the verdict on the chart of a text in the file of this name.
@@ -162,6 +224,7 @@ fn check<O: Write>(
                 output,
             )
         }
+        Format::Full => check_full(alloc, check_args, marks, rounds, file, source, output),
     }
 }
 
@@ -285,7 +348,7 @@ fn print_ready<'w, O: Write>(
         output.old output.new }
 {
     match readying.format {
-        Format::Text => {
+        Format::Text | Format::Full => {
             let event_style = readying.event_style;
             let event_positions = event_positions_of(
                 alloc,
@@ -463,7 +526,7 @@ fn tell_in<O: Write>(
 {
     match format_of(task) {
         Format::Lines => tell_lines(alloc, task, file, text, refusal, output),
-        Format::Text | Format::Count => Ok(()),
+        Format::Text | Format::Count | Format::Full => Ok(()),
     }
 }
 
@@ -537,7 +600,7 @@ fn tell_unread<O: Write>(format: Format, file: &str, fault: &ReadFault, output: 
                 let _ = write_unread(output, file, error);
             }
         }
-        Format::Text | Format::Count => {}
+        Format::Text | Format::Count | Format::Full => {}
     }
 }
 

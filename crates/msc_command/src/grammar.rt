@@ -9,7 +9,8 @@ ghost use Rattle.msc_command.specs.Grammar.{flag_rule, format_words, kind_words,
 ghost use Rattle.msc_command.specs.Grammar.{names_rule, needed_rule, number_rule, parsers_of};
 ghost use Rattle.msc_command.specs.Grammar.{rule_of_arg, text_rule, commands_for, with_commands};
 ghost use Rattle.msc_command.specs.Grammar.{IsArgument, IsCommand};
-ghost use Rattle.msc_command.specs.Words.{cross_words, language_words, own_words, par_words};
+ghost use Rattle.msc_command.specs.Words.{color_words, cross_words, language_words, own_words};
+ghost use Rattle.msc_command.specs.Words.{par_words, stick_format_words};
 ghost use Rattle.clap.specs.Words.{App, Rule, new_app, with_rule, with_subcommand};
 ghost use Rattle.clap.specs.declared.builder.value_parser.ValueParser.TheVariants.{Names};
 
@@ -100,6 +101,26 @@ fn format_words(alloc: Global) -> Result<Vec<&'static str>, AllocError>
     Ok(words)
 }
 
+/// The words of the formats of answers on ready instances.
+fn stick_format_words() -> Alternatives<'static>
+    ensures { map (λ word. word.now) result.words.now ≡ stick_format_words }
+{
+    Alternatives {
+        words: &["text", "count", "lines"],
+        shown: "text|count|lines",
+    }
+}
+
+/// The words for whether there are colours.
+fn color_words() -> Alternatives<'static>
+    ensures { map (λ word. word.now) result.words.now ≡ color_words }
+{
+    Alternatives {
+        words: &["auto", "always", "never"],
+        shown: "auto|always|never",
+    }
+}
+
 /// The words of the languages of texts.
 fn language_words() -> Alternatives<'static>
     ensures { map (λ word. word.now) result.words.now ≡ language_words }
@@ -154,6 +175,8 @@ pub(crate) struct Choices<'a> {
     architectures: Alternatives<'a>,
     kinds: Alternatives<'a>,
     formats: Alternatives<'a>,
+    stick_formats: Alternatives<'a>,
+    colors: Alternatives<'a>,
     languages: Alternatives<'a>,
     owns: Alternatives<'a>,
     crosses: Alternatives<'a>,
@@ -185,6 +208,9 @@ impl Lists {
         ensures architectures { result.architectures.words.now ≡ self.now.architectures.words.items }
         ensures kinds { result.kinds.words.now ≡ self.now.kinds.words.items }
         ensures formats { result.formats.words.now ≡ self.now.formats.words.items }
+        ensures stick_formats { map (λ word. word.now) result.stick_formats.words.now
+            ≡ stick_format_words }
+        ensures colors { map (λ word. word.now) result.colors.words.now ≡ color_words }
         ensures languages { map (λ word. word.now) result.languages.words.now ≡ language_words }
         ensures owns { map (λ word. word.now) result.owns.words.now ≡ own_words }
         ensures crosses { map (λ word. word.now) result.crosses.words.now ≡ cross_words }
@@ -194,6 +220,8 @@ impl Lists {
             architectures: self.architectures.alternatives(),
             kinds: self.kinds.alternatives(),
             formats: self.formats.alternatives(),
+            stick_formats: stick_format_words(),
+            colors: color_words(),
             languages: language_words(),
             owns: own_words(),
             crosses: cross_words(),
@@ -346,6 +374,8 @@ fn argument<'a>(alloc: Global, word: ArgName, lent: Choices<'a>) -> Arg<'a>
         ValueKind::ArchitectureIfAny => one_of(alloc, name, help, lent.architectures),
         ValueKind::Kinds => any_of(alloc, name, help, lent.kinds),
         ValueKind::Format => one_of(alloc, name, help, lent.formats),
+        ValueKind::FormatSticks => one_of(alloc, name, help, lent.stick_formats),
+        ValueKind::Color => one_of(alloc, name, help, lent.colors),
         ValueKind::Names => names(alloc, name, help, "NAME"),
         ValueKind::Links => names(alloc, name, help, "LINK"),
         ValueKind::Language => one_of(alloc, name, help, lent.languages),

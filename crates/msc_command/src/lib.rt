@@ -53,4 +53,4 @@ mod tasks;
 mod words;
 
 pub use program::{command, refuse_words};
-pub use recorded::{Recorded, TellsFailure};
+pub use recorded::{Recorded, ShowsColours, TellsFailure};

@@ -27,6 +27,8 @@ pub(crate) enum Misuse<'w> {
     NoDiagram,
     /// A word cannot be given with `--from`.
     NotOfDiagrams(ArgName),
+    /// `--format full` cannot be given with `--from`.
+    FullOfDiagrams,
     /// The word of `--rounds` has no numbers of rounds.
     NoRounds(&'w str),
     /// `--limit` is out of its range.
@@ -69,12 +71,11 @@ fn write_lacking<E: Write>(faults: &mut E, word: ArgName) -> io::Result<()> {
     )
 }
 
-/// Writes that a word cannot be given with `--from`.
-fn write_not_of_diagrams<E: Write>(faults: &mut E, word: ArgName) -> io::Result<()> {
-    let name = word.name();
+/// Writes that an option cannot be given with `--from`.
+fn write_not_of_diagrams<E: Write>(faults: &mut E, option: &str) -> io::Result<()> {
     writeln!(
         faults,
-        "error: the argument '--from <mermaid|any>' cannot be used with '--{name}'{HELP}"
+        "error: the argument '--from <mermaid|any>' cannot be used with '--{option}'{HELP}"
     )
 }
 
@@ -114,7 +115,8 @@ pub(crate) fn write_misuse<E: Write>(faults: &mut E, misuse: Misuse<'_>) -> io::
             write_unexpected(faults, text, "--choose <C>", expected)
         }
         Misuse::NoDiagram => write_missing(faults, "--from <mermaid|any>"),
-        Misuse::NotOfDiagrams(word) => write_not_of_diagrams(faults, word),
+        Misuse::NotOfDiagrams(word) => write_not_of_diagrams(faults, word.name()),
+        Misuse::FullOfDiagrams => write_not_of_diagrams(faults, "format full"),
         Misuse::NoRounds(text) => {
             let expected = "numbers up to 1024 with commas";
             write_unexpected(faults, text, "--rounds <R,R..>", expected)

@@ -18,7 +18,7 @@ use crate::answering::{end_unread_task, perform};
 use crate::ending::{Status, end_with};
 use crate::grammar::{Lists, grammar};
 use crate::misuse::write_misuse;
-use crate::recorded::TellsFailure;
+use crate::recorded::{ShowsColours, TellsFailure};
 use crate::shown::Shown;
 use crate::tasks::{Request, Task, file_of, notes_of, task_of};
 use crate::words::CommandName;
@@ -75,12 +75,18 @@ fn tell_usage<O: Write, E: Write>(output: &mut O, faults: &mut E, error: &Error)
     }
 }
 
-/// The task of the words after a command of this name. Why they are no command goes to `faults`.
-fn task_named<'w, E: Write>(name: &str, words: &'w ArgMatches, faults: &mut E) -> Option<Task<'w>>
+/// The task of the words after a command of this name; `auto` says whether findings have colours
+/// without `--color`. Why they are no command goes to `faults`.
+fn task_named<'w, E: Write>(
+    name: &str,
+    words: &'w ArgMatches,
+    auto: bool,
+    faults: &mut E,
+) -> Option<Task<'w>>
     ensures { MatchOption result (IsNamedVainly name.now (found_of words.entry.now))
         (IsNamed name.now (found_of words.entry.now)) }
 {
-    match task_of(CommandName::of(name)?, words) {
+    match task_of(CommandName::of(name)?, words, auto) {
         Ok(task) => Some(task),
         Err(misuse) => {
             let _ = write_misuse(&mut Shown { inner: faults }, misuse);
@@ -90,7 +96,12 @@ fn task_named<'w, E: Write>(name: &str, words: &'w ArgMatches, faults: &mut E) -
 }
 
 /// Performs the task of the words after a command, and returns the status.
-fn obey<R: Files + Threads + Wait + Sync, I: Read, O: TellsFailure, E: Write + IsTerminal>(
+fn obey<
+    R: Files + Threads + Wait + Sync,
+    I: Read,
+    O: TellsFailure + ShowsColours,
+    E: Write + IsTerminal,
+>(
     rt: &R,
     alloc: Global,
     name: &str,
@@ -104,7 +115,7 @@ fn obey<R: Files + Threads + Wait + Sync, I: Read, O: TellsFailure, E: Write + I
         output.old output.new }
     ensures apart { LeavesInput (found_of words.now) input.old input.new }
 {
-    let Some(task) = task_named(name, words, faults) else {
+    let Some(task) = task_named(name, words, output.shows_colours(), faults) else {
         return Status::Refused;
     };
     let request = Request {
@@ -116,7 +127,12 @@ fn obey<R: Files + Threads + Wait + Sync, I: Read, O: TellsFailure, E: Write + I
 }
 
 /// Performs the task of words that `clap` took, and returns the status.
-fn obey_matches<R: Files + Threads + Wait + Sync, I: Read, O: TellsFailure, E: Write + IsTerminal>(
+fn obey_matches<
+    R: Files + Threads + Wait + Sync,
+    I: Read,
+    O: TellsFailure + ShowsColours,
+    E: Write + IsTerminal,
+>(
     rt: &R,
     alloc: Global,
     matches: &ArgMatches,
@@ -136,7 +152,12 @@ fn obey_matches<R: Files + Threads + Wait + Sync, I: Read, O: TellsFailure, E: W
 
 /// Performs the task of the words, and returns the status. An error is a growth of memory that was
 /// refused before the words were known.
-fn run<R: Files + Threads + Wait + Sync, I: Read, O: TellsFailure, E: Write + IsTerminal>(
+fn run<
+    R: Files + Threads + Wait + Sync,
+    I: Read,
+    O: TellsFailure + ShowsColours,
+    E: Write + IsTerminal,
+>(
     rt: &R,
     alloc: Global,
     words: &[String],
@@ -181,7 +202,8 @@ pub fn refuse_words<E: Write>(faults: &mut E, error: &io::Error) -> u8
 ///   it. `--show N` shows runs of the first N races, `--most N` lists the first N, `--closest` only
 ///   the closest ones. `--allow KIND` leaves out the races of a kind (`early`, `queues`,
 ///   `unordered`, `overtaken`), `--accept` those that marks accept. `--why` adds kinds and causes.
-///   `--format count` prints numbers, `--format lines` lines for editors, `--quiet` nothing.
+///   `--format count` prints numbers, `--format lines` lines for editors, `--format full` the
+///   findings as people read them, `--quiet` nothing.
 /// - `check --from LANGUAGE ..`: the same for all scenarios of a sequence diagram, or of all
 ///   diagrams of a Markdown text; `--fence N` takes its N-th block.
 /// - `explain --queues QUEUES FILE E F`: why event E is enforced before event F, or a run that has
@@ -211,14 +233,12 @@ pub fn refuse_words<E: Write>(faults: &mut E, error: &io::Error) -> u8
 /// Markdown text, its queues, its rounds, the pair or a name was refused. It is 3 if some instance of an execution has not finished. It is 4
 /// if memory ran out, a thread could not be started, a file could not be opened or read, or the
 /// output could not be written.
-pub fn command<R: Files + Threads + Wait + Sync, I: Read, O: TellsFailure, E: Write + IsTerminal>(
-    rt: &R,
-    alloc: Global,
-    words: Vec<String>,
-    input: &mut I,
-    output: &mut O,
-    faults: &mut E,
-) -> u8
+pub fn command<
+    R: Files + Threads + Wait + Sync,
+    I: Read,
+    O: TellsFailure + ShowsColours,
+    E: Write + IsTerminal,
+>(rt: &R, alloc: Global, words: Vec<String>, input: &mut I, output: &mut O, faults: &mut E) -> u8
     ensures status { (result ≡ 0) ⊎ (result ≡ 1) ⊎ (result ≡ 2) ⊎ (result ≡ 3) ⊎ (result ≡ 4) }
     ensures races { result ≡ 1 → Tells O.contents Races output.old output.new }
     ensures refused { result ≡ 2 → TellsRefused O.contents output.old output.new }

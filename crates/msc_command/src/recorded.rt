@@ -1,4 +1,4 @@
-//! A writer that keeps why it failed.
+//! A writer that keeps why it failed, and whether it shows colours.
 
 ghost use Rattle.std.specs.Prelude.{◌≡◌, None};
 ghost use Rattle.std.specs.Io.{WritesAtMost};
@@ -13,22 +13,32 @@ pub trait TellsFailure: Write {
     fn failure(&self) -> Option<io::Error>;
 }
 
+/// A writer that knows whether it shows colours.
+pub trait ShowsColours: Write {
+    /// Whether findings that are written to it have colours, if no word says whether they do.
+    fn shows_colours(&self) -> bool;
+}
+
 /// A writer with the error of its last failed call.
 #[derive(Drop)]
 pub struct Recorded<W> {
     pub writer: W,
     pub failure: Option<io::Error>,
+    /// Whether it shows colours.
+    pub colours: bool,
 }
 
 impl<W> Recorded<W> {
-    /// A writer of which no call has failed.
-    pub fn new(writer: W) -> Recorded<W>
+    /// A writer of which no call has failed, and whether it shows colours.
+    pub fn new(writer: W, colours: bool) -> Recorded<W>
         ensures writer { result.writer ≡ writer }
         ensures failure { result.failure ≡ None }
+        ensures colours { result.colours ≡ colours }
     {
         Recorded {
             writer,
             failure: None,
+            colours,
         }
     }
 }
@@ -56,5 +66,11 @@ impl<W: Write> Write for Recorded<W> {
 impl<W: Write> TellsFailure for Recorded<W> {
     fn failure(&self) -> Option<io::Error> {
         self.failure
+    }
+}
+
+impl<W: Write> ShowsColours for Recorded<W> {
+    fn shows_colours(&self) -> bool {
+        self.colours
     }
 }

@@ -165,7 +165,7 @@ fn format_of<'f>(check_args: CheckArgs, file: &'f [u8], drawn: bool) -> DiagramF
     ensures { IsFormatOf check_args file.entry.now drawn result }
 {
     match check_args.format {
-        Format::Text => DiagramFormat::Lines(DiagramStyle {
+        Format::Text | Format::Full => DiagramFormat::Lines(DiagramStyle {
             words: check_args.event_style.words,
             drawn,
         }),

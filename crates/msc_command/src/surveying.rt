@@ -50,6 +50,7 @@ pub(crate) fn behind(words: ScenarioArgs<'_>, listed: u32) -> ScenarioArgs<'_>
         accept: words.check_args.accept,
         again: words.check_args.again,
         format: words.check_args.format,
+        colours: words.check_args.colours,
         event_style: words.check_args.event_style,
     };
     ScenarioArgs {
@@ -224,7 +225,7 @@ pub(crate) fn refused_page(
         return Ok(Page::new(alloc));
     }
     match words.check_args.format {
-        Format::Text => {
+        Format::Text | Format::Full => {
             let name = chart_name(alloc, words.diagram.name)?;
             let name = numbered(alloc, name.as_slice(), number)?;
             refused_diagram(alloc, name.bytes.as_slice())

@@ -5,7 +5,8 @@ ghost use Rattle.std.specs.Prelude.{map, option_map, true};
 ghost use Rattle.clap.specs.Matches.{first_value, found_of};
 ghost use Rattle.msc_command.specs.Asking.{architecture, file_of, format, names_kind, AreAllowed};
 ghost use Rattle.msc_command.specs.Asking.{AsksFor, IsDrawnFormat, IsEventWord, IsFlag};
-ghost use Rattle.msc_command.specs.Asking.{format_named, format_of_sticks, IsEventStyle};
+ghost use Rattle.msc_command.specs.Asking.{colours_by, format_named, format_of_sticks, is_full};
+ghost use Rattle.msc_command.specs.Asking.{runs_in, IsEventStyle};
 ghost use Rattle.msc_command.specs.Asking.{chart_named, cross_named, lacks_choices, language_named};
 ghost use Rattle.msc_command.specs.Asking.{own_named, par_named, AreCheckArgs, IsDiagram};
 ghost use Rattle.msc_command.specs.Asking.{AreLinkWords, AreQuietArgs};
@@ -41,11 +42,13 @@ pub(crate) enum Format {
     Count,
     /// Lines that editors read.
     Lines,
+    /// Findings as people read them.
+    Full,
 }
 
 impl Format {
     /// All forms.
-    pub const ALL: [Format; 3] = [Format::Text, Format::Count, Format::Lines];
+    pub const ALL: [Format; 4] = [Format::Text, Format::Count, Format::Lines, Format::Full];
 
     /// Its word.
     pub fn word(self) -> &'static str
@@ -55,6 +58,7 @@ impl Format {
             Format::Text => "text",
             Format::Count => "count",
             Format::Lines => "lines",
+            Format::Full => "full",
         }
     }
 
@@ -90,6 +94,8 @@ pub(crate) struct CheckArgs {
     /// Whether races between a round of the chart and the next are included.
     pub again: bool,
     pub format: Format,
+    /// Whether findings as people read them have colours.
+    pub colours: bool,
     pub event_style: EventStyle,
 }
 
@@ -397,6 +403,35 @@ fn format_asked(words: &ArgMatches) -> Format
     format_named(words.get_str(ArgName::ChartFormat.name()))
 }
 
+/// Whether findings have colours, by a word; `auto` says whether they do without one.
+fn colours_by(word: Option<&str>, auto: bool) -> bool
+    ensures { result ≡ colours_by (option_map (λ w. w.now) word.entry) auto }
+{
+    match word {
+        Some(word) if word == "always" => true,
+        Some(word) if word == "never" => false,
+        _ => auto,
+    }
+}
+
+/// Whether findings have colours; `auto` says whether they do without a word.
+fn colours_of(words: &ArgMatches, auto: bool) -> bool
+    ensures { result ≡ colours_by (first_value (found_of words.now) (arg_word ArgName.Color)) auto }
+{
+    colours_by(words.get_str(ArgName::Color.name()), auto)
+}
+
+/// The number of races of a chart with runs in this format, without `--show`: all, but of findings as
+/// people read them none.
+fn runs_in(format: Format) -> u32
+    ensures { result ≡ runs_in format }
+{
+    match format {
+        Format::Full => 0,
+        Format::Text | Format::Count | Format::Lines => u32::MAX,
+    }
+}
+
 /// The form of the answer of `msc ready`.
 fn format_of_sticks(words: &ArgMatches) -> Format
     ensures { result ≡ format_of_sticks (found_of words.now) }
@@ -525,8 +560,8 @@ fn link_words_of<'w>(words: &'w ArgMatches) -> LinkWords<'w>
 }
 
 /// The check of races under an architecture by the words of `msc check`; without `--show`, `shown`
-/// races have runs.
-fn check_args_of(queues: Queues, words: &ArgMatches, shown: u32) -> CheckArgs
+/// races have runs, and `auto` says whether there are colours without `--color`.
+fn check_args_of(queues: Queues, words: &ArgMatches, shown: u32, auto: bool) -> CheckArgs
     ensures { architecture (found_of words.now) ≡ Some queues
         → AreCheckArgs (found_of words.now) shown result }
 {
@@ -536,6 +571,7 @@ fn check_args_of(queues: Queues, words: &ArgMatches, shown: u32) -> CheckArgs
         accept: is_given(words, ArgName::Accept),
         again: is_given(words, ArgName::Again),
         format: format_asked(words),
+        colours: colours_of(words, auto),
         event_style: event_style_of(words),
     }
 }
@@ -554,7 +590,7 @@ fn quiet_args_of(queues: Queues, words: &ArgMatches) -> QuietArgs
 }
 
 /// The task of `msc check` on a chart. With `--quiet` only the status is returned.
-fn chart_check_of<'w>(queues: Queues, words: &'w ArgMatches) -> Task<'w>
+fn chart_check_of<'w>(queues: Queues, words: &'w ArgMatches, auto: bool) -> Task<'w>
     requires { IsOfChart (found_of words.now) }
     ensures { architecture (found_of words.entry.now) ≡ Some queues
         → AsksFor CommandName.Check (found_of words.entry.now) result }
@@ -563,7 +599,8 @@ fn chart_check_of<'w>(queues: Queues, words: &'w ArgMatches) -> Task<'w>
         let quiet_args = quiet_args_of(queues, words);
         return Task::Chart(ChartCommand::Quiet(quiet_args), link_words_of(words));
     }
-    let check_args = check_args_of(queues, words, u32::MAX);
+    let shown = runs_in(format_asked(words));
+    let check_args = check_args_of(queues, words, shown, auto);
     Task::Chart(ChartCommand::Check(check_args), link_words_of(words))
 }
 
@@ -640,14 +677,18 @@ fn limit_in<'w>(words: &'w ArgMatches) -> Result<u32, Misuse<'w>>
 }
 
 /// The task of `msc check` on a diagram.
-fn scenarios_of<'w>(queues: Queues, words: &'w ArgMatches) -> Result<Task<'w>, Misuse<'w>>
+fn scenarios_of<'w>(
+    queues: Queues,
+    words: &'w ArgMatches,
+    auto: bool,
+) -> Result<Task<'w>, Misuse<'w>>
     requires { is_of_scenarios (found_of words.now) ≡ true }
     ensures task { architecture (found_of words.entry.now) ≡ Some queues
         → IfOk result (AsksFor CommandName.Check (found_of words.entry.now)) }
     ensures misuse { architecture (found_of words.entry.now) ≡ Some queues
         → IfErr result (IsDiagramMisuse (found_of words.entry.now)) }
 {
-    let check_args = check_args_of(queues, words, runs_shown(words));
+    let check_args = check_args_of(queues, words, runs_shown(words), auto);
     if check_args.accept {
         return Err(Misuse::NotOfDiagrams(ArgName::Accept));
     }
@@ -664,8 +705,18 @@ fn scenarios_of<'w>(queues: Queues, words: &'w ArgMatches) -> Result<Task<'w>, M
     }))
 }
 
+/// Whether a format is that of findings as people read them.
+fn is_full(format: Format) -> bool
+    ensures { result ≡ is_full format }
+{
+    match format {
+        Format::Full => true,
+        Format::Text | Format::Count | Format::Lines => false,
+    }
+}
+
 /// The task of `msc check`.
-fn check_of<'w>(queues: Queues, words: &'w ArgMatches) -> Result<Task<'w>, Misuse<'w>>
+fn check_of<'w>(queues: Queues, words: &'w ArgMatches, auto: bool) -> Result<Task<'w>, Misuse<'w>>
     ensures task { architecture (found_of words.entry.now) ≡ Some queues
         → IfOk result (AsksFor CommandName.Check (found_of words.entry.now)) }
     ensures misuse { architecture (found_of words.entry.now) ≡ Some queues
@@ -675,9 +726,12 @@ fn check_of<'w>(queues: Queues, words: &'w ArgMatches) -> Result<Task<'w>, Misus
         return Err(Misuse::NoDiagram);
     }
     if is_of_scenarios(words) {
-        return scenarios_of(queues, words);
+        if is_full(format_asked(words)) {
+            return Err(Misuse::FullOfDiagrams);
+        }
+        return scenarios_of(queues, words, auto);
     }
-    Ok(chart_check_of(queues, words))
+    Ok(chart_check_of(queues, words, auto))
 }
 
 /// The task of `msc run`.
@@ -904,13 +958,14 @@ fn import_of<'w>(words: &'w ArgMatches) -> Result<Task<'w>, Misuse<'w>>
 fn complete_task<'w>(
     command_name: CommandName,
     words: &'w ArgMatches,
+    auto: bool,
 ) -> Result<Task<'w>, Misuse<'w>>
     ensures task { IfOk result (AsksFor command_name (found_of words.entry.now)) }
     ensures misuse { IfErr result (IsWordMisuse command_name (found_of words.entry.now)) }
 {
     match command_name {
         CommandName::Read => Ok(Task::Read),
-        CommandName::Check => check_of(queues_of(words)?, words),
+        CommandName::Check => check_of(queues_of(words)?, words, auto),
         CommandName::Explain => explain_of(queues_of(words)?, words),
         CommandName::Follow => Ok(follow_of(queues_of(words)?, words)),
         CommandName::Run => Ok(run_of(queues_of(words)?, words)),
@@ -923,10 +978,12 @@ fn complete_task<'w>(
     }
 }
 
-/// The task of the words after a command, or the first reason why they are no command.
+/// The task of the words after a command, or the first reason why they are no command; `auto` says
+/// whether findings have colours without `--color`.
 pub(crate) fn task_of<'w>(
     command_name: CommandName,
     words: &'w ArgMatches,
+    auto: bool,
 ) -> Result<Task<'w>, Misuse<'w>>
     ensures task { IfOk result (AsksFor command_name (found_of words.entry.now)) }
     ensures apart { OnOk result (IsTwofold (found_of words.entry.now) false) }
@@ -935,5 +992,5 @@ pub(crate) fn task_of<'w>(
     if is_twofold(words) {
         return Err(Misuse::Excluded);
     }
-    complete_task(command_name, words)
+    complete_task(command_name, words, auto)
 }

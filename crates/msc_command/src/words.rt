@@ -39,6 +39,7 @@ pub(crate) enum ArgName {
     Allow,
     ChartFormat,
     FormatSticks,
+    Color,
     Quiet,
     Words,
     Short,
@@ -84,6 +85,10 @@ pub(crate) enum ValueKind {
     Kinds,
     /// An option with the format of an answer.
     Format,
+    /// An option with the format of an answer on ready instances.
+    FormatSticks,
+    /// An option that says whether there are colours.
+    Color,
     /// An option with a name, which may be repeated.
     Names,
     /// An option with a link, which may be repeated.
@@ -105,7 +110,15 @@ pub(crate) enum ValueKind {
 }
 
 const SHOW_HELP: &str =
-    "Print a run for the first N races; without it, for all, with --from if --words or --short";
+    "Print a run for the first N races; without it, for all, with --from if --words or --short, \
+with --format full for none";
+
+const FORMAT_HELP: &str =
+    "Print lines of text, one line with the number of races, lines that editors \
+read, or the findings as people read them";
+
+const COLOR_HELP: &str =
+    "Whether findings as people read them have colours; without it, they do on a terminal";
 
 const SHOW_STICKS_HELP: &str =
     "Print a run for each of the first N sticks that are first; without it, for all";
@@ -139,6 +152,7 @@ impl ArgName {
             ArgName::Only => "only",
             ArgName::Allow => "allow",
             ArgName::ChartFormat | ArgName::FormatSticks => "format",
+            ArgName::Color => "color",
             ArgName::Quiet => "quiet",
             ArgName::Words => "words",
             ArgName::Short => "short",
@@ -182,7 +196,9 @@ impl ArgName {
             ArgName::Queues => ValueKind::Architecture,
             ArgName::QueuesIfAny => ValueKind::ArchitectureIfAny,
             ArgName::Allow => ValueKind::Kinds,
-            ArgName::ChartFormat | ArgName::FormatSticks => ValueKind::Format,
+            ArgName::ChartFormat => ValueKind::Format,
+            ArgName::FormatSticks => ValueKind::FormatSticks,
+            ArgName::Color => ValueKind::Color,
             ArgName::From | ArgName::ScenariosFrom => ValueKind::Language,
             ArgName::Choose => ValueKind::Choices,
             ArgName::Rounds => ValueKind::Rounds,
@@ -215,9 +231,8 @@ impl ArgName {
             ArgName::Allow => {
                 "Leave out the races of this kind, in the list and in the status; may be repeated"
             }
-            ArgName::ChartFormat => {
-                "Print lines of text, lines that editors read, or one line with the number of races"
-            }
+            ArgName::ChartFormat => FORMAT_HELP,
+            ArgName::Color => COLOR_HELP,
             ArgName::FormatSticks => {
                 "Print lines of text, lines that editors read, or one line with the number of sticks"
             }
@@ -262,7 +277,7 @@ impl ArgName {
 }
 
 /// The words after `check`, in the order of the help.
-const CHECK: [ArgName; 26] = [
+const CHECK: [ArgName; 27] = [
     ArgName::Queues,
     ArgName::Pair,
     ArgName::Mailbox,
@@ -275,6 +290,7 @@ const CHECK: [ArgName; 26] = [
     ArgName::Accept,
     ArgName::Again,
     ArgName::ChartFormat,
+    ArgName::Color,
     ArgName::Quiet,
     ArgName::Words,
     ArgName::Short,

@@ -1,4 +1,4 @@
-//! What is shown of a line, and its columns.
+//! The characters of a line as people read them, and their columns.
 
 ghost use Rattle.std.specs.Prelude.{◌≡◌, ◌+◌, ◌-◌, IfOk, drop, length, max, take};
 ghost use Rattle.std.specs.List.{suffix_len};

@@ -24,7 +24,7 @@ use msc_print::Printer;
 use std::alloc::{AllocError, Global};
 use std::io::Write;
 
-/// What is shown of a line.
+/// The shown part of a line.
 fn shown_line(alloc: Global, source: &Source<'_>, line: usize) -> Result<Vec<char>, AllocError>
     ensures { IfOk result (λ shown. shown.items
         ≡ shown_line source.now.ends source.now.text.now line) }

@@ -20,7 +20,7 @@ const WINDOW: usize = 100;
 /// The columns of a window before its first mark.
 const BEFORE: usize = 49;
 
-/// What is shown of a line: the characters that are whole in a window on it.
+/// The shown part of a line: the characters that are whole in a window on it.
 #[derive(Clone, Copy)]
 pub(crate) struct Window {
     /// The line, from 1.

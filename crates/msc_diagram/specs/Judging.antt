@@ -29,12 +29,12 @@ lines_of words s = record {
   heading = λ h. [];
   run = run_text words s.chart;
   finding = finding_text (Some s.event_positions) s.chart;
-  end = λ stale. [];
+  end = λ stale totals. [];
 }
 
 -- the texts of lines for editors
 abbrev pub editors_of : Scenario → Texts
-editors_of s = record { heading = λ h. []; run = λ run. []; finding = λ f line. editor_text s.event_positions s.chart f; end = λ stale. [] }
+editors_of s = record { heading = λ h. []; run = λ run. []; finding = λ f line. editor_text s.event_positions s.chart f; end = λ stale totals. [] }
 
 -- lines, with heads of scenarios
 abbrev pub lines_in : Bool → Telling

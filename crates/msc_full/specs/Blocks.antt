@@ -1,5 +1,5 @@
 -- What the diagnostics of findings have in common.
-use Rattle.std.specs.Prelude.{ℕ, cond, nat_lt, List, Option, None, Some, map, slice_get}
+use Rattle.std.specs.Prelude.{ℕ, ◌==◌, List, Option, None, Some, map, slice_get}
 use Rattle.std.specs.Borrow.{Bor}
 use Rattle.std.specs.Option.{option_map}
 use Rattle.msc_diagnostic.specs.declared.diagnostic.Level.{Level}
@@ -7,14 +7,16 @@ use Rattle.msc_diagnostic.specs.declared.diagnostic.NoteKind.{NoteKind}
 use Rattle.msc_diagnostic.specs.declared.mark.Sign.{Sign}
 use Rattle.msc_diagnostic.specs.Blocks.{diagnostic_text}
 use Rattle.msc_diagnostic.specs.Plain.{Diagnostic, Mark, Note}
+use Rattle.msc_wording.specs.declared.way.Way.{Way}
+use Rattle.msc_wording.specs.Ways.{way_of}
 use Rattle.msc_full.specs.declared.block.PairEvents.{PairEvents}
 use Rattle.msc_full.specs.declared.block.PairNumbers.{PairNumbers}
 use Rattle.msc_full.specs.declared.event.ShownEvent.{ShownEvent}
 use Rattle.msc_full.specs.declared.event.ShownText.{ShownText}
 
--- the place of the event that stands first in the text
-abbrev pub first_place : ShownEvent → ShownEvent → Bor (List ℕ)
-first_place first second = cond (nat_lt second.first first.first) second.place first.place
+-- how the messages of two events arrive
+abbrev pub way_between : ShownEvent → ShownEvent → Way
+way_between first second = way_of first.kind second.kind (first.queue == second.queue)
 
 -- the mark of an event
 abbrev pub mark_of : ShownEvent → Sign → List ℕ → Mark

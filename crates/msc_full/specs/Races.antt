@@ -12,9 +12,7 @@ use Rattle.msc_diagnostic.specs.Plain.{Diagnostic, Mark, Note}
 use Rattle.msc_wording.specs.Pairs.{help_text}
 use Rattle.msc_wording.specs.Races.{first_label, race_reason, race_sentence, second_label, shared_label}
 use Rattle.msc_wording.specs.declared.race.SpokenRace.{SpokenRace}
-use Rattle.msc_wording.specs.declared.way.Way.{Way}
-use Rattle.msc_wording.specs.Ways.{way_of}
-use Rattle.msc_full.specs.Blocks.{block_of, block_text, events_of, first_place, mark_of, note_of, rows_of, texts_of}
+use Rattle.msc_full.specs.Blocks.{block_of, block_text, events_of, mark_of, note_of, rows_of, texts_of, way_between}
 use Rattle.msc_full.specs.declared.event.ShownEvent.{ShownEvent}
 use Rattle.msc_full.specs.declared.event.ShownText.{ShownText}
 use Rattle.msc_full.specs.declared.block.PairEvents.{PairEvents}
@@ -22,9 +20,26 @@ use Rattle.msc_full.specs.declared.block.PairNumbers.{PairNumbers}
 use Rattle.msc_full.specs.declared.race.RaceStrings.{RaceStrings}
 use Rattle.msc_full.specs.declared.race.ShownRace.{ShownRace}
 
--- how the messages of two inputs arrive
-abbrev pub way_between : ShownEvent → ShownEvent → Way
-way_between first second = way_of first.kind second.kind (first.queue == second.queue)
+-- a race that is told, as plain data: its events, why it is a race, whether the second event is of the
+-- next round, in which scenarios it is a race and the rows of a run, if these are told
+pub record PlainRace : Type 0 where
+  pub first : ℕ
+  pub second : ℕ
+  pub cause : Cause
+  pub is_next : Bool
+  pub scenarios : Option (List ℕ)
+  pub run : Option (List (List ℕ))
+
+-- that of the code
+abbrev pub plain_race : ShownRace → PlainRace
+plain_race race = record {
+  first = race.first;
+  second = race.second;
+  cause = race.cause;
+  is_next = race.is_next;
+  scenarios = option_copied race.scenarios;
+  run = rows_of race.run;
+}
 
 -- a race, as sentences name it
 abbrev pub spoken_race : PairEvents → Cause → Bool → SpokenRace
@@ -84,43 +99,43 @@ pub record AreStrings (text : ShownText) (race : SpokenRace) (strings : RaceStri
   pub help : string_bytes strings.help ≡ race_help (texts_of text.names.now) race
 
 -- a race between two events as a diagnostic
-abbrev pub race_block : List (List ℕ) → ShownRace → ShownEvent → ShownEvent → SpokenRace → Diagnostic
+abbrev pub race_block : List (List ℕ) → PlainRace → ShownEvent → ShownEvent → SpokenRace → Diagnostic
 race_block names shown first second race =
     block_of (race_level race.is_always) (kind_word race.kind) (race_sentence names race race.pair.first.act)
-    (first_place first second).now (race_marks race first second)
-    (race_notes (race_reason names race race.kind) (option_copied shown.scenarios) (race_help names race) (rows_of shown.run))
+    first.place.now (race_marks race first second)
+    (race_notes (race_reason names race race.kind) shown.scenarios (race_help names race) shown.run)
 
 -- its text
-abbrev pub text_between : ShownText → ShownRace → ShownEvent → ShownEvent → SpokenRace → List ℕ
+abbrev pub text_between : ShownText → PlainRace → ShownEvent → ShownEvent → SpokenRace → List ℕ
 text_between text shown first second race = block_text text (race_block (texts_of text.names.now) shown first second race)
 
 -- the numbers of the events of a race, and of those of its cause
-abbrev pub numbers_of : ShownRace → PairNumbers
+abbrev pub numbers_of : PlainRace → PairNumbers
 numbers_of race =
     record { first = race.first; second = race.second; needed = race.cause.needed; output = race.cause.output }
 
 -- the text of a race, or none if an event is not there
-abbrev pub text_if : ShownText → ShownRace → Option PairEvents → List ℕ
+abbrev pub text_if : ShownText → PlainRace → Option PairEvents → List ℕ
 text_if text race None = []
 text_if text race (Some events) =
     text_between text race events.first events.second (spoken_race events race.cause race.is_next)
 
-abbrev pub race_text : ShownText → ShownRace → List ℕ
+abbrev pub race_text : ShownText → PlainRace → List ℕ
 race_text text race = text_if text race (events_of text.events.now (numbers_of race))
 
 -- a race that is left, without notes
 abbrev pub left_block : List (List ℕ) → ShownEvent → ShownEvent → SpokenRace → Diagnostic
 left_block names first second race =
-    block_of Warning (codes "race") (race_sentence names race race.pair.first.act) (first_place first second).now
+    block_of Warning (codes "race") (race_sentence names race race.pair.first.act) first.place.now
     (race_marks race first second) []
 
 abbrev pub left_between : ShownText → ShownEvent → ShownEvent → SpokenRace → List ℕ
 left_between text first second race = block_text text (left_block (texts_of text.names.now) first second race)
 
-abbrev pub left_if : ShownText → ShownRace → Option PairEvents → List ℕ
+abbrev pub left_if : ShownText → PlainRace → Option PairEvents → List ℕ
 left_if text race None = []
 left_if text race (Some events) =
     left_between text events.first events.second (spoken_race events race.cause race.is_next)
 
-abbrev pub left_text : ShownText → ShownRace → List ℕ
+abbrev pub left_text : ShownText → PlainRace → List ℕ
 left_text text race = left_if text race (events_of text.events.now (numbers_of race))

@@ -18,7 +18,7 @@ use Rattle.msc_full.specs.declared.stick.ShownStick.{ShownStick}
 use Rattle.msc_full.specs.declared.stick.StickShown.{StickShown}
 use Rattle.msc_full.specs.declared.stick.StickShown.TheVariants.{Nothing, Run, Behind}
 use Rattle.msc_full.specs.declared.stick.StickStrings.{StickStrings}
-use Rattle.msc_full.specs.Blocks.{block_of, block_text, events_of, first_place, mark_of, note_of, texts_of}
+use Rattle.msc_full.specs.Blocks.{block_of, block_text, events_of, mark_of, note_of, texts_of}
 
 -- the message of an input comes through a mailbox
 abbrev pub comes_by_mailbox : LinkKind → Bool
@@ -66,7 +66,7 @@ pub record AreStickStrings (text : ShownText) (stick : SpokenBlockedPair) (strin
 -- a stick of two events as a diagnostic
 abbrev pub stick_block : List (List ℕ) → StickShown → ShownEvent → ShownEvent → SpokenBlockedPair → Diagnostic
 stick_block names shown first second stick =
-    block_of Error (codes "stick") (blocked_sentence names stick) (first_place first second).now
+    block_of Error (codes "stick") (blocked_sentence names stick) first.place.now
     (stick_marks stick first second) (stick_notes (stick_help names stick) (shown_part shown))
 
 -- its text

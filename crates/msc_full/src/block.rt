@@ -2,11 +2,13 @@
 
 ghost use Rattle.std.specs.Prelude.{◌≡◌, [], IfOk, map};
 ghost use Rattle.msc_diagnostic.specs.Plain.{plain_mark, plain_note};
-ghost use Rattle.msc_full.specs.Blocks.{block_of, block_text, events_of, first_place, mark_of, note_of};
+ghost use Rattle.msc_full.specs.Blocks.{block_of, block_text, events_of, mark_of, note_of};
+ghost use Rattle.msc_full.specs.Blocks.{way_between};
 
 use crate::event::{ShownEvent, ShownText};
 use msc_chart::Event;
 use msc_diagnostic::{Diagnostic, Level, Mark, Note, NoteKind, Sign, diagnostic_text};
+use msc_wording::Way;
 use std::alloc::{AllocError, Global};
 
 /// Two events that can come in the other order, and the two whose order would prevent it.
@@ -54,15 +56,11 @@ pub(crate) fn events_of<'t>(
     })
 }
 
-/// The place of the event that stands first in the text.
-pub(crate) fn first_place<'t>(first: &ShownEvent<'t>, second: &ShownEvent<'t>) -> &'t str
-    ensures { result ≡ first_place first.now second.now }
+/// How the messages of two events arrive.
+pub(crate) fn way_between(first: &ShownEvent<'_>, second: &ShownEvent<'_>) -> Way
+    ensures { result ≡ way_between first.now second.now }
 {
-    if second.first < first.first {
-        second.place
-    } else {
-        first.place
-    }
+    Way::of(first.kind, second.kind, first.queue == second.queue)
 }
 
 /// The mark of an event.
@@ -100,7 +98,7 @@ pub(crate) struct BlockParts<'n> {
 /// The text of the diagnostic with these parts.
 pub(crate) fn parts_text(
     alloc: Global,
-    text: ShownText<'_>,
+    text: ShownText<'_, '_>,
     parts: BlockParts<'_>,
     marks: &[Mark<'_>],
     notes: &[Note<'_>],

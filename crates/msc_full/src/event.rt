@@ -13,19 +13,19 @@ pub struct ShownEvent<'t> {
     pub past: usize,
     /// The place of its statement, as it is printed: `FILE:LINE:COLUMN`.
     pub place: &'t str,
-    /// Of an input, the kind of the link of its message, and the number of its queue.
+    /// Of an event of a message, the kind of the link of the message, and the number of its queue.
     pub kind: LinkKind,
     pub queue: u32,
 }
 
 /// A text and its events, of which findings are printed.
 #[derive(Clone, Copy)]
-pub struct ShownText<'t> {
-    pub source: &'t Source<'t>,
+pub struct ShownText<'t, 'w> {
+    pub source: &'t Source<'w>,
     /// What the instances are called, by their numbers.
-    pub names: &'t [&'t str],
+    pub names: &'t [&'w str],
     /// The events, by their numbers.
-    pub events: &'t [ShownEvent<'t>],
+    pub events: &'t [ShownEvent<'w>],
     /// Whether there are colours.
     pub colours: bool,
 }

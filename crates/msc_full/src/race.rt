@@ -5,26 +5,19 @@ ghost use Rattle.std.specs.Option.{option_copied};
 ghost use Rattle.msc_diagnostic.specs.Plain.{plain_mark, plain_note};
 ghost use Rattle.msc_full.specs.Blocks.{rows_of};
 ghost use Rattle.msc_full.specs.Races.{is_one_span, left_between, left_text, numbers_of, race_level};
-ghost use Rattle.msc_full.specs.Races.{race_marks, race_notes};
-ghost use Rattle.msc_full.specs.Races.{race_text, spoken_race, text_between, way_between};
+ghost use Rattle.msc_full.specs.Races.{plain_race, race_marks, race_notes};
+ghost use Rattle.msc_full.specs.Races.{race_text, spoken_race, text_between};
 ghost use Rattle.msc_full.specs.Races.{AreStrings};
 
 use crate::block::{
-    BlockParts, PairEvents, PairNumbers, events_of, first_place, mark, note, parts_text,
+    BlockParts, PairEvents, PairNumbers, events_of, mark, note, parts_text, way_between,
 };
 use crate::event::{ShownEvent, ShownText};
 use msc_chart::Event;
 use msc_diagnostic::{Level, Mark, Note, NoteKind, Sign};
 use msc_reason::Cause;
-use msc_wording::{SpokenPair, SpokenRace, Way};
+use msc_wording::{SpokenPair, SpokenRace};
 use std::alloc::{AllocError, Global};
-
-/// How the messages of two inputs arrive.
-fn way_between(first: &ShownEvent<'_>, second: &ShownEvent<'_>) -> Way
-    ensures { result ≡ way_between first.now second.now }
-{
-    Way::of(first.kind, second.kind, first.queue == second.queue)
-}
 
 /// A race, as sentences name it.
 fn spoken_race<'t>(events: PairEvents<'t>, cause: Cause, is_next: bool) -> SpokenRace<'t>
@@ -130,7 +123,7 @@ pub struct ShownRace<'t> {
     pub run: Option<&'t [&'t str]>,
 }
 
-/// What is said of a race.
+/// The texts of a race.
 #[derive(Drop)]
 struct RaceStrings {
     sentence: String,
@@ -138,10 +131,10 @@ struct RaceStrings {
     help: String,
 }
 
-/// What is said of a race: its sentence, its reason and its help.
+/// The texts of a race: its sentence, its reason and its help.
 fn strings_of(
     alloc: Global,
-    text: ShownText<'_>,
+    text: ShownText<'_, '_>,
     race: &SpokenRace<'_>,
 ) -> Result<RaceStrings, AllocError>
     ensures { IfOk result (λ strings. AreStrings text.entry race.now strings) }
@@ -160,14 +153,14 @@ fn strings_of(
 /// The text of the diagnostic of a race between two events.
 fn text_between<'t>(
     alloc: Global,
-    text: ShownText<'_>,
+    text: ShownText<'_, '_>,
     shown: ShownRace<'t>,
     first: &ShownEvent<'t>,
     second: &ShownEvent<'t>,
     race: &SpokenRace<'_>,
 ) -> Result<Vec<u8>, AllocError>
     ensures { IfOk result (λ bytes. bytes.items
-        ≡ text_between text.entry shown.entry first.now second.now race.now) }
+        ≡ text_between text.entry (plain_race shown.entry) first.now second.now race.now) }
 {
     let strings = strings_of(alloc, text, race)?;
     let said = RaceNotes {
@@ -182,7 +175,7 @@ fn text_between<'t>(
         level: race_level(race.is_always),
         id: race.kind.word(),
         sentence: strings.sentence.as_str(),
-        place: first_place(first, second),
+        place: first.place,
     };
     let bytes = parts_text(alloc, text, parts, marks.as_slice(), notes.as_slice())?;
     Ok(bytes)
@@ -190,7 +183,7 @@ fn text_between<'t>(
 
 /// The numbers of the events of a race, and of those of its cause.
 fn numbers_of(race: ShownRace<'_>) -> PairNumbers
-    ensures { result ≡ numbers_of race.entry }
+    ensures { result ≡ numbers_of (plain_race race.entry) }
 {
     PairNumbers {
         first: race.first,
@@ -205,10 +198,10 @@ fn numbers_of(race: ShownRace<'_>) -> PairNumbers
 /// It is empty if the text lacks one of the events. The only error is want of memory.
 pub fn race_text(
     alloc: Global,
-    text: ShownText<'_>,
+    text: ShownText<'_, '_>,
     race: ShownRace<'_>,
 ) -> Result<Vec<u8>, AllocError>
-    ensures { IfOk result (λ bytes. bytes.items ≡ race_text text.entry race.entry) }
+    ensures { IfOk result (λ bytes. bytes.items ≡ race_text text.entry (plain_race race.entry)) }
 {
     let Some(events) = events_of(text.events, numbers_of(race)) else {
         return Ok(Vec::new(alloc));
@@ -221,7 +214,7 @@ pub fn race_text(
 /// The text of the diagnostic of a race that is left, between two events.
 fn left_between<'t>(
     alloc: Global,
-    text: ShownText<'_>,
+    text: ShownText<'_, '_>,
     first: &ShownEvent<'t>,
     second: &ShownEvent<'t>,
     race: &SpokenRace<'_>,
@@ -235,7 +228,7 @@ fn left_between<'t>(
         level: Level::Warning,
         id: "race",
         sentence: sentence.as_str(),
-        place: first_place(first, second),
+        place: first.place,
     };
     let bytes = parts_text(alloc, text, parts, marks.as_slice(), &[])?;
     Ok(bytes)
@@ -246,10 +239,10 @@ fn left_between<'t>(
 /// if the text lacks one of the events. The only error is want of memory.
 pub fn left_text(
     alloc: Global,
-    text: ShownText<'_>,
+    text: ShownText<'_, '_>,
     race: ShownRace<'_>,
 ) -> Result<Vec<u8>, AllocError>
-    ensures { IfOk result (λ bytes. bytes.items ≡ left_text text.entry race.entry) }
+    ensures { IfOk result (λ bytes. bytes.items ≡ left_text text.entry (plain_race race.entry)) }
 {
     let Some(events) = events_of(text.events, numbers_of(race)) else {
         return Ok(Vec::new(alloc));

@@ -49,7 +49,7 @@ fn stale_notes(alloc: Global) -> Result<Vec<Note<'static>>, AllocError>
 /// nothing, in the line of the text, and what to do. The only error is want of memory.
 pub fn stale_text(
     alloc: Global,
-    text: ShownText<'_>,
+    text: ShownText<'_, '_>,
     stale: StaleMark<'_>,
 ) -> Result<Vec<u8>, AllocError>
     ensures { IfOk result (λ bytes. bytes.items ≡ stale_text text.entry stale.entry) }

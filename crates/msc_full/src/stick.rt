@@ -6,9 +6,7 @@ ghost use Rattle.msc_full.specs.Sticks.{comes_by_mailbox, shown_part, spoken_sti
 ghost use Rattle.msc_full.specs.Sticks.{stick_between, stick_notes, stick_numbers, stick_text};
 ghost use Rattle.msc_full.specs.Sticks.{AreStickStrings};
 
-use crate::block::{
-    BlockParts, PairEvents, PairNumbers, events_of, first_place, mark, note, parts_text,
-};
+use crate::block::{BlockParts, PairEvents, PairNumbers, events_of, mark, note, parts_text};
 use crate::event::{ShownEvent, ShownText};
 use msc_chart::{Event, LinkKind};
 use msc_diagnostic::{Level, Mark, Note, NoteKind, Sign};
@@ -107,17 +105,17 @@ fn stick_notes<'n>(
     Ok(notes)
 }
 
-/// What is said of a stick.
+/// The texts of a stick.
 #[derive(Drop)]
 struct StickStrings {
     sentence: String,
     help: String,
 }
 
-/// What is said of a stick: its sentence and its help.
+/// The texts of a stick: its sentence and its help.
 fn strings_of(
     alloc: Global,
-    text: ShownText<'_>,
+    text: ShownText<'_, '_>,
     stick: &SpokenBlockedPair<'_>,
 ) -> Result<StickStrings, AllocError>
     ensures { IfOk result (λ strings. AreStickStrings text.entry stick.now strings) }
@@ -131,7 +129,7 @@ fn strings_of(
 /// The text of the diagnostic of a stick of two events.
 fn stick_between<'t>(
     alloc: Global,
-    text: ShownText<'_>,
+    text: ShownText<'_, '_>,
     shown: StickShown<'t>,
     first: &ShownEvent<'t>,
     second: &ShownEvent<'t>,
@@ -147,7 +145,7 @@ fn stick_between<'t>(
         level: Level::Error,
         id: "stick",
         sentence: strings.sentence.as_str(),
-        place: first_place(first, second),
+        place: first.place,
     };
     let bytes = parts_text(alloc, text, parts, marks.as_slice(), notes.as_slice())?;
     Ok(bytes)
@@ -170,7 +168,7 @@ fn stick_numbers(stick: ShownStick<'_>) -> PairNumbers
 /// empty if the text lacks one of the events. The only error is want of memory.
 pub fn stick_text(
     alloc: Global,
-    text: ShownText<'_>,
+    text: ShownText<'_, '_>,
     stick: ShownStick<'_>,
 ) -> Result<Vec<u8>, AllocError>
     ensures { IfOk result (λ bytes. bytes.items ≡ stick_text text.entry stick.entry) }

@@ -1,8 +1,8 @@
-//! A race and a stick of charts, a stale mark of a diagram, and their diagnostics.
+//! A race, a stick and rings of charts, a stale mark of a diagram, and their diagnostics.
 
 use crate::{
-    ShownEvent, ShownRace, ShownStick, ShownText, StaleMark, StickShown, race_text, stale_text,
-    stick_text,
+    ShownEvent, ShownRace, ShownStep, ShownStick, ShownText, StaleMark, StepOrder, StickShown,
+    never_text, race_text, stale_text, stick_text, waiting_text,
 };
 use msc_chart::LinkKind;
 use msc_diagnostic::{LineEnds, Source};
@@ -302,4 +302,184 @@ fn a_stale_mark_is_told(rt: HostRuntime) {
     };
     let told = stale_text(rt.alloc(), text, STALE).expect(&rt, "memory for a mark");
     assert_eq!(rt; told.as_slice(), STALE_PRINTED.as_bytes());
+}
+
+/// An urgent message that is drawn past the data which was sent before it.
+const URGENT: &str =
+    "/* An urgent message that is drawn past the data which was sent before it. Drawn for this gallery. */
+msc urgent_overtakes;
+instance host;
+  out data to terminal;
+  out urgent to terminal;
+endinstance;
+instance terminal;
+  in urgent from host;
+  in data from host;
+endinstance;
+endmsc;
+";
+
+/// The text of its diagnostic.
+const URGENT_PRINTED: &str = "error[never]: this chart can never happen as it is drawn
+ --> urgent_overtakes.msc:4:3
+  |
+4 |   out data to terminal;
+  |   ^^^^^^^^^^^^^^^^^^^^^
+5 |   out urgent to terminal;
+  |   -----------------------
+  |
+  = note: host sends \"data\" to terminal (line 4) before it sends \"urgent\" to terminal (line 5), as drawn
+  = note: \"urgent\" (line 5) has to be sent before \"data\" (line 4): terminal receives it first, and they come over one connection
+
+";
+
+/// The event of a message at these places.
+fn at(spoken: SpokenEvent<'static>, first: usize, past: usize) -> ShownEvent<'static> {
+    ShownEvent {
+        spoken,
+        first,
+        past,
+        place: "urgent_overtakes.msc:4:3",
+        kind: LinkKind::Pair,
+        queue: 0,
+    }
+}
+
+/// A message from the first instance to the second, or of it, in this line.
+fn sends(message: &'static str, owner: usize, peer: usize, line: usize) -> SpokenEvent<'static> {
+    SpokenEvent {
+        act: Act::Sends,
+        message,
+        owner,
+        peer,
+        line,
+    }
+}
+
+/// A step from an event to another.
+fn step(first: u32, second: u32, order: StepOrder) -> ShownStep {
+    ShownStep {
+        first,
+        second,
+        order,
+    }
+}
+
+#[test]
+fn a_chart_that_never_happens_is_told(rt: HostRuntime) {
+    let source = Source::new(rt.alloc(), URGENT.as_bytes(), LineEnds::LineFeed);
+    let source = source.expect(&rt, "memory for a text");
+    let data = at(sends("\"data\"", 0, 1, 4), 141, 162);
+    let urgent = at(sends("\"urgent\"", 0, 1, 5), 165, 188);
+    let text = ShownText {
+        source: &source,
+        names: &["host", "terminal"],
+        events: &[data, urgent],
+        colours: false,
+    };
+    let steps = [step(0, 1, StepOrder::Drawn), step(1, 0, StepOrder::Queued)];
+    let told = never_text(rt.alloc(), text, &steps).expect(&rt, "memory for a ring");
+    assert_eq!(rt; told.as_slice(), URGENT_PRINTED.as_bytes());
+    let unknown = [step(0, 2, StepOrder::Drawn)];
+    let told = never_text(rt.alloc(), text, &unknown).expect(&rt, "memory for a ring");
+    assert_eq!(rt; told.as_slice().len(), 0);
+}
+
+/// Five instances, each of which waits for the one before it.
+const FIVE: &str = "msc five;
+instance a; in m5 from e; out m1 to b; endinstance;
+instance b; in m1 from a; out m2 to c; endinstance;
+instance c; in m2 from b; out m3 to d; endinstance;
+instance d; in m3 from c; out m4 to e; endinstance;
+instance e; in m4 from d; out m5 to a; endinstance;
+endmsc;
+";
+
+/// The text of the diagnostic.
+const FIVE_PRINTED: &str =
+    "error[chart 9]: these events wait for each other, so none of them can happen
+ --> five.msc:2:13
+  |
+2 | instance a; in m5 from e; out m1 to b; endinstance;
+  |             ^^^^^^^^^^^^^
+  |                           ------------
+3 | instance b; in m1 from a; out m2 to c; endinstance;
+  |             -------------
+  |                           ------------
+4 | instance c; in m2 from b; out m3 to d; endinstance;
+  |             -------------
+  |                           ------------
+5 | instance d; in m3 from c; out m4 to e; endinstance;
+  |             -------------
+  |                           ------------
+  |
+  = note: a receives \"m5\" from e (line 2) before it sends \"m1\" to b (line 2), as drawn
+  = note: \"m1\" is sent (line 2) before it is received (line 3)
+  = note: b receives \"m1\" from a (line 3) before it sends \"m2\" to c (line 3), as drawn
+  = note: \"m2\" is sent (line 3) before it is received (line 4)
+  = note: c receives \"m2\" from b (line 4) before it sends \"m3\" to d (line 4), as drawn
+  = note: \"m3\" is sent (line 4) before it is received (line 5)
+  = note: d receives \"m3\" from c (line 5) before it sends \"m4\" to e (line 5), as drawn
+  = note: \"m4\" is sent (line 5) before it is received (line 6)
+  = note: and 2 more steps
+
+";
+
+const FIVE_NAMES: [&str; 5] = ["a", "b", "c", "d", "e"];
+
+/// A message to the first instance from the second, in this line.
+fn receives(message: &'static str, owner: usize, peer: usize, line: usize) -> SpokenEvent<'static> {
+    SpokenEvent {
+        act: Act::Receives,
+        message,
+        owner,
+        peer,
+        line,
+    }
+}
+
+/// An event of the five at these places.
+fn of_five(spoken: SpokenEvent<'static>, first: usize, past: usize) -> ShownEvent<'static> {
+    ShownEvent {
+        place: "five.msc:2:13",
+        ..at(spoken, first, past)
+    }
+}
+
+#[test]
+fn events_that_wait_for_each_other_are_told(rt: HostRuntime) {
+    let source = Source::new(rt.alloc(), FIVE.as_bytes(), LineEnds::LineFeed);
+    let source = source.expect(&rt, "memory for a text");
+    let events = [
+        of_five(receives("\"m5\"", 0, 4, 2), 22, 35),
+        of_five(sends("\"m1\"", 0, 1, 2), 36, 48),
+        of_five(receives("\"m1\"", 1, 0, 3), 74, 87),
+        of_five(sends("\"m2\"", 1, 2, 3), 88, 100),
+        of_five(receives("\"m2\"", 2, 1, 4), 126, 139),
+        of_five(sends("\"m3\"", 2, 3, 4), 140, 152),
+        of_five(receives("\"m3\"", 3, 2, 5), 178, 191),
+        of_five(sends("\"m4\"", 3, 4, 5), 192, 204),
+        of_five(receives("\"m4\"", 4, 3, 6), 230, 243),
+        of_five(sends("\"m5\"", 4, 0, 6), 244, 256),
+    ];
+    let steps = [
+        step(0, 1, StepOrder::Drawn),
+        step(1, 2, StepOrder::Sent),
+        step(2, 3, StepOrder::Drawn),
+        step(3, 4, StepOrder::Sent),
+        step(4, 5, StepOrder::Drawn),
+        step(5, 6, StepOrder::Sent),
+        step(6, 7, StepOrder::Drawn),
+        step(7, 8, StepOrder::Sent),
+        step(8, 9, StepOrder::Drawn),
+        step(9, 0, StepOrder::Sent),
+    ];
+    let text = ShownText {
+        source: &source,
+        names: &FIVE_NAMES,
+        events: &events,
+        colours: false,
+    };
+    let told = waiting_text(rt.alloc(), text, &steps).expect(&rt, "memory for a ring");
+    assert_eq!(rt; told.as_slice(), FIVE_PRINTED.as_bytes());
 }

@@ -19,6 +19,7 @@ use Rattle.msc_print.specs.declared.page.WriteFault.{WriteFault}
 use Rattle.msc_judge.specs.declared.options.CheckOptions.{CheckOptions}
 use Rattle.msc_judge.specs.declared.renderer.Finding.{Finding}
 use Rattle.msc_judge.specs.declared.renderer.Heading.{Heading}
+use Rattle.msc_judge.specs.declared.renderer.Totals.{Totals}
 
 -- each event's witness
 abbrev pub AreWitness : WiredChart → (ℕ → List ℕ) → Type 0
@@ -91,20 +92,28 @@ pub record Texts : Type 0 where
   pub heading : Heading → List ℕ
   pub run : List ℕ → List ℕ
   pub finding : Finding → Option (List ℕ) → List ℕ
-  pub end : List ℕ → List ℕ
+  pub end : List ℕ → Option Totals → List ℕ
 
 -- those that the members of a renderer give
 abbrev pub texts : {S : Type 0} → (S → Drawing → Heading → List ℕ) → (S → Drawing → List ℕ → List ℕ)
-    → (S → Drawing → Finding → Option (List ℕ) → List ℕ) → (S → Drawing → List ℕ → List ℕ) → S → Drawing → Texts
+    → (S → Drawing → Finding → Option (List ℕ) → List ℕ) → (S → Drawing → List ℕ → Option Totals → List ℕ) → S → Drawing → Texts
 texts heading run finding end s d =
     record { heading = heading s d; run = run s d; finding = finding s d; end = end s d }
 
--- all that is written: the heading, each finding in order, and the end
-abbrev pub answer_text : Texts → EnforcedChart → CheckOptions → Marking → Tables → List ℕ
-answer_text r e q m t =
+-- what a whole answer found, by these numbers
+abbrev pub totals_in : ℕ → ℕ → Option ℕ → Heading → Totals
+totals_in most stale between h = record { heading = h; most = most; stale = stale; between = between }
+
+-- the same, where the races of one round close the answer
+abbrev pub closing_totals : Bool → ℕ → ℕ → Heading → Option Totals
+closing_totals closes most stale h = cond closes (Some (totals_in most stale None h)) None
+
+-- all that is written: the heading, each finding in order, and the end, which may close the answer
+abbrev pub answer_text : Texts → EnforcedChart → CheckOptions → Marking → Tables → Bool → List ℕ
+answer_text r e q m t closes =
     r.heading (heading_of e q.closest (left_of q m) t.causes)
     ++ (flat_map (shown_text r.finding r.run q.show (run_of q.short t)) (findings e q (left_of q m) t.causes)
-    ++ r.end m.stale.now)
+    ++ r.end m.stale.now (closing_totals closes q.most (length m.stale.now) (heading_of e q.closest (left_of q m) t.causes)))
 
 -- whether no race counts, and no mark accepts none
 abbrev pub passes : EnforcedChart → CheckOptions → Marking → (ℕ → ℕ → Cause) → Bool
@@ -116,5 +125,5 @@ passes e q m causes =
 pub record Answers (e : EnforcedChart) (q : CheckOptions) (m : Marking) (texts : Texts) (answer : Result Bool WriteFault) (before after : Option (List ℕ)) : Type 0 where
   pub tables : Tables
   pub are : AreTables e tables
-  pub written : Writes answer before after (answer_text texts e q m tables)
+  pub written : Writes answer before after (answer_text texts e q m tables true)
   pub passed : IfOk answer (λ passed. passed ≡ passes e q m tables.causes)

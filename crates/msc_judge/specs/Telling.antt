@@ -1,9 +1,9 @@
 -- What is written of races that are listed, as they come.
-use Rattle.std.specs.Prelude.{ℕ, ◌+◌, cond, List, [], ◌∷◌, ◌++◌, length, nat_lt, unwrap_or}
+use Rattle.std.specs.Prelude.{ℕ, ◌+◌, Bool, cond, List, [], ◌∷◌, ◌++◌, Some, length, nat_lt, unwrap_or}
 use Rattle.msc_race.specs.Wired.{EnforcedChart}
 use Rattle.msc_reason.specs.Counting.{listed}
 use Rattle.msc_reason.specs.Marked.{cause_in}
-use Rattle.msc_judge.specs.Findings.{finding_of, heading_of, left_of, shown_text, Texts}
+use Rattle.msc_judge.specs.Findings.{closing_totals, finding_of, heading_of, left_of, shown_text, totals_in, Texts}
 use Rattle.msc_judge.specs.Rounds.{round_heading}
 use Rattle.msc_judge.specs.declared.marking.Marking.{Marking}
 use Rattle.msc_judge.specs.declared.options.CheckOptions.{CheckOptions}
@@ -19,17 +19,21 @@ told_from text most n [] = []
 told_from text most n (p ∷ pairs) = cond (nat_lt n most) (text n p) [] ++ told_from text most (n + 1) pairs
 
 -- what is written of the races that are listed: how many there are, each of them, and what marks
--- say
-abbrev pub listed_text : Texts → EnforcedChart → CheckOptions → Marking → (ℕ × ℕ → List ℕ) → List ℕ
-listed_text r e q m runs =
+-- say; and whether that closes the answer
+abbrev pub listed_text : Texts → EnforcedChart → CheckOptions → Marking → Bool → (ℕ × ℕ → List ℕ) → List ℕ
+listed_text r e q m closes runs =
     r.heading (heading_of e q.closest (left_of q m) (cause_in e))
-    ++ (told_from (race_text r e q runs) q.most 0 (listed e (left_of q m) q.closest (cause_in e)) ++ r.end m.stale.now)
-
--- what is written of these races of two rounds behind so many: how many there are, and each of them
-abbrev pub rounds_from : Texts → EnforcedChart → CheckOptions → (ℕ × ℕ → List ℕ) → ℕ → List (ℕ × ℕ) → List ℕ
-rounds_from r two q runs n pairs =
-    r.heading (round_heading two.queues (length pairs)) ++ (told_from (race_text r two q runs) q.most n pairs ++ r.end [])
+    ++ (told_from (race_text r e q runs) q.most 0 (listed e (left_of q m) q.closest (cause_in e))
+    ++ r.end m.stale.now (closing_totals closes q.most (length m.stale.now) (heading_of e q.closest (left_of q m) (cause_in e))))
 
 -- how many races are listed, by what is said of all
 abbrev pub number_in : Heading → ℕ
 number_in h = unwrap_or h.closest h.counting
+
+-- what is written of these races of two rounds behind those of one round, of which this is said,
+-- with so many marks that accept none: how many there are, and each of them
+abbrev pub rounds_from : Texts → EnforcedChart → CheckOptions → ℕ → (ℕ × ℕ → List ℕ) → Heading → List (ℕ × ℕ) → List ℕ
+rounds_from r two q stale runs h pairs =
+    r.heading (round_heading two.queues (length pairs))
+    ++ (told_from (race_text r two q runs) q.most (number_in h) pairs
+    ++ r.end [] (Some (totals_in q.most stale (Some (length pairs)) h)))

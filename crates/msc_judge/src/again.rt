@@ -10,11 +10,12 @@ ghost use Rattle.msc_reason.specs.Named.{AreEventsOf};
 ghost use Rattle.msc_judge.specs.Between.{told_of};
 ghost use Rattle.msc_judge.specs.Findings.{passes, texts, AreShown};
 ghost use Rattle.msc_judge.specs.Rounds.{round_heading, AnswersRounds};
+ghost use Rattle.msc_judge.specs.Findings.{totals_in};
 ghost use Rattle.msc_judge.specs.Telling.{listed_text, number_in, race_text, rounds_from};
 ghost use Rattle.msc_judge.specs.Telling.{told_from};
 
 use crate::heading::heading_of;
-use crate::judging::{RaceCheck, RaceList, left_of};
+use crate::judging::{RaceCheck, RaceList, left_of, totals_in};
 use crate::options::CheckOptions;
 use crate::renderer::{Heading, Renderer};
 use crate::rounds::Rounds;
@@ -48,14 +49,16 @@ fn round_heading(queues: Queues, count: u32) -> Heading
     }
 }
 
-/// The races between two rounds, `count` of them, numbered from `first` on.
+/// The races between two rounds, `count` of them. They are numbered after the races of one round,
+/// which have this heading, with so many marks that accept none.
 #[derive(Drop)]
 struct RoundList<'t, 'a, R: Renderer> {
     rounds: Rounds<'t, 'a>,
     options: CheckOptions,
     renderer: &'t R,
     count: u32,
-    first: u32,
+    heading: Heading,
+    stale: usize,
 }
 
 impl<'t, 'a, R: Renderer> RoundList<'t, 'a, R> {
@@ -72,7 +75,7 @@ impl<'t, 'a, R: Renderer> RoundList<'t, 'a, R> {
             (texts R.heading_text R.run_text R.finding_text R.end_text
             self.now.renderer.now self.now.rounds.listing.now.judged.chart)
             self.now.rounds.listing.now.judged self.now.options runs)
-            self.now.options.most self.now.first (told_of self.now.rounds.numbers.now
+            self.now.options.most (number_in self.now.heading) (told_of self.now.rounds.numbers.now
             self.now.rounds.listing.now.judged self.now.rounds.listing.now.allowed)) }
     {
         let listing = self.rounds.listing;
@@ -83,7 +86,8 @@ impl<'t, 'a, R: Renderer> RoundList<'t, 'a, R> {
             renderer: self.renderer,
         };
         let mut walk = Vec::new(alloc);
-        print_pairs(alloc, printer, &self.rounds, &mut walk, &rows, self.first)?;
+        let first = number_in(self.heading);
+        print_pairs(alloc, printer, &self.rounds, &mut walk, &rows, first)?;
         Ok(())
     }
 }
@@ -97,7 +101,7 @@ impl<'t, 'a, R: Renderer> Print for RoundList<'t, 'a, R> {
         × AreShown l.options.short (wiring_of l.rounds.listing.now.judged) runs
         × (text ≡ rounds_from (texts R.heading_text R.run_text R.finding_text R.end_text
         l.renderer.now l.rounds.listing.now.judged.chart)
-        l.rounds.listing.now.judged l.options runs l.first (told_of l.rounds.numbers.now
+        l.rounds.listing.now.judged l.options l.stale runs l.heading (told_of l.rounds.numbers.now
         l.rounds.listing.now.judged l.rounds.listing.now.allowed)) };
 
     ghost is_answer = { λ l passed. passed ≡ nat_eq (length (told_of l.rounds.numbers.now
@@ -120,6 +124,12 @@ impl<'t, 'a, R: Renderer> Print for RoundList<'t, 'a, R> {
             renderer,
             chart,
             stale: &[],
+            totals: Some(totals_in(
+                self.options.most,
+                self.stale,
+                Some(self.count),
+                self.heading,
+            )),
         };
         printer.print_text(&heading);
         let printed = self.print_races(alloc, printer);
@@ -180,13 +190,15 @@ pub fn judge_rounds<'r, 'a, R: Renderer, S: Renderer, W: Write>(
             renderer,
         },
         marking,
+        closes: false,
     };
     let second = &RoundList {
         rounds,
         options,
         renderer: second,
         count,
-        first: number_in(heading),
+        heading,
+        stale: marking.stale.len(),
     };
     write_by(alloc, &Both { first, second }, writer)
 }

@@ -7,14 +7,15 @@ ghost use Rattle.msc_reason.specs.Counting.{listed};
 ghost use Rattle.msc_reason.specs.Marked.{cause_in};
 ghost use Rattle.msc_reason.specs.Named.{AreEventsOf};
 ghost use Rattle.msc_reason.specs.Selected.{selected};
-ghost use Rattle.msc_judge.specs.Findings.{heading_of, left_of, passes, texts, Answers, AreShown};
+ghost use Rattle.msc_judge.specs.Findings.{closing_totals, heading_of, left_of, passes, texts};
+ghost use Rattle.msc_judge.specs.Findings.{totals_in, Answers, AreShown};
 ghost use Rattle.msc_judge.specs.Telling.{listed_text, race_text, told_from};
 
 use crate::heading::{heading_of, passes};
 use crate::marking::Marking;
 use crate::options::CheckOptions;
 use crate::races::ListedRaces;
-use crate::renderer::{Heading, Renderer};
+use crate::renderer::{Heading, Renderer, Totals};
 use crate::rows::RaceRows;
 use crate::texts::{EndText, HeadingText};
 use msc_print::{Print, Printer, WriteFault, print_pairs, write_by};
@@ -35,12 +36,37 @@ pub struct RaceCheck<'j, R: Renderer> {
     pub renderer: &'j R,
 }
 
+/// What a whole answer found.
+pub(crate) fn totals_in(most: u32, stale: usize, between: Option<u32>, heading: Heading) -> Totals
+    ensures { result ≡ totals_in most stale between heading }
+{
+    Totals {
+        heading,
+        most,
+        stale,
+        between,
+    }
+}
+
+/// What a whole answer found, if the races of one round close it.
+fn closing_totals(closes: bool, most: u32, stale: usize, heading: Heading) -> Option<Totals>
+    ensures { result ≡ closing_totals closes most stale heading }
+{
+    if closes {
+        Some(totals_in(most, stale, None, heading))
+    } else {
+        None
+    }
+}
+
 /// The races that are listed, with their heading and what marks accept.
 #[derive(Drop)]
 pub(crate) struct RaceList<'t, 'a, R: Renderer> {
     pub heading: Heading,
     pub rows: RaceRows<'t, 'a, R>,
     pub marking: Marking<'t>,
+    /// Whether these races close the answer.
+    pub closes: bool,
 }
 
 impl<'t, 'a, R: Renderer> RaceList<'t, 'a, R> {
@@ -89,7 +115,7 @@ impl<'t, 'a, R: Renderer> Print for RaceList<'t, 'a, R> {
         × AreShown l.rows.options.short (wiring_of l.rows.listing.now.judged) runs
         × (text ≡ listed_text (texts R.heading_text R.run_text R.finding_text R.end_text
         l.rows.renderer.now l.rows.listing.now.judged.chart)
-        l.rows.listing.now.judged l.rows.options l.marking runs) };
+        l.rows.listing.now.judged l.rows.options l.marking l.closes runs) };
 
     ghost is_answer = { λ l passed. passed ≡ passes l.rows.listing.now.judged l.rows.options
         l.marking (cause_in l.rows.listing.now.judged) };
@@ -110,6 +136,12 @@ impl<'t, 'a, R: Renderer> Print for RaceList<'t, 'a, R> {
             renderer,
             chart,
             stale: self.marking.stale,
+            totals: closing_totals(
+                self.closes,
+                self.rows.options.most,
+                self.marking.stale.len(),
+                self.heading,
+            ),
         };
         printer.print_text(&heading);
         let printed = self.print_races(alloc, printer);
@@ -167,6 +199,7 @@ pub fn judge<R: Renderer, W: Write>(
             renderer,
         },
         marking,
+        closes: true,
     };
     write_by(alloc, &list, writer)
 }

@@ -32,7 +32,7 @@ pub use judging::{RaceCheck, judge};
 pub use marking::Marking;
 pub use options::CheckOptions;
 pub use races::ListedRaces;
-pub use renderer::{Finding, Heading, Renderer};
+pub use renderer::{Finding, Heading, Renderer, Totals};
 pub use rounds::Rounds;
 pub use rows::{RaceRows, ShownRun};
 pub use silent::Silent;

@@ -1,7 +1,7 @@
 //! The options of a check that select races and what is printed of them.
 
 ghost use Rattle.std.specs.Prelude.{◌≡◌};
-ghost use Rattle.msc_judge.specs.Options.{counted, for_editors};
+ghost use Rattle.msc_judge.specs.Options.{counted, for_editors, for_people};
 
 use msc_reason::KindSet;
 
@@ -50,6 +50,21 @@ impl CheckOptions {
             most: self.most,
             show: 0,
             short: false,
+        }
+    }
+
+    /// The options of findings as people read them: only the closest races are printed, each with
+    /// its kind and what it lacks, and the runs that show them are short.
+    pub fn for_people(self) -> CheckOptions
+        ensures { result ≡ for_people self }
+    {
+        CheckOptions {
+            closest: true,
+            why: true,
+            allowed: self.allowed,
+            most: self.most,
+            show: self.show,
+            short: true,
         }
     }
 }

@@ -7,6 +7,7 @@ ghost use Rattle.msc_chart.specs.Drawings.{Drawing};
 ghost use Rattle.msc_judge.specs.Renderings.{NamesEvents};
 ghost use Rattle.msc_judge.specs.declared.renderer.Finding.{Finding};
 ghost use Rattle.msc_judge.specs.declared.renderer.Heading.{Heading};
+ghost use Rattle.msc_judge.specs.declared.renderer.Totals.{Totals};
 
 use msc_chart::{Chart, Event, Queues};
 use msc_print::Page;
@@ -28,6 +29,19 @@ pub struct Heading {
     pub counting: u32,
     /// How many of those are closest, if only these are listed.
     pub closest: Option<u32>,
+}
+
+/// What a whole answer found, for the text that closes it.
+#[derive(Clone, Copy)]
+pub struct Totals {
+    /// The numbers that precede the first finding.
+    pub heading: Heading,
+    /// At most this many findings are printed, the first ones.
+    pub most: u32,
+    /// The number of marks that accept no race.
+    pub stale: usize,
+    /// The number of races between two rounds, if these are included.
+    pub between: Option<u32>,
 }
 
 /// A race that is printed.
@@ -55,8 +69,9 @@ pub trait Renderer {
     /// The text of a finding, with the text of the run that shows it, if one does.
     ghost finding_text: { Self → Drawing → Finding → Option (List ℕ) → List ℕ };
 
-    /// The text after the last finding, with the events whose marks accept no race.
-    ghost end_text: { Self → Drawing → List ℕ → List ℕ };
+    /// The text after the last finding, with the events whose marks accept no race; and, if it
+    /// closes the answer, with what the answer found.
+    ghost end_text: { Self → Drawing → List ℕ → Option Totals → List ℕ };
 
     /// Appends a heading to a page.
     fn print_heading(
@@ -89,10 +104,17 @@ pub trait Renderer {
             ≡ page.old.bytes.items ++ finding_text self.now chart.now finding
             (option_map (λ l. l.now) line.entry)) };
 
-    /// Appends the end to a page, with the events whose marks accept no race.
-    fn print_end(&self, page: &mut Page, chart: &Chart, stale: &[Event]) -> Result<(), AllocError>
+    /// Appends the end to a page, with the events whose marks accept no race; and, if it closes the
+    /// answer, with what the answer found.
+    fn print_end(
+        &self,
+        page: &mut Page,
+        chart: &Chart,
+        stale: &[Event],
+        totals: Option<Totals>,
+    ) -> Result<(), AllocError>
         requires fits { fits self.now chart.now }
         requires events { All (λ e. e < length chart.now.events) stale.now }
         ensures { OnOk result (page.new.bytes.items
-            ≡ page.old.bytes.items ++ end_text self.now chart.now stale.now) };
+            ≡ page.old.bytes.items ++ end_text self.now chart.now stale.now totals) };
 }

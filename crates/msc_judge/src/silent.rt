@@ -2,7 +2,7 @@
 
 ghost use Rattle.std.specs.Prelude.{[]};
 
-use crate::renderer::{Finding, Heading, Renderer};
+use crate::renderer::{Finding, Heading, Renderer, Totals};
 use msc_chart::{Chart, Event};
 use msc_print::Page;
 use std::alloc::{AllocError, Global};
@@ -20,7 +20,7 @@ impl Renderer for Silent {
 
     ghost finding_text = { λ s d f line. [] };
 
-    ghost end_text = { λ s d stale. [] };
+    ghost end_text = { λ s d stale totals. [] };
 
     fn print_heading(
         &self,
@@ -55,6 +55,7 @@ impl Renderer for Silent {
         _page: &mut Page,
         _chart: &Chart,
         _stale: &[Event],
+        _totals: Option<Totals>,
     ) -> Result<(), AllocError> {
         Ok(())
     }

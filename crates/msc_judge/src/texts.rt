@@ -4,7 +4,7 @@ ghost use Rattle.std.specs.Prelude.{◌<◌, length, option_map};
 ghost use Rattle.std.specs.List.{All};
 ghost use Rattle.msc_judge.specs.Renderings.{NamesEvents};
 
-use crate::renderer::{Finding, Heading, Renderer};
+use crate::renderer::{Finding, Heading, Renderer, Totals};
 use msc_chart::{Chart, Event};
 use msc_print::{Page, Text};
 use std::alloc::AllocError;
@@ -49,21 +49,24 @@ impl<'t, 'l, R: Renderer> Text for FindingText<'t, 'l, R> {
     }
 }
 
-/// The text after the last finding, with the events whose marks accept no race.
+/// The text after the last finding, with the events whose marks accept no race; and, if it closes
+/// the answer, with what the answer found.
 #[derive(Drop)]
 pub struct EndText<'t, R: Renderer> {
     pub renderer: &'t R,
     pub chart: &'t Chart,
     pub stale: &'t [Event],
+    pub totals: Option<Totals>,
 }
 
 impl<'t, R: Renderer> Text for EndText<'t, R> {
     ghost can_append = { λ t. R.fits t.renderer.now t.chart.now
         × All (λ e. e < length t.chart.now.events) t.stale.now };
 
-    ghost bytes = { λ t. R.end_text t.renderer.now t.chart.now t.stale.now };
+    ghost bytes = { λ t. R.end_text t.renderer.now t.chart.now t.stale.now t.totals };
 
     fn append(&self, page: &mut Page) -> Result<(), AllocError> {
-        self.renderer.print_end(page, self.chart, self.stale)
+        self.renderer
+            .print_end(page, self.chart, self.stale, self.totals)
     }
 }

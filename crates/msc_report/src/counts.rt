@@ -5,7 +5,7 @@ ghost use Rattle.std.specs.Io.KnownBytes.{Appends};
 ghost use Rattle.msc_report.specs.Counts.{ready_tally_line, tally_line};
 
 use msc_chart::{Chart, Event};
-use msc_judge::{Finding, Heading, Renderer};
+use msc_judge::{Finding, Heading, Renderer, Totals};
 use msc_place::writing::write_file;
 use msc_print::Page;
 use std::alloc::{AllocError, Global};
@@ -64,7 +64,7 @@ impl<'f> Renderer for Counts<'f> {
 
     ghost finding_text = { λ s d f line. [] };
 
-    ghost end_text = { λ s d stale. [] };
+    ghost end_text = { λ s d stale totals. [] };
 
     fn print_heading(
         &self,
@@ -102,6 +102,7 @@ impl<'f> Renderer for Counts<'f> {
         _page: &mut Page,
         _chart: &Chart,
         _stale: &[Event],
+        _totals: Option<Totals>,
     ) -> Result<(), AllocError> {
         Ok(())
     }

@@ -21,7 +21,7 @@ use crate::following::write_never_error;
 use crate::race::{write_event, write_pair_place};
 use crate::stale::write_stale_warnings;
 use msc_chart::{Chart, Event};
-use msc_judge::{Finding, Heading, Renderer};
+use msc_judge::{Finding, Heading, Renderer, Totals};
 use msc_place::EventPositions;
 use msc_print::Page;
 use msc_reason::Cause;
@@ -381,7 +381,7 @@ impl<'s> Renderer for Editor<'s> {
 
     ghost finding_text = { λ s d f line. editor_text s.event_positions.now d f };
 
-    ghost end_text = { λ s d stale. stale_warnings s.event_positions.now d stale };
+    ghost end_text = { λ s d stale totals. stale_warnings s.event_positions.now d stale };
 
     fn print_heading(
         &self,
@@ -414,7 +414,13 @@ impl<'s> Renderer for Editor<'s> {
         }
     }
 
-    fn print_end(&self, page: &mut Page, chart: &Chart, stale: &[Event]) -> Result<(), AllocError> {
+    fn print_end(
+        &self,
+        page: &mut Page,
+        chart: &Chart,
+        stale: &[Event],
+        _totals: Option<Totals>,
+    ) -> Result<(), AllocError> {
         match write_stale_warnings(page, chart, self.event_positions, stale) {
             Ok(()) => Ok(()),
             Err(_) => Err(AllocError),
@@ -431,7 +437,7 @@ impl<'s, 'r> Renderer for EditorLines<'s, 'r> {
 
     ghost finding_text = { λ s d f line. editor_text s.event_positions.now d f };
 
-    ghost end_text = { λ s d stale. stale_warnings s.event_positions.now d stale };
+    ghost end_text = { λ s d stale totals. stale_warnings s.event_positions.now d stale };
 
     fn print_heading(
         &self,
@@ -473,7 +479,13 @@ impl<'s, 'r> Renderer for EditorLines<'s, 'r> {
         }
     }
 
-    fn print_end(&self, page: &mut Page, chart: &Chart, stale: &[Event]) -> Result<(), AllocError> {
+    fn print_end(
+        &self,
+        page: &mut Page,
+        chart: &Chart,
+        stale: &[Event],
+        _totals: Option<Totals>,
+    ) -> Result<(), AllocError> {
         match write_stale_warnings(page, chart, self.event_positions, stale) {
             Ok(()) => Ok(()),
             Err(_) => Err(AllocError),

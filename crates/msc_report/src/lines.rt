@@ -28,7 +28,7 @@ use crate::trace::write_steps;
 use crate::verdict::write_head;
 use itoa::Buffer;
 use msc_chart::{Chart, Event};
-use msc_judge::{Finding, Heading, Renderer};
+use msc_judge::{Finding, Heading, Renderer, Totals};
 use msc_place::EventPositions;
 use msc_print::Page;
 use msc_reason::Cause;
@@ -477,7 +477,7 @@ impl<'s> Renderer for Lines<'s> {
 
     ghost finding_text = { λ s d f line. finding_text (event_positions_in s.style) d f line };
 
-    ghost end_text = { λ s d stale. stale_lines (event_positions_in s.style) d stale };
+    ghost end_text = { λ s d stale totals. stale_lines (event_positions_in s.style) d stale };
 
     fn print_heading(
         &self,
@@ -515,7 +515,13 @@ impl<'s> Renderer for Lines<'s> {
         Ok(())
     }
 
-    fn print_end(&self, page: &mut Page, chart: &Chart, stale: &[Event]) -> Result<(), AllocError> {
+    fn print_end(
+        &self,
+        page: &mut Page,
+        chart: &Chart,
+        stale: &[Event],
+        _totals: Option<Totals>,
+    ) -> Result<(), AllocError> {
         match write_stale_lines(page, chart, self.style.event_positions, stale) {
             Ok(()) => Ok(()),
             Err(_) => Err(AllocError),

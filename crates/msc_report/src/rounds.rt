@@ -35,7 +35,7 @@ use crate::sticks::{print_told_pair, print_waits, write_told_pair};
 use crate::style::Style;
 use itoa::Buffer;
 use msc_chart::{Chart, Event, RoundNumbers};
-use msc_judge::{Finding, Heading, Renderer};
+use msc_judge::{Finding, Heading, Renderer, Totals};
 use msc_place::EventPositions;
 use msc_print::Page;
 use msc_reason::Cause;
@@ -481,7 +481,7 @@ impl<'s> Renderer for RoundLines<'s> {
     ghost finding_text = { λ s d f line.
         round_finding (event_positions_in s.style) s.names.chart.now f line };
 
-    ghost end_text = { λ s d stale. [] };
+    ghost end_text = { λ s d stale totals. [] };
 
     fn print_heading(
         &self,
@@ -525,6 +525,7 @@ impl<'s> Renderer for RoundLines<'s> {
         _page: &mut Page,
         _chart: &Chart,
         _stale: &[Event],
+        _totals: Option<Totals>,
     ) -> Result<(), AllocError> {
         Ok(())
     }
@@ -571,7 +572,7 @@ impl<'s> Renderer for RoundEditor<'s> {
 
     ghost finding_text = { λ s d f line. round_warning s.event_positions.now s.names.chart.now f };
 
-    ghost end_text = { λ s d stale. [] };
+    ghost end_text = { λ s d stale totals. [] };
 
     fn print_heading(
         &self,
@@ -609,6 +610,7 @@ impl<'s> Renderer for RoundEditor<'s> {
         _page: &mut Page,
         _chart: &Chart,
         _stale: &[Event],
+        _totals: Option<Totals>,
     ) -> Result<(), AllocError> {
         Ok(())
     }

@@ -9,7 +9,7 @@ use Rattle.msc_reason.specs.Named.{AreEventsOf}
 use Rattle.msc_report.specs.Following.{ring_steps, steps_from, AreStepsOf}
 use Rattle.msc_text.specs.Judging.{IsBarred, IsRingIn}
 use Rattle.msc_text.specs.declared.judging.ChartFormat.{ChartFormat}
-use Rattle.msc_text.specs.declared.judging.ChartFormat.TheVariants.{Lines, Count, Editor}
+use Rattle.msc_text.specs.declared.judging.ChartFormat.TheVariants.{Lines, Count, Editor, Full}
 
 module _ (d : Drawing) where
   -- the steps over events of the chart are steps of the chart
@@ -38,5 +38,6 @@ module _ (d : Drawing) where
   -- and so is what a format prints
   pub told_known : (queues : Queues) (format : ChartFormat) (ring : List ℕ) → IsRingIn format (wired queues d) ring → AreEventsOf d ring
   told_known queues (Editor event_positions) ring barred = barred_known queues ring barred
+  told_known queues (Full full) ring barred = barred_known queues ring barred
   told_known queues (Lines style) ring none = subst (AreEventsOf d) (sym none) (λ i e within. absurd (omega (arith, within)))
   told_known queues (Count file) ring none = subst (AreEventsOf d) (sym none) (λ i e within. absurd (omega (arith, within)))

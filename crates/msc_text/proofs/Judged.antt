@@ -19,7 +19,7 @@ use Rattle.msc_chart.specs.Lists.{Occurs}
 use Rattle.msc_mark.specs.Accepting.{acceptance, accepts_race, is_stale, stale_events, Acceptance}
 use Rattle.msc_mark.specs.declared.mark.Mark.{Mark}
 use Rattle.msc_judge.specs.declared.marking.Marking.{Marking}
-use Rattle.msc_judge.specs.Findings.{answer_text, left_of, passes, Answers}
+use Rattle.msc_judge.specs.Findings.{answer_text, heading_of, left_of, passes, totals_in, Answers}
 use Rattle.msc_judge.specs.Rounds.{rounds_text, AnswersRounds, AreRoundRaces}
 use Rattle.msc_print.specs.Pages.{Tells}
 use Rattle.msc_print.specs.declared.page.WriteFault.{WriteFault}
@@ -36,13 +36,13 @@ pub told_once : {W : Type 0} (contents : W → Option (List ℕ)) (e : EnforcedC
     → Answers e (asked format q) m (texts_in format (ring_steps ring) e.chart) r (contents old) (contents new)
     → Tells contents (JudgesChart e.chart e.queues q marks false format) r old new
 told_once contents e q marks m format ring (Ok passed) old new accepted is marked barred said = (
-  answer_text (texts_in format (ring_steps ring) e.chart) e (asked format q) m said.tables,
+  answer_text (texts_in format (ring_steps ring) e.chart) e (asked format q) m said.tables true,
   record { accepted = accepted; order = e.order; by_order = is; marking = m; marked = marked; tables = said.tables; are = said.are; ring = ring; barred = barred; answered = said.passed; text = refl },
   said.written,
 )
 told_once contents e q marks m format ring (Err writing.Memory) old new accepted is marked barred said = inr (
   passes e (asked format q) m said.tables.causes,
-  answer_text (texts_in format (ring_steps ring) e.chart) e (asked format q) m said.tables,
+  answer_text (texts_in format (ring_steps ring) e.chart) e (asked format q) m said.tables true,
   record { accepted = accepted; order = e.order; by_order = is; marking = m; marked = marked; tables = said.tables; are = said.are; ring = ring; barred = barred; answered = refl; text = refl },
   said.written,
 )
@@ -56,15 +56,16 @@ module _ (e : EnforcedChart) (order : Table) (q : CheckOptions) (marks : Option 
   two = enforced_chart (two_rounds e.chart) e.queues order
 
   -- what was written of both is what is printed of the chart and of two rounds of it
-  module _ {r : Result Bool WriteFault} {before after : Option (List ℕ)} (said : AnswersRounds e two (asked format q) m (texts_in format (ring_steps ring) e.chart) (round_texts_in format e.chart) r before after) where
+  module _ {r : Result Bool WriteFault} {before after : Option (List ℕ)} (said : AnswersRounds e two (asked format q) m (texts_in format (ring_steps ring) e.chart) (round_texts_in format (ring_steps ring) e.chart) r before after) where
     -- the text of one round
     abbrev above : List ℕ
-    above = answer_text (texts_in format (ring_steps ring) e.chart) e (asked format q) m said.tables
+    above = answer_text (texts_in format (ring_steps ring) e.chart) e (asked format q) m said.tables false
 
     -- and of two
     abbrev below : List ℕ
-    below = rounds_text (round_texts_in format e.chart) two (asked format q) said.of_two
-        (length (listed e (left_of (asked format q) m) (asked format q).closest said.tables.causes)) said.pairs
+    below = rounds_text (round_texts_in format (ring_steps ring) e.chart) two (asked format q) said.of_two
+        (length (listed e (left_of (asked format q) m) (asked format q).closest said.tables.causes))
+        (totals_in (asked format q).most (length m.stale.now) (Some (length said.pairs)) (heading_of e (asked format q).closest (left_of (asked format q) m) said.tables.causes)) said.pairs
 
     -- whether none counts, and none is between the rounds
     abbrev none_of_both : Bool
@@ -84,7 +85,7 @@ module _ (e : EnforcedChart) (order : Table) (q : CheckOptions) (marks : Option 
 
   -- so it is told
   told_both : {W : Type 0} (contents : W → Option (List ℕ)) (r : Result Bool WriteFault) (old new : W)
-      → AnswersRounds e two (asked format q) m (texts_in format (ring_steps ring) e.chart) (round_texts_in format e.chart) r (contents old) (contents new)
+      → AnswersRounds e two (asked format q) m (texts_in format (ring_steps ring) e.chart) (round_texts_in format (ring_steps ring) e.chart) r (contents old) (contents new)
       → Tells contents (JudgesChart e.chart e.queues q marks true format) r old new
   told_both contents (Ok passed) old new said = (above said ++ below said, judged_unrolled said passed said.passed, said.written)
   told_both contents (Err writing.Memory) old new said =
@@ -94,12 +95,12 @@ module _ (e : EnforcedChart) (order : Table) (q : CheckOptions) (marks : Option 
 -- the same of any chart that is that of two rounds
 pub told_unrolled : {W : Type 0} (contents : W → Option (List ℕ)) (e two : EnforcedChart) (q : CheckOptions) (marks : Option (List Mark)) (m : Marking) (format : ChartFormat) (ring : List ℕ) (r : Result Bool WriteFault) (old new : W)
     → IsAccepted e.chart → IsEnforced e → IsMarking e marks m → IsRingIn format (wiring_of e) ring → two.chart ≡ two_rounds e.chart → two.queues ≡ e.queues → IsEnforced two
-    → AnswersRounds e two (asked format q) m (texts_in format (ring_steps ring) e.chart) (round_texts_in format e.chart) r (contents old) (contents new)
+    → AnswersRounds e two (asked format q) m (texts_in format (ring_steps ring) e.chart) (round_texts_in format (ring_steps ring) e.chart) r (contents old) (contents new)
     → Tells contents (JudgesChart e.chart e.queues q marks true format) r old new
 told_unrolled contents e two q marks m format ring r old new accepted is marked barred chart_is queues_is is_two said =
     let same : two ≡ enforced_chart (two_rounds e.chart) e.queues two.order = ap₂ (λ (c : Drawing) (a : Queues). enforced_chart c a two.order) chart_is queues_is in
     told_both e two.order q marks m format ring accepted is (subst IsEnforced same is_two) marked barred contents r old new
-    (subst (λ (x : EnforcedChart). AnswersRounds e x (asked format q) m (texts_in format (ring_steps ring) e.chart) (round_texts_in format e.chart) r (contents old) (contents new)) same said)
+    (subst (λ (x : EnforcedChart). AnswersRounds e x (asked format q) m (texts_in format (ring_steps ring) e.chart) (round_texts_in format (ring_steps ring) e.chart) r (contents old) (contents new)) same said)
 
 -- what is told of a chart under an architecture is told of the chart that was asked for
 pub told_of_chart : {W : Type 0} (contents : W → Option (List ℕ)) (e : EnforcedChart) (d : Drawing) (queues : Queues) (q : CheckOptions) (marks : Option (List Mark)) (again : Bool) (format : ChartFormat) (r : Result Bool WriteFault) (old new : W)

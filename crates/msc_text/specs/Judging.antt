@@ -1,11 +1,13 @@
 -- What is asked of the races of a chart, in a format.
-use Rattle.std.specs.Prelude.{◌≡◌, ℕ, Bool, true, false, ◌&&◌, List, [], ◌∷◌, ◌++◌, Option, None, Some, MatchOption, length, nat_eq}
+use Rattle.std.specs.Prelude.{◌≡◌, ℕ, Bool, true, false, ◌&&◌, not, List, [], ◌∷◌, ◌++◌, Option, None, Some, MatchOption, length, nat_eq}
 use Rattle.std.specs.Borrow.{Bor}
 use Rattle.msc_chart.specs.declared.queue.Queues.{Queues}
 use Rattle.msc_chart.specs.Drawings.{Drawing, IsAccepted}
 use Rattle.msc_chart.specs.Lists.{Occurs}
 use Rattle.msc_chart.specs.Orders.{wired, WiredChart}
 use Rattle.msc_chart.specs.Rounds.{two_rounds}
+use Rattle.msc_findings.specs.Findings.{end_text, finding_text as diagnostic_text, never_part, run_text as run_rows}
+use Rattle.msc_findings.specs.Rounds.{round_finding as finding_once, round_run as round_rows}
 use Rattle.msc_follow.specs.Following.{CanHappen, IsLeastStepRing, NeverHappens}
 use Rattle.msc_mark.specs.Accepting.{acceptance, accepts_race, stale_events}
 use Rattle.msc_mark.specs.declared.mark.Mark.{Mark}
@@ -17,11 +19,12 @@ use Rattle.msc_reason.specs.declared.kinds.KindSet.{KindSet}
 use Rattle.msc_reason.specs.PairTables.{has_pair, PairTable}
 use Rattle.msc_reason.specs.declared.cause.Cause.{Cause}
 use Rattle.msc_reason.specs.declared.left_out.LeftOut.{LeftOut}
-use Rattle.msc_judge.specs.Findings.{answer_text, left_of, passes, AreTables, Tables, Texts}
-use Rattle.msc_judge.specs.Options.{counted, for_editors}
+use Rattle.msc_judge.specs.Findings.{answer_text, heading_of, left_of, passes, totals_in, AreTables, Tables, Texts}
+use Rattle.msc_judge.specs.Options.{counted, for_editors, for_people}
 use Rattle.msc_judge.specs.Rounds.{rounds_text, AreRoundRaces}
 use Rattle.msc_judge.specs.declared.marking.Marking.{Marking}
 use Rattle.msc_judge.specs.declared.options.CheckOptions.{CheckOptions}
+use Rattle.msc_judge.specs.declared.renderer.Heading.{Heading}
 use Rattle.msc_report.specs.Counts.{tally_line}
 use Rattle.msc_report.specs.Lines.{finding_text, heading_text}
 use Rattle.msc_report.specs.Editors.{editor_text}
@@ -30,7 +33,7 @@ use Rattle.msc_report.specs.Rounds.{again_count, round_finding, round_run_text, 
 use Rattle.msc_report.specs.Stale.{stale_lines, stale_warnings}
 use Rattle.msc_report.specs.Styles.{run_text, event_positions_in}
 use Rattle.msc_text.specs.declared.judging.ChartFormat.{ChartFormat}
-use Rattle.msc_text.specs.declared.judging.ChartFormat.TheVariants.{Lines, Count, Editor}
+use Rattle.msc_text.specs.declared.judging.ChartFormat.TheVariants.{Lines, Count, Editor, Full}
 
 -- what keeps each run from the drawing: nothing, if some whole run keeps the drawn order, or a ring of
 -- steps
@@ -38,9 +41,10 @@ abbrev pub IsBarred : WiredChart → List ℕ → Type 0
 IsBarred chart [] = CanHappen chart
 IsBarred chart (x ∷ ring) = IsLeastStepRing chart (x ∷ ring) × NeverHappens chart
 
--- the same, if the format prints it: lines for editors do
+-- the same, if the format prints it: lines for editors do, and findings for people
 abbrev pub IsRingIn : ChartFormat → WiredChart → List ℕ → Type 0
 IsRingIn (Editor event_positions) chart ring = IsBarred chart ring
+IsRingIn (Full full) chart ring = IsBarred chart ring
 IsRingIn (Lines style) chart ring = ring ≡ []
 IsRingIn (Count file) chart ring = ring ≡ []
 
@@ -50,36 +54,50 @@ texts_in (Lines style) steps d = record {
   heading = heading_text d;
   run = run_text style.words d;
   finding = finding_text (event_positions_in style) d;
-  end = stale_lines (event_positions_in style) d;
+  end = λ stale totals. stale_lines (event_positions_in style) d stale;
 }
 texts_in (Count file) steps d =
-    record { heading = tally_line file.now; run = λ run. []; finding = λ f line. []; end = λ stale. [] }
+    record { heading = tally_line file.now; run = λ run. []; finding = λ f line. []; end = λ stale totals. [] }
 texts_in (Editor event_positions) steps d = record {
   heading = λ h. never_error event_positions.now d steps;
   run = λ run. [];
   finding = λ f line. editor_text event_positions.now d f;
-  end = stale_warnings event_positions.now d;
+  end = λ stale totals. stale_warnings event_positions.now d stale;
+}
+texts_in (Full full) steps d = record {
+  heading = λ h. never_part full d steps;
+  run = run_rows full;
+  finding = diagnostic_text full.text false;
+  end = end_text full (nat_eq (length steps) 0);
 }
 
--- the texts of each format, of two rounds of a chart
-abbrev pub round_texts_in : ChartFormat → Drawing → Texts
-round_texts_in (Lines style) d = record {
+-- the texts of each format, of two rounds of a chart and of the steps of such a ring of the chart
+abbrev pub round_texts_in : ChartFormat → List (ℕ × ℕ) → Drawing → Texts
+round_texts_in (Lines style) steps d = record {
   heading = λ h. again_count h.counting;
   run = round_run_text style.words d;
   finding = round_finding (event_positions_in style) d;
-  end = λ stale. [];
+  end = λ stale totals. [];
 }
-round_texts_in (Count file) d =
-    record { heading = λ h. []; run = λ run. []; finding = λ f line. []; end = λ stale. [] }
-round_texts_in (Editor event_positions) d =
-    record { heading = λ h. []; run = λ run. []; finding = λ f line. round_warning event_positions.now d f; end = λ stale. [] }
+round_texts_in (Count file) steps d =
+    record { heading = λ h. []; run = λ run. []; finding = λ f line. []; end = λ stale totals. [] }
+round_texts_in (Editor event_positions) steps d =
+    record { heading = λ h. []; run = λ run. []; finding = λ f line. round_warning event_positions.now d f; end = λ stale totals. [] }
+round_texts_in (Full full) steps d = record {
+  heading = λ h. [];
+  run = round_rows full d;
+  finding = λ f. diagnostic_text full.text true (finding_once d f);
+  end = end_text full (nat_eq (length steps) 0);
+}
 
 -- what is asked, for a format: a count is of the closest races too, and of no race by itself; lines
--- for editors tell the kind of each race, and show no run
+-- for editors tell the kind of each race, and show no run; for people only the closest races are
+-- told, with their causes and short runs
 abbrev pub asked : ChartFormat → CheckOptions → CheckOptions
 asked (Lines style) q = q
 asked (Count file) q = counted q.allowed
 asked (Editor event_positions) q = for_editors q
+asked (Full full) q = for_people q
 
 -- what marks say of the races of a chart: which of them are accepted, and which marks accept none
 abbrev pub IsMarking : EnforcedChart → Option (List Mark) → Marking → Type 0
@@ -90,8 +108,8 @@ IsMarking e (Some marks) m = (pairs : Bor PairTable) × (m.accepted ≡ Some pai
 
 -- What is printed of a chart, and whether no race counts and no mark accepts none: by the enforced
 -- order, what its races lack, the runs that show them, what keeps each run from the drawing, and what
--- marks say, where they are asked.
-pub record JudgesOnce (d : Drawing) (queues : Queues) (q : CheckOptions) (marks : Option (List Mark)) (format : ChartFormat) (passed : Bool) (printed : List ℕ) : Type 0 where
+-- marks say, where they are asked. It may be told of two rounds behind it.
+pub record JudgesOnce (d : Drawing) (queues : Queues) (q : CheckOptions) (marks : Option (List Mark)) (again : Bool) (format : ChartFormat) (passed : Bool) (printed : List ℕ) : Type 0 where
   pub accepted : IsAccepted d
   pub order : Table
   pub by_order : IsEnforced (enforced_chart d queues order)
@@ -103,12 +121,13 @@ pub record JudgesOnce (d : Drawing) (queues : Queues) (q : CheckOptions) (marks 
   pub barred : IsRingIn format (wired queues d) ring
   pub answered : passed ≡ passes (enforced_chart d queues order) (asked format q) marking tables.causes
   pub text : printed
-      ≡ answer_text (texts_in format (ring_steps ring) d) (enforced_chart d queues order) (asked format q) marking tables
+      ≡ answer_text (texts_in format (ring_steps ring) d) (enforced_chart d queues order) (asked format q) marking tables (not again)
 
--- What is printed of two rounds of a chart behind so many races that are listed, and whether no
--- race is between the rounds: by the enforced order of the two, what their races lack, and the runs
--- that show them. The question is what is asked in the format.
-pub record JudgesRounds (d : Drawing) (queues : Queues) (q : CheckOptions) (format : ChartFormat) (number : ℕ) (none : Bool) (printed : List ℕ) : Type 0 where
+-- What is printed of two rounds of a chart behind so many races that are listed, where this is said
+-- of the chart, with such a ring and so many marks that accept none; and whether no race is between
+-- the rounds: by the enforced order of the two, what their races lack, and the runs that show them.
+-- The question is what is asked in the format.
+pub record JudgesRounds (d : Drawing) (queues : Queues) (q : CheckOptions) (format : ChartFormat) (ring : List ℕ) (number stale : ℕ) (h : Heading) (none : Bool) (printed : List ℕ) : Type 0 where
   pub order : Table
   pub by_order : IsEnforced (enforced_chart (two_rounds d) queues order)
   pub tables : Tables
@@ -116,24 +135,28 @@ pub record JudgesRounds (d : Drawing) (queues : Queues) (q : CheckOptions) (form
   pub pairs : List (ℕ × ℕ)
   pub told : AreRoundRaces d (enforced_chart (two_rounds d) queues order) q.allowed tables.causes pairs
   pub answered : none ≡ nat_eq (length pairs) 0
-  pub text : printed ≡ rounds_text (round_texts_in format d) (enforced_chart (two_rounds d) queues order) q tables number pairs
+  pub text : printed ≡ rounds_text (round_texts_in format (ring_steps ring) d) (enforced_chart (two_rounds d) queues order) q tables number
+      (totals_in q.most stale (Some (length pairs)) h) pairs
 
 -- What is printed of a chart and behind it of two rounds of the chart, and whether no race counts,
 -- no mark accepts none, and no race is between the rounds. Findings are numbered on.
 pub record JudgesUnrolled (d : Drawing) (queues : Queues) (q : CheckOptions) (marks : Option (List Mark)) (format : ChartFormat) (passed : Bool) (printed : List ℕ) : Type 0 where
   pub first : Bool
   pub above : List ℕ
-  pub once : JudgesOnce d queues q marks format first above
+  pub once : JudgesOnce d queues q marks true format first above
   pub none : Bool
   pub below : List ℕ
-  pub rounds : JudgesRounds d queues (asked format q) format (length (listed (enforced_chart d queues once.order)
-      (left_of (asked format q) once.marking) (asked format q).closest once.tables.causes)) none below
+  pub rounds : JudgesRounds d queues (asked format q) format once.ring
+      (length (listed (enforced_chart d queues once.order) (left_of (asked format q) once.marking) (asked format q).closest once.tables.causes))
+      (length once.marking.stale.now)
+      (heading_of (enforced_chart d queues once.order) (asked format q).closest (left_of (asked format q) once.marking) once.tables.causes)
+      none below
   pub answered : passed ≡ (first && none)
   pub text : printed ≡ above ++ below
 
 -- what is printed of a chart, of two rounds too where these are asked for, and what is answered
 abbrev pub JudgesChart : Drawing → Queues → CheckOptions → Option (List Mark) → Bool → ChartFormat → Bool → List ℕ → Type 0
-JudgesChart d queues q marks false format = JudgesOnce d queues q marks format
+JudgesChart d queues q marks false format = JudgesOnce d queues q marks false format
 JudgesChart d queues q marks true format = JudgesUnrolled d queues q marks format
 
 -- the two rounds, if they are given, are those of this chart

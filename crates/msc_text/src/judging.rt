@@ -17,6 +17,7 @@ ghost use Rattle.msc_text.specs.Judging.{IsBarred, IsMarking, IsRingIn, JudgesCh
 ghost use Rattle.msc_text.specs.Judging.{PassesOnce, PassesRounds};
 
 use msc_chart::{Chart, Event, Queues, Unrolled};
+use msc_findings::{FullFormat, FullRaces, FullRounds};
 use msc_follow::laws::a_pass_is_followed;
 use msc_follow::{Followed, follow};
 use msc_judge::{CheckOptions, Marking, RaceCheck, Rounds, Silent, judge, judge_rounds};
@@ -34,7 +35,7 @@ use std::io::Write;
 
 /// The format of an answer on the races of a chart.
 #[derive(Clone, Copy)]
-pub enum ChartFormat<'f> {
+pub enum ChartFormat<'f, 'w> {
     /// The head of the verdict and the lines of each race, in a style.
     Lines(Style<'f>),
     /// One line for the file of this name, with the number of races, and of the closest of those
@@ -43,12 +44,15 @@ pub enum ChartFormat<'f> {
     /// The lines for editors: that no run keeps the drawing, if none does, and each race, with the
     /// places of the events in the text.
     Editor(&'f EventPositions<'f>),
+    /// Findings for people: that no run keeps the drawing, if none does, each of the closest races,
+    /// and a line with what was found.
+    Full(FullFormat<'f, 'w>),
 }
 
-/// A format, with the steps of the ring that lines for editors print.
+/// A format, with the steps of the ring that lines for editors and findings for people print.
 #[derive(Clone, Copy)]
-struct Rendering<'f, 'r> {
-    format: ChartFormat<'f>,
+struct Rendering<'f, 'w, 'r> {
+    format: ChartFormat<'f, 'w>,
     ring: &'r [(Event, Event)],
 }
 
@@ -68,16 +72,16 @@ fn barring_ring(alloc: Global, enforced: &Enforced<'_>) -> Result<Vec<Event>, Al
     }
 }
 
-/// The ring that lines for editors print; other formats print none.
+/// The ring that lines for editors and findings for people print; other formats print none.
 fn ring_in(
     alloc: Global,
     enforced: &Enforced<'_>,
-    format: ChartFormat<'_>,
+    format: ChartFormat<'_, '_>,
 ) -> Result<Vec<Event>, AllocError>
     ensures { IfOk result (λ ring. IsRingIn format.entry (wiring_of enforced.now) ring.items) }
 {
     match format {
-        ChartFormat::Editor(_) => barring_ring(alloc, enforced),
+        ChartFormat::Editor(_) | ChartFormat::Full(_) => barring_ring(alloc, enforced),
         ChartFormat::Lines(_) | ChartFormat::Count(_) => Ok(Vec::new(alloc)),
     }
 }
@@ -89,7 +93,7 @@ fn judge_in<W: Write>(
     enforced: Enforced<'_>,
     options: CheckOptions,
     marking: Marking<'_>,
-    rendering: Rendering<'_, '_>,
+    rendering: Rendering<'_, '_, '_>,
     writer: &mut W,
 ) -> Result<bool, WriteFault>
     requires stale { AreEventsOf enforced.chart marking.stale.now }
@@ -136,6 +140,21 @@ fn judge_in<W: Write>(
             };
             judge(alloc, check, writer)
         }
+        ChartFormat::Full(format) => {
+            let renderer = &FullRaces {
+                alloc,
+                format,
+                ring: rendering.ring,
+            };
+            let check = RaceCheck {
+                enforced,
+                races,
+                options: options.for_people(),
+                marking,
+                renderer,
+            };
+            judge(alloc, check, writer)
+        }
     }
 }
 
@@ -147,7 +166,7 @@ fn judge_rounds_of<'j, W: Write>(
     options: CheckOptions,
     marking: Marking<'_>,
     rounds: Rounds<'j, 'j>,
-    rendering: Rendering<'j, '_>,
+    rendering: Rendering<'j, '_, '_>,
     writer: &mut W,
 ) -> Result<bool, WriteFault>
     requires stale { AreEventsOf enforced.chart marking.stale.now }
@@ -157,7 +176,7 @@ fn judge_rounds_of<'j, W: Write>(
     ensures { AnswersRounds enforced.entry rounds.entry.listing.now.judged
         (asked rendering.entry.format options) marking.entry
         (texts_in rendering.entry.format rendering.entry.ring.now enforced.entry.chart)
-        (round_texts_in rendering.entry.format enforced.entry.chart)
+        (round_texts_in rendering.entry.format rendering.entry.ring.now enforced.entry.chart)
         result (W.contents writer.old) (W.contents writer.new) }
 {
     the_witness_reverses();
@@ -218,6 +237,28 @@ fn judge_rounds_of<'j, W: Write>(
                 writer,
             )
         }
+        ChartFormat::Full(format) => {
+            let ring = rendering.ring;
+            let renderer = &FullRaces {
+                alloc,
+                format,
+                ring,
+            };
+            let check = RaceCheck {
+                enforced,
+                races,
+                options: options.for_people(),
+                marking,
+                renderer,
+            };
+            let second = &FullRounds {
+                alloc,
+                format,
+                numbers,
+                can_happen: ring.is_empty(),
+            };
+            judge_rounds(alloc, check, rounds, second, writer)
+        }
     }
 }
 
@@ -229,7 +270,7 @@ fn judge_by<W: Write>(
     options: CheckOptions,
     marking: Marking<'_>,
     rounds: Option<&Unrolled<'_>>,
-    format: ChartFormat<'_>,
+    format: ChartFormat<'_, '_>,
     writer: &mut W,
 ) -> Result<bool, WriteFault>
     requires stale { AreEventsOf enforced.chart marking.stale.now }
@@ -299,7 +340,7 @@ pub fn judge_chart<W: Write>(
     alloc: Global,
     input: CheckInput<'_>,
     options: CheckOptions,
-    format: ChartFormat<'_>,
+    format: ChartFormat<'_, '_>,
     writer: &mut W,
 ) -> Result<bool, WriteFault>
     requires { AreItsRounds input.chart.now input.rounds }

@@ -5,11 +5,12 @@ use Rattle.msc_chart.specs.declared.queue.LinkKind.TheVariants.{Mailbox, Pair, S
 use Rattle.msc_wording.specs.declared.way.Way.{Way}
 use Rattle.msc_wording.specs.declared.way.Way.TheVariants.{ByThemselves, OneConnection, OneMailbox, TwoConnections, TwoQueues}
 
--- the way over a link of this kind, if both messages share a queue
+-- the way over a link of this kind, if the queues of both messages have one name: a queue of a single
+-- message is another one in the next round
 abbrev pub shared_way : LinkKind → Way
 shared_way Pair = OneConnection
 shared_way Mailbox = OneMailbox
-shared_way Single = OneConnection
+shared_way Single = ByThemselves
 
 -- the way over links of these kinds, if they share none
 abbrev pub parted_way : LinkKind → LinkKind → Way

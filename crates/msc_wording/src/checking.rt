@@ -60,7 +60,7 @@ fn distinct(alloc: Global, races: usize, scenarios: usize) -> Result<String, All
     }
 }
 
-/// What is found in a round, and between two rounds.
+/// The findings in a round, and between two rounds.
 #[tactic(auto, unfolding(crate::specs::Checking::in_rounds))]
 pub(crate) fn in_rounds(alloc: Global, within: &str, between: &str) -> Result<String, AllocError>
     ensures { IfOk result (λ text. string_bytes text ≡ in_rounds within.now between.now) }

@@ -15,7 +15,7 @@ use std::alloc::{AllocError, Global};
 /// The number of choices that are named.
 const CHOICES: usize = 8;
 
-/// What is chosen in a scenario.
+/// A choice of a scenario.
 #[derive(Clone, Copy)]
 pub enum Outcome {
     /// The branch that is named.
@@ -24,7 +24,7 @@ pub enum Outcome {
     Taken,
     /// The block is skipped.
     Skipped,
-    /// The loop has so many rounds.
+    /// The loop has this number of rounds.
     Times(usize),
     /// No option of the block is taken.
     WithoutOption,
@@ -58,7 +58,7 @@ fn times(alloc: Global, rounds: usize) -> Result<String, AllocError>
 }
 
 impl Outcome {
-    /// What is said after the subject.
+    /// The words after the subject.
     #[tactic(auto, unfolding(crate::specs::Scenarios::outcome_text))]
     fn text(self, alloc: Global) -> Result<String, AllocError>
         ensures { IfOk result (λ text. string_bytes text ≡ outcome_text self) }

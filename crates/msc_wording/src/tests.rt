@@ -6,6 +6,7 @@ use crate::{
     blocks_before, choices_text, closing_line, help_line, refused_verdict, ring_notes, run_rows,
     scenarios_text, with_queues,
 };
+use msc_chart::LinkKind;
 use msc_reason::RaceKind;
 
 /// An event of instance `owner`, whose message goes to or comes from `peer`.
@@ -136,7 +137,7 @@ fn measured() -> SpokenRace<'static> {
     race(pair, RaceKind::Queues, Way::ByThemselves)
 }
 
-/// What is said of a race: the sentence, the reason, and the help.
+/// The texts of a race: the sentence, the reason, and the help.
 #[derive(Clone, Copy)]
 struct Said {
     names: &'static [&'static str],
@@ -538,5 +539,21 @@ fn scenarios_are_told(rt: HostRuntime) {
         let choices = choices_text(rt.alloc(), choices).expect(&rt, "memory");
         let found = scenarios_text(rt.alloc(), count, scenarios, number, choices.as_str());
         assert_eq!(rt; found.expect(&rt, "memory").as_str(), wanted);
+    }
+}
+
+#[test]
+fn ways_follow_the_kinds_of_links(rt: HostRuntime) {
+    let table = [
+        (LinkKind::Pair, LinkKind::Pair, true, Way::OneConnection),
+        (LinkKind::Mailbox, LinkKind::Mailbox, true, Way::OneMailbox),
+        // a message and that of the next round
+        (LinkKind::Single, LinkKind::Single, true, Way::ByThemselves),
+        (LinkKind::Pair, LinkKind::Pair, false, Way::TwoConnections),
+        (LinkKind::Single, LinkKind::Single, false, Way::ByThemselves),
+        (LinkKind::Pair, LinkKind::Single, false, Way::TwoQueues),
+    ];
+    for (first, second, in_one_queue, wanted) in table {
+        assert_eq!(rt; Way::of(first, second, in_one_queue), wanted);
     }
 }

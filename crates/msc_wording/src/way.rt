@@ -16,18 +16,20 @@ pub enum Way {
     TwoConnections,
     /// In two queues of any other kind.
     TwoQueues,
-    /// Each in a queue of its own.
+    /// Each in a queue of its own, as the same message of two rounds too.
     ByThemselves,
 }
 
 impl Way {
-    /// How two messages arrive over links of these kinds, if they share a queue or not.
+    /// How two messages arrive over links of these kinds, if their queues have one name or not. A
+    /// queue of a single message is another one in the next round.
     pub fn of(first: LinkKind, second: LinkKind, in_one_queue: bool) -> Way
         ensures { result ≡ way_of first second in_one_queue }
     {
         match (first, second, in_one_queue) {
             (LinkKind::Mailbox, _, true) => Way::OneMailbox,
-            (_, _, true) => Way::OneConnection,
+            (LinkKind::Pair, _, true) => Way::OneConnection,
+            (LinkKind::Single, _, true) => Way::ByThemselves,
             (LinkKind::Pair, LinkKind::Pair, false) => Way::TwoConnections,
             (LinkKind::Single, LinkKind::Single, false) => Way::ByThemselves,
             (_, _, false) => Way::TwoQueues,

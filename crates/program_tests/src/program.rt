@@ -33,7 +33,7 @@ fn run_into<O: Write>(
     let all = command_line(rt, words);
     let mut input = stdin;
     let mut faults = Screen::new(rt.alloc(), false);
-    let mut recorded = Recorded::new(output);
+    let mut recorded = Recorded::new(output, false);
     let status = command(rt, rt.alloc(), all, &mut input, &mut recorded, &mut faults);
     (status, faults.into_shown())
 }

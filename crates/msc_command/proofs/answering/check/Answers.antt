@@ -10,8 +10,8 @@ returns-in-Text g c =
 pub returns-in-Count : goal.returns-in-Count
 returns-in-Count g c = c.check_in-in-Count.ensures c.args.file.now (rw c.in-Count.is c.as_bytes.ensures.value)
 
-pub returns : goal.returns
-returns g c =
+pub returns-in-Lines : goal.returns-in-Lines
+returns-in-Lines g c =
     let event_positions = c.in_ok-event_positions-in-Lines in
     let its : HasEventPositions c.args.file.now c.args.source.now.text event_positions.event_positions = record {
       file_is = event_positions.ensures.file ∙ c.as_bytes-in-Lines.ensures.value;

@@ -17,7 +17,7 @@ returns-in_err-passed g c = λ file its.
     _ c.chart.result _ c.args.check_args.queues _ c.args.marks _ c.args.rounds c.of-input.ensures.chart c.of-input.ensures.queues c.of-input.ensures.marks c.of-input.ensures.rounds c.in_err-passed.ensures in
     let told = subst (λ (d : Drawing). Tells g.O.Write.contents (JudgesChart d c.args.check_args.queues c.args.check_args.options (option_map (λ m. m.now) c.args.marks) (is_some c.args.rounds) c.args.chart_format) (Err c.in_err-passed.field-0.0) c.args.output.now c.judge_chart.new.writer)
     c.chart.ensures of_input in
-    rw (p.1, p.2) (not_judged g.O.Write.contents c.args.check_args file c.args.chart_format c.args.source.now its _ c.requires.marks
+    rw (p.1, p.2) (not_judged g.O.Write.contents c.args.check_args file c.args.chart_format c.args.source.now (option_map (λ m. m.now) c.args.marks) its c.requires.marks
     (has_room c.args.check_args.again c.args.source.now.chart c.args.rounds c.requires.rounds) _ (rounds_given c.args.check_args.again c.args.source.now.chart c.args.rounds c.requires.rounds) _ _ _ told)
 
 pub returns : goal.returns
@@ -26,5 +26,5 @@ returns g c = λ file its.
     _ c.chart.result _ c.args.check_args.queues _ c.args.marks _ c.args.rounds c.of-input.ensures.chart c.of-input.ensures.queues c.of-input.ensures.marks c.of-input.ensures.rounds c.in_ok-passed.ensures in
     let told = subst (λ (d : Drawing). Tells g.O.Write.contents (JudgesChart d c.args.check_args.queues c.args.check_args.options (option_map (λ m. m.now) c.args.marks) (is_some c.args.rounds) c.args.chart_format) (Ok c.in_ok-passed.passed) c.args.output.now c.judge_chart.new.writer)
     c.chart.ensures of_input in
-    rw c.ended_by.ensures (judged g.O.Write.contents c.args.check_args file c.args.chart_format c.args.source.now its _ c.requires.marks
+    rw c.ended_by.ensures (judged g.O.Write.contents c.args.check_args file c.args.chart_format c.args.source.now (option_map (λ m. m.now) c.args.marks) its c.requires.marks
     (has_room c.args.check_args.again c.args.source.now.chart c.args.rounds c.requires.rounds) _ (rounds_given c.args.check_args.again c.args.source.now.chart c.args.rounds c.requires.rounds) _ _ _ told)

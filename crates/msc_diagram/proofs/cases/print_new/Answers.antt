@@ -22,7 +22,7 @@ returns-in_ok-of-in-Lines g c runs shown =
     let put : Style → Drawing → Type 0 = λ st d.
     Puts c.print_scenario.result (g.W.Write.contents c.args.writer.now) (g.W.Write.contents c.print_scenario.new.writer) c.args.page.now.bytes.items c.print_scenario.new.page.bytes.items
     (head_text (Some n.number) sc.choices n.races
-    ++ told_from (race_text (record { heading = λ h. []; run = run_text st.words d; finding = finding_text (event_positions_in st) d; end = λ stale. [] }) s.judged q runs) q.most c.args.new.first c.args.new.pairs.now) in
+    ++ told_from (race_text (record { heading = λ h. []; run = run_text st.words d; finding = finding_text (event_positions_in st) d; end = λ stale totals. [] }) s.judged q runs) q.most c.args.new.first c.args.new.pairs.now) in
     rw c.in-Lines.is (turned put c.in_ok-of-in-Lines.ensures.style c.requires.chart (c.print_scenario.ensures runs shown))
 
 pub returns-in-Editor : goal.returns-in-Editor
@@ -34,5 +34,5 @@ returns-in-Editor g c runs shown =
     rw c.in-Editor.is (subst (λ (d : Drawing).
     Puts c.print_scenario-in-Editor.result (g.W.Write.contents c.args.writer.now) (g.W.Write.contents c.print_scenario-in-Editor.new.writer) c.args.page.now.bytes.items c.print_scenario-in-Editor.new.page.bytes.items
     (head_text None sc.choices n.races
-    ++ told_from (race_text (record { heading = λ h. []; run = λ run. []; finding = λ f line. editor_text sc.event_positions d f; end = λ stale. [] }) s.judged q runs) q.most c.args.new.first c.args.new.pairs.now))
+    ++ told_from (race_text (record { heading = λ h. []; run = λ run. []; finding = λ f line. editor_text sc.event_positions d f; end = λ stale totals. [] }) s.judged q runs) q.most c.args.new.first c.args.new.pairs.now))
     c.requires.chart (c.print_scenario-in-Editor.ensures runs shown))

@@ -1,4 +1,4 @@
-use Rattle.std.proofs.Common.{◌≡◌, ℕ, List, Bool, ◌++◌, ◌&&◌, Err, length, nat_eq, ap, ◌∙◌, subst}
+use Rattle.std.proofs.Common.{◌≡◌, ℕ, List, Bool, ◌++◌, ◌&&◌, false, Err, length, nat_eq, ap, ◌∙◌, subst}
 use Rattle.std.specs.Result.{IfOk}
 use Rattle.std.proofs.lemmas.Result.{err_from_is_err_and}
 use Rattle.msc_chart.specs.Drawings.{Drawing, IsAccepted}
@@ -9,11 +9,10 @@ use Rattle.msc_reason.specs.Marked.{cause_in}
 use Rattle.msc_reason.specs.Selected.{Selected}
 use Rattle.msc_reason.specs.declared.left_out.LeftOut.{LeftOut}
 use Rattle.msc_judge.specs.Between.{told_of}
-use Rattle.msc_judge.specs.Findings.{heading_of, left_of, passes, texts, AreShown}
-use Rattle.msc_judge.specs.Telling.{listed_text, number_in, rounds_from}
+use Rattle.msc_judge.specs.Findings.{heading_of, passes, texts, AreShown}
+use Rattle.msc_judge.specs.Telling.{listed_text, rounds_from}
 use Rattle.msc_judge.specs.declared.renderer.Heading.{Heading}
 use Rattle.msc_judge.proofs.Answered.{answers_none, answers_rounds}
-use Rattle.msc_judge.proofs.Numbering.{number_listed}
 use Rattle.msc_judge.proofs.again.judge_rounds.Goals as goal
 
 pub returns-in_err-listing : goal.returns-in_err-listing
@@ -46,16 +45,15 @@ returns g c =
     let t' = texts r'.heading_text r'.run_text r'.finding_text r'.end_text c.args.second.now two.chart in
     let before = g.W.Write.contents c.args.writer.now in
     let after = g.W.Write.contents c.write_by.new.writer in
-    let first : ℕ = c.number_in.result in
-    let number = c.number_in.ensures ∙ ap (λ (h : Heading). number_in h) c.in_ok-heading.ensures
-    ∙ ap (λ (x : Selected). number_in (heading_of x.judged x.closest x.allowed (cause_in x.judged))) c.in_ok-listing.ensures
-    ∙ ap (λ (l : LeftOut). number_in (heading_of e q.closest l (cause_in e))) c.left_of-left.ensures
-    ∙ number_listed e q.closest (left_of q m) (cause_in e) in
+    let h : Heading = c.in_ok-heading.heading in
+    let heading = c.in_ok-heading.ensures
+    ∙ ap (λ (x : Selected). heading_of x.judged x.closest x.allowed (cause_in x.judged)) c.in_ok-listing.ensures
+    ∙ ap (λ (l : LeftOut). heading_of e q.closest l (cause_in e)) c.left_of-left.ensures in
     let judged = ap (λ (x : Selected). x.judged) c.in_ok-listing.ensures in
     let Written : EnforcedChart → Drawing → LeftOut → Type 0 = λ x d l.
     (text : List ℕ) → (xs ys : List ℕ)
-    × ((runs : ℕ × ℕ → List ℕ) × AreShown q.short (wiring_of x) runs × (xs ≡ listed_text (texts r.heading_text r.run_text r.finding_text r.end_text s x.chart) x q m runs))
-    × ((runs : ℕ × ℕ → List ℕ) × AreShown q.short (wiring_of two) runs × (ys ≡ rounds_from t' two q runs first (told_of d two l)))
+    × ((runs : ℕ × ℕ → List ℕ) × AreShown q.short (wiring_of x) runs × (xs ≡ listed_text (texts r.heading_text r.run_text r.finding_text r.end_text s x.chart) x q m false runs))
+    × ((runs : ℕ × ℕ → List ℕ) × AreShown q.short (wiring_of two) runs × (ys ≡ rounds_from t' two q (length m.stale.now) runs h (told_of d two l)))
     × (text ≡ xs ++ ys) → Writes c.write_by.result before after text in
     let Passed : EnforcedChart → Drawing → LeftOut → Type 0 = λ x d l.
     IfOk c.write_by.result (λ passed. (a b : Bool) × (a ≡ passes x q m (cause_in x)) × (b ≡ nat_eq (length (told_of d two l)) 0) × (passed ≡ (a && b))) in
@@ -64,6 +62,6 @@ returns g c =
     answers_rounds c.the_witness_reverses.ensures.exists c.short_witnesses_show.ensures.exists q m e c.facts-2.ensures.order c.facts-2.ensures.chart
     (texts r.heading_text r.run_text r.finding_text r.end_text s e.chart)
     two (subst IsEnforced c.enforced.ensures c.facts.ensures.order) (subst (λ (x : EnforcedChart). IsAccepted x.chart) c.enforced.ensures c.facts.ensures.chart) t'
-    c.write_by.result before after first number
+    c.write_by.result before after h heading
     (subst (λ (l : LeftOut). Written e e.chart l) c.requires.kinds (subst (λ (y : Drawing). Written e y known) c.requires.one (subst (λ (x : EnforcedChart). Written x d known) judged c.write_by.ensures.written)))
     (subst (λ (l : LeftOut). Passed e e.chart l) c.requires.kinds (subst (λ (y : Drawing). Passed e y known) c.requires.one (subst (λ (x : EnforcedChart). Passed x d known) judged c.write_by.ensures.answer)))

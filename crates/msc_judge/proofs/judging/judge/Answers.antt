@@ -1,4 +1,4 @@
-use Rattle.std.proofs.Common.{◌≡◌, ℕ, List, Err, ap, ◌∙◌, subst}
+use Rattle.std.proofs.Common.{◌≡◌, ℕ, List, true, Err, ap, ◌∙◌, subst}
 use Rattle.std.specs.Result.{IfOk}
 use Rattle.std.proofs.lemmas.Result.{err_from_is_err_and}
 use Rattle.msc_print.specs.Pages.{Writes}
@@ -31,5 +31,5 @@ returns g c =
     answers_list c.the_witness_reverses.ensures.exists c.short_witnesses_show.ensures.exists q m c.args.check.enforced c.facts.ensures.order c.facts.ensures.chart
     (texts r.heading_text r.run_text r.finding_text r.end_text s c.args.check.enforced.chart) c.write_by.result before after
     (subst (λ (x : Selected). (text : List ℕ) → (runs : ℕ × ℕ → List ℕ) × AreShown q.short (wiring_of x.judged) runs
-    × (text ≡ listed_text (texts r.heading_text r.run_text r.finding_text r.end_text s x.judged.chart) x.judged q m runs) → Writes c.write_by.result before after text) c.in_ok-listing.ensures c.write_by.ensures.written)
+    × (text ≡ listed_text (texts r.heading_text r.run_text r.finding_text r.end_text s x.judged.chart) x.judged q m true runs) → Writes c.write_by.result before after text) c.in_ok-listing.ensures c.write_by.ensures.written)
     (subst (λ (x : Selected). IfOk c.write_by.result (λ passed. passed ≡ passes x.judged q m (cause_in x.judged))) c.in_ok-listing.ensures c.write_by.ensures.answer)

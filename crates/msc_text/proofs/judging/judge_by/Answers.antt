@@ -56,5 +56,5 @@ returns g c marks marked =
     (ap (λ (s : Selected). s.judged.chart) listing ∙ c.in_ok-both.ensures.chart ∙ c.two.ensures ∙ ap two_rounds same)
     (ap (λ (s : Selected). s.judged.queues) listing ∙ c.in_ok-both.ensures.queues ∙ c.queues.ensures)
     (subst (λ (s : Selected). IsEnforced s.judged) (sym listing) c.facts-2.ensures.order)
-    (subst (λ (l : List (ℕ × ℕ)). AnswersRounds e two (asked c.args.format c.args.options) c.args.marking (texts_in c.args.format l e.chart) (round_texts_in c.args.format e.chart) c.judge_rounds_of.result (g.W.Write.contents c.args.writer.now) (g.W.Write.contents c.judge_rounds_of.new.writer))
+    (subst (λ (l : List (ℕ × ℕ)). AnswersRounds e two (asked c.args.format c.args.options) c.args.marking (texts_in c.args.format l e.chart) (round_texts_in c.args.format l e.chart) c.judge_rounds_of.result (g.W.Write.contents c.args.writer.now) (g.W.Write.contents c.judge_rounds_of.new.writer))
     steps c.judge_rounds_of.ensures))

@@ -1,8 +1,8 @@
-use Rattle.std.proofs.Common.{◌∙◌, ap, subst, length}
+use Rattle.std.proofs.Common.{ℕ, ◌∙◌, ap, subst, length}
 use Rattle.msc_print.specs.Prints.{Prints}
 use Rattle.msc_print.specs.Rows.{below}
 use Rattle.msc_race.specs.Wired.{IsEnforced}
-use Rattle.msc_judge.specs.Between.{is_told, told_with}
+use Rattle.msc_judge.specs.Between.{is_told, told_of, told_with}
 use Rattle.msc_judge.specs.Findings.{texts}
 use Rattle.msc_judge.specs.Telling.{race_text, told_from}
 use Rattle.msc_judge.proofs.BetweenLemmas.{told_races}
@@ -24,9 +24,11 @@ returns-in_err-print_pairs g c runs are =
     let d = l.rounds.numbers.now in
     let s = l.rounds.listing.now in
     let text = race_text (texts r.heading_text r.run_text r.finding_text r.end_text l.renderer.now s.judged.chart) s.judged l.options runs in
+    let first : ℕ = c.number_in-first.result in
     subst (Prints c.args.printer.now c.print_pairs.new.printer)
-    (rows_are_told l.options.most text l.first (below (told_with d s.judged s.allowed) (length s.judged.chart.events))
-    ∙ ap (told_from text l.options.most l.first) (all_of (is_told d s.judged s.allowed) (length s.judged.chart.events)))
+    (rows_are_told l.options.most text first (below (told_with d s.judged s.allowed) (length s.judged.chart.events))
+    ∙ ap (told_from text l.options.most first) (all_of (is_told d s.judged s.allowed) (length s.judged.chart.events))
+    ∙ ap (λ (n : ℕ). told_from text l.options.most n (told_of d s.judged s.allowed)) c.number_in-first.ensures)
     (c.print_pairs.ensures.printed runs are)
 
 pub returns : goal.returns
@@ -36,7 +38,9 @@ returns g c runs are =
     let d = l.rounds.numbers.now in
     let s = l.rounds.listing.now in
     let text = race_text (texts r.heading_text r.run_text r.finding_text r.end_text l.renderer.now s.judged.chart) s.judged l.options runs in
+    let first : ℕ = c.number_in-first.result in
     subst (Prints c.args.printer.now c.print_pairs.new.printer)
-    (rows_are_told l.options.most text l.first (below (told_with d s.judged s.allowed) (length s.judged.chart.events))
-    ∙ ap (told_from text l.options.most l.first) (all_of (is_told d s.judged s.allowed) (length s.judged.chart.events)))
+    (rows_are_told l.options.most text first (below (told_with d s.judged s.allowed) (length s.judged.chart.events))
+    ∙ ap (told_from text l.options.most first) (all_of (is_told d s.judged s.allowed) (length s.judged.chart.events))
+    ∙ ap (λ (n : ℕ). told_from text l.options.most n (told_of d s.judged s.allowed)) c.number_in-first.ensures)
     (c.print_pairs.ensures.printed runs are)

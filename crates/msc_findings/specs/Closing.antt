@@ -1,0 +1,61 @@
+-- The closing line of a file, and the help on marks.
+use Rattle.std.specs.Prelude.{ℕ, ◌+◌, ◌-◌, Bool, cond, ◌&&◌, List, [], ◌++◌, Option, None, Some, codes, length, nat_eq, nat_le, nat_lt, unwrap_or}
+use Rattle.msc_judge.specs.declared.renderer.Heading.{Heading}
+use Rattle.msc_judge.specs.declared.renderer.Totals.{Totals}
+use Rattle.msc_wording.specs.Checking.{check_verdict}
+use Rattle.msc_wording.specs.Closing.{closing_line, help_line, with_queues}
+use Rattle.msc_wording.specs.declared.checking.RacesFound.{RacesFound}
+use Rattle.msc_wording.specs.declared.checking.RacesFound.TheVariants.{InOneScenario, InRounds}
+use Rattle.msc_wording.specs.declared.checking.SpokenCheck.{SpokenCheck}
+use Rattle.msc_wording.specs.declared.closing.MarkedText.TheVariants.{Chart}
+use Rattle.msc_findings.specs.declared.format.FullFormat.{FullFormat}
+
+-- a number, or 0 if there is none
+abbrev pub number_or_none : Option ℕ → ℕ
+number_or_none None = 0
+number_or_none (Some n) = n
+
+-- how many races are listed: the closest of those that count
+abbrev pub listed_of : Heading → ℕ
+listed_of h = unwrap_or h.closest h.counting
+
+-- the races: in a round and between two rounds, if these are included
+abbrev pub found_in : ℕ → Option ℕ → RacesFound
+found_in listed None = InOneScenario listed
+found_in listed (Some between) = InRounds listed between
+
+abbrev pub found_of : Totals → RacesFound
+found_of t = found_in (listed_of t.heading) t.between
+
+-- how many findings are printed, if the list was cut
+abbrev pub shown_of : Totals → Option ℕ
+shown_of t = cond (nat_le (listed_of t.heading + number_or_none t.between) t.most) None (Some t.most)
+
+-- what a check found
+abbrev pub check_of : Totals → Bool → SpokenCheck
+check_of t can_happen = record {
+  found = found_of t;
+  wider = t.heading.counting - listed_of t.heading;
+  left_out = number_or_none t.heading.left_out;
+  accepted = number_or_none t.heading.accepted;
+  stale = t.stale;
+  shown = shown_of t;
+  can_happen = can_happen;
+}
+
+-- `FILE: VERDICT (queues: QUEUES)`
+abbrev pub closing_text : FullFormat → Totals → Bool → List ℕ
+closing_text x t can_happen =
+    closing_line x.file.now (with_queues (check_verdict (check_of t can_happen)) x.queues.now) x.text.colours
+
+-- it is told how races are accepted: some are listed, and the text has no mark
+abbrev pub helps : FullFormat → Totals → Bool
+helps x t = nat_lt 0 (listed_of t.heading) && nat_eq (length x.marks.now) 0
+
+abbrev pub help_part : FullFormat → Totals → List ℕ
+help_part x t = cond (helps x t) (help_line Chart x.text.colours ++ codes "\n") []
+
+-- what closes an answer, if this does
+abbrev pub closing_part : FullFormat → Bool → Option Totals → List ℕ
+closing_part x can_happen None = []
+closing_part x can_happen (Some t) = closing_text x t can_happen ++ (codes "\n" ++ help_part x t)

@@ -1,0 +1,5 @@
+pub mod Formats
+pub mod Closing
+pub mod Runs
+pub mod Findings
+pub mod Rounds

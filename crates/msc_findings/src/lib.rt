@@ -1,0 +1,18 @@
+//! The renderers of races as people read them: each race as a diagnostic with the lines of the text,
+//! stale marks, and a closing line with what was found.
+//!
+//! [`FullRaces`] is for the races of a chart, and [`FullRounds`] for those between two rounds of it.
+//! Both are renderers of `msc_judge`, next to those of lines and counts; their diagnostics are those
+//! of `msc_full`. Events are numbered from 0, in the order of the chart.
+#![tactic(auto)]
+
+mod closing;
+mod format;
+mod race;
+mod races;
+mod rounds;
+mod run;
+
+pub use format::{FullFormat, ShownMark};
+pub use races::FullRaces;
+pub use rounds::FullRounds;

@@ -1,0 +1,4 @@
+pub mod Charts
+pub mod Words
+pub mod Shown
+pub mod Marks
