@@ -4,10 +4,11 @@
     tools/gate.py [--all]
 
 Works on a copy of the repository, in which `rt ci` finds just the edits that are tried. These are
-in every run those of the crates in `KNOWN`, and of each crate that changed since the last release.
-Of the other crates each run tries a third: those whose line in crates.txt has, divided by 3, the
-same rest as the number of commits. A shallow clone does not know that number, so it tries none of
-these. `--all` tries all edits, and those of tools/more_edits too.
+in every run those of the crates in `KNOWN`, and of each crate that changed since `ALL_TRIED`, the
+last commit at which a run tried all of them. Of the other crates each run tries a third: those whose
+line in crates.txt has, divided by 3, the same rest as the number of commits. A shallow clone does
+not know that number, so it tries none of these. `--all` tries all edits, and those of
+tools/more_edits too.
 
 The programs and the tests that were built are left in crates/*/out, as `rt ci` leaves them. Prints
 what `rt ci` prints; before its last line, `N passed, M failed`, it names the edits that were not
@@ -26,8 +27,10 @@ import tempfile
 TOP = pathlib.Path(__file__).resolve().parent.parent
 # crates with wrong bodies that a promise is known by, as `visual_as_enforced` and `take_skips`
 KNOWN = ("msc_chart", "msc_fifo", "msc_gather", "msc_instance", "msc_order", "msc_race")
+# The last commit at which `./test` tried all edits below must-fail, and each was refused; it left out
+# those of msc_command and msc_shown_chart, which both changed after it.
+ALL_TRIED = "543fbffc"
 LISTED = re.compile(r"(?m)^(\w+)[^:#\n]*:")
-RELEASE = re.compile(r"(?m)^Made of commit ([0-9a-f]{7,40})\b")
 THIRDS = 3
 
 
@@ -42,16 +45,9 @@ def crates():
     return LISTED.findall((TOP / "crates.txt").read_text())
 
 
-def release():
-    """The commit of the last release, as CHANGELOG.md names it."""
-    found = RELEASE.search((TOP / "CHANGELOG.md").read_text())
-    return found and found[1]
-
-
 def changed():
-    """The crates that differ from those of the last release; all of them if it is not here."""
-    commit = release()
-    names = commit and git("diff", "--name-only", commit, "--", "crates")
+    """The crates that differ from those of `ALL_TRIED`; all of them if that commit is not here."""
+    names = git("diff", "--name-only", ALL_TRIED, "--", "crates")
     if names is None:
         return set(crates())
     parts = [name.split("/") for name in names.splitlines()]

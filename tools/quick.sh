@@ -1,5 +1,6 @@
 #!/usr/bin/env bash
-# Runs the tests of crates and the stored outputs of charts, and proves nothing.
+# Runs the tests of crates and the stored outputs of charts, and proves nothing. It looks at the
+# layout of these crates, too, or of all.
 #
 #     tools/quick.sh [CRATE | CHART] ..
 #
@@ -78,7 +79,11 @@ find_program() {
 # Compares the stored outputs that name a chart, or all.
 compare() { check tools/transcripts.py ${1+--of "$1"} "$program"; }
 
-charts=()
+charts=() crates=()
+for name in "$@"; do
+  if is_crate "$name"; then crates+=("$name"); fi
+done
+if [ "${#crates[@]}" -gt 0 ] || [ $# = 0 ]; then check tools/layout "${crates[@]}"; fi
 for name in "$@"; do
   if [[ $name == -* ]]; then
     echo 'usage: ./test quick [CRATE | CHART] ..' >&2

@@ -18,9 +18,11 @@ loop-e-preserved c =
     ap (map plain_words) c.in_ok-push.ensures.items ∙ map_push plain_words c.loop-e.all.items c.in_ok-words.field-0 in
     let long = ap length words in
     let size = length-append ws (w ∷ []) in
-    let before = c.loop-e.invariant.0 in
-    (omega (arith, long, size, before), λ t draft. subst (AreEventWords d file text t (e + 1)) (sym words)
-    (words_more d file text t e ws w (c.loop-e.invariant.1 t draft) (c.in_ok-words.ensures t draft)))
+    let before = c.loop-e.invariant.0 in (
+      omega (arith, long, size, before),
+      λ t draft. subst (AreEventWords d file text t (e + 1)) (sym words)
+          (words_more d file text t e ws w (c.loop-e.invariant.1 t draft) (c.in_ok-words.ensures t draft)),
+    )
 
 pub returns : goal.returns
 returns c =
