@@ -48,8 +48,8 @@ use Rattle.msc_command.specs.Readied.{names_of, AreReady}
 use Rattle.msc_command.specs.Rounds.{AreRounds, GivesRounds, HasRoom}
 use Rattle.msc_command.specs.declared.tasks.QuietArgs.{QuietArgs}
 use Rattle.msc_command.specs.declared.tasks.ReadyArgs.{ReadyArgs}
-use Rattle.msc_report.specs.declared.ready_format.ReadyFormat.{ReadyFormat}
 use Rattle.msc_text.specs.Readying.{PrintsReady}
+use Rattle.msc_text.specs.declared.stick_format.StickFormat.{StickFormat}
 use Rattle.msc_command.specs.Refused.{format_of, is_spent, TellsIn, TellsThat, TellsUnread}
 use Rattle.msc_print.proofs.PrintLemmas.{Appends-none as nothing_more}
 
@@ -177,7 +177,7 @@ module _ {W : Type 0} (contents : W → Option (List ℕ)) where
     not_judged again asked writing.Device old new said = tt
 
   module _ (x : ReadyArgs) (file : List ℕ) (s : SourceText) (only : Option (List Bool)) (are : AreReady s.chart (names_of x) only)
-      (format : ReadyFormat) (its : IsReadyFormat x file s.text format) (room : HasRoom x.again s.chart) where
+      (format : StickFormat) (its : IsReadyFormat x file s format) (room : HasRoom x.again s.chart) where
     -- what is told of ready instances, with rounds of the chart where they are asked for
     readies : (again : Bool) → again ≡ x.again → (passed : Bool) (printed : List ℕ) → PrintsReady s.chart x.queues only again x.show format passed printed
         → PrintsOf (chart_commands.Ready x) file s (ended_by passed) printed

@@ -17,7 +17,6 @@ use Rattle.msc_report.specs.declared.fault.Fault.TheVariants as faults
 use Rattle.msc_place.specs.EventPositions.{EventPositionsIn}
 use Rattle.msc_report.specs.Lists.{listed_text}
 use Rattle.msc_report.specs.declared.pair.NamedFault.{NamedFault}
-use Rattle.msc_report.specs.declared.ready_format.ReadyFormat.{ReadyFormat}
 use Rattle.msc_report.specs.declared.style.Style.{Style}
 use Rattle.msc_source.specs.Texts.{IsChartOf, source_text, SourceText}
 use Rattle.msc_source.specs.declared.language.Language.TheVariants.{MscPr}
@@ -26,6 +25,7 @@ use Rattle.msc_text.specs.Following.{PrintsFollowed}
 use Rattle.msc_text.specs.Judging.{JudgesChart, Passes}
 use Rattle.msc_text.specs.Readying.{PrintsReady}
 use Rattle.msc_text.specs.declared.judging.ChartFormat.{ChartFormat}
+use Rattle.msc_text.specs.declared.stick_format.StickFormat.{StickFormat}
 use Rattle.msc_tool.specs.Running.{PrintsExecution}
 use Rattle.msc_command.specs.Drawing.{PrintsLinkedPage, RefusesLinkedPage}
 use Rattle.msc_command.specs.Ending.{ended_by, ends_as, finished_by}
@@ -73,8 +73,8 @@ PrintsOf (Run queues patience) file s status printed =
 PrintsOf (Listing placed) file s status printed =
     (event_positions : Option EventPositionsIn) × AreSited placed file s.text event_positions × (status ≡ Done) × (printed ≡ listed_text s.chart event_positions)
 PrintsOf (Ready x) file s status printed =
-    (only : Option (List Bool)) × AreReady s.chart (names_of x) only × (ready_format : ReadyFormat) × IsReadyFormat x file s.text ready_format
-    × HasRoom x.again s.chart × (passed : Bool) × (status ≡ ended_by passed) × PrintsReady s.chart x.queues only x.again x.show ready_format passed printed
+    (only : Option (List Bool)) × AreReady s.chart (names_of x) only × (stick_format : StickFormat) × IsReadyFormat x file s stick_format
+    × HasRoom x.again s.chart × (passed : Bool) × (status ≡ ended_by passed) × PrintsReady s.chart x.queues only x.again x.show stick_format passed printed
 
 -- the names of a pair that is asked for are those of no two events of the chart
 abbrev pub RefusesPair : ChartCommand → SourceText → NamedFault → Type 0

@@ -269,9 +269,11 @@ pub record AreFollowArgs (found : Found) (x : FollowArgs) : Type 0 where
 pub record AreReadyArgs (found : Found) (x : ReadyArgs) : Type 0 where
   pub architecture_is : architecture found ≡ Some x.queues
   pub only : map (λ word. word.now) x.only.now ≡ args_of found (arg_word words.Only)
-  pub show : IsOptionNumber found (arg_word words.ShowSticks) unlimited x.show
+  pub show : IsOptionNumber found (arg_word words.ShowSticks) (runs_in (format_of_sticks found)) x.show
   pub again : IsFlag found (arg_word words.Again) x.again
   pub format_is : x.format ≡ format_of_sticks found
+  pub auto : Bool
+  pub colours : x.colours ≡ colours_by (first_value found (arg_word words.Color)) auto
   pub event_style : IsEventStyle found x.event_style
 
 -- the file that a word names: the input, where none does

@@ -128,7 +128,7 @@ args_of Draw = QueuesIfAny ∷ Pair ∷ Mailbox ∷ Single ∷ Svg ∷ Places �
 args_of Reverse = Queues ∷ Pair ∷ Mailbox ∷ Single ∷ Svg ∷ Places ∷ Plain ∷ File ∷ FirstEvent ∷ SecondEvent ∷ []
 args_of Report = Queues ∷ Pair ∷ Mailbox ∷ Single ∷ Places ∷ Plain ∷ File ∷ []
 args_of Ready =
-    Queues ∷ Pair ∷ Mailbox ∷ Single ∷ Only ∷ ShowSticks ∷ Again ∷ FormatSticks ∷ Words ∷ Places ∷ Plain ∷ File ∷ []
+    Queues ∷ Pair ∷ Mailbox ∷ Single ∷ Only ∷ ShowSticks ∷ Again ∷ FormatSticks ∷ Color ∷ Words ∷ Places ∷ Plain ∷ File ∷ []
 args_of Import =
     From ∷ Fence ∷ Choose ∷ Listed ∷ Name ∷ Own ∷ Cross ∷ Par ∷ Places ∷ Plain ∷ File ∷ []
 
@@ -149,7 +149,7 @@ format_of_word word = find (λ format. bytes_eq word (format_word format)) forma
 
 -- the words for the formats of answers on ready instances
 abbrev pub stick_format_words : List (List ℕ)
-stick_format_words = codes "text" ∷ codes "count" ∷ codes "lines" ∷ []
+stick_format_words = codes "text" ∷ codes "count" ∷ codes "lines" ∷ codes "full" ∷ []
 
 -- those for whether there are colours
 abbrev pub color_words : List (List ℕ)

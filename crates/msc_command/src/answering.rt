@@ -1,6 +1,6 @@
 //! The answers to tasks: each reads the text once, makes its chart, and prints the answer.
 
-ghost use Rattle.std.specs.Prelude.{◌≡◌, ℕ, List, length, map, option_map, IfErr, Ok, OnOk};
+ghost use Rattle.std.specs.Prelude.{◌≡◌, ℕ, List, length, map, None, option_map, IfErr, Ok, OnOk};
 ghost use Rattle.std.specs.Io.KnownBytes.{Keeps};
 ghost use Rattle.std.specs.Option.{option_copied};
 ghost use Rattle.msc_chart.specs.Drawings.{chart_of};
@@ -54,8 +54,8 @@ use msc_report::{Fault, ReadyFormat};
 use msc_shown_chart::{ChartWords, LentWords};
 use msc_source::{Language, ReadFault, Reading, Source, read_all};
 use msc_text::{
-    ChartFormat, CheckInput, ReadyQuery, explain_pair, follow_drawing, judge_chart, list_chart,
-    passes_chart, write_reading, write_ready,
+    ChartFormat, CheckInput, ReadyQuery, StickFormat, explain_pair, follow_drawing, judge_chart,
+    list_chart, passes_chart, write_reading, write_ready,
 };
 use msc_tool::print_execution;
 use std::alloc::Global;
@@ -316,19 +316,69 @@ fn ready_in<'w, O: Write>(
     readying: ReadyArgs<'w>,
     only: Option<&[bool]>,
     rounds: Option<&Unrolled<'_>>,
-    ready_format: ReadyFormat<'_>,
+    stick_format: StickFormat<'_, '_>,
     source: &Source,
     output: &mut O,
 ) -> Result<Status, Refusal<'w>>
     requires only { AreReady source.now.chart (names_of readying) (option_copied only) }
     requires rounds { AreRounds readying.again source.now.chart (option_map (λ u. u.now) rounds) }
-    ensures { (file : List ℕ) → IsReadyFormat readying.entry file source.now.text ready_format.entry
+    ensures { (file : List ℕ) → IsReadyFormat readying.entry file source.now stick_format.entry
         → AnswersOf O.contents (ChartCommand.Ready readying.entry) file source.now result
         output.old output.new }
 {
-    let query = ReadyQuery::of(readying.queues, only, readying.show, ready_format);
+    let query = ReadyQuery::of(readying.queues, only, readying.show, stick_format);
     let finishes = write_ready(alloc, source.chart(), rounds, query, output)?;
     Ok(ended_by(finishes))
+}
+
+/// Prints whether a system of these ready instances can stick, for a text's chart with these
+/// rounds, as people read it, and with these words.
+// Apart from `ready_full`, whose words outlast what is lent of them here.
+fn ready_with<'w, 'x, O: Write>(
+    alloc: Global,
+    readying: ReadyArgs<'w>,
+    only: Option<&[bool]>,
+    rounds: Option<&Unrolled<'_>>,
+    words: &'x ChartWords,
+    source: &'x Source<'x>,
+    output: &mut O,
+) -> Result<Status, Refusal<'w>>
+    requires format { readying.format ≡ Format.Full }
+    requires only { AreReady source.now.chart (names_of readying) (option_copied only) }
+    requires rounds { AreRounds readying.again source.now.chart (option_map (λ u. u.now) rounds) }
+    requires words { length (map plain_words words.now.events.items)
+        ≡ length source.now.chart.events }
+    ensures { (file : List ℕ) → IsShownOf source.now.chart readying.entry.queues file source.now.text
+        None words.now
+        → AnswersOf O.contents (ChartCommand.Ready readying.entry) file source.now result
+        output.old output.new }
+{
+    let (chart, text) = (source.chart(), source.text());
+    let lent = LentWords::of(alloc, words, chart, readying.queues, text)?;
+    let stick_format = StickFormat::Full(lent.format(readying.colours));
+    ready_in(alloc, readying, only, rounds, stick_format, source, output)
+}
+
+/// Prints whether a system of these ready instances can stick, for the chart of a text in the file
+/// of this name, with these rounds, as people read it.
+fn ready_full<'w, O: Write>(
+    alloc: Global,
+    readying: ReadyArgs<'w>,
+    only: Option<&[bool]>,
+    rounds: Option<&Unrolled<'_>>,
+    file: &str,
+    source: &Source,
+    output: &mut O,
+) -> Result<Status, Refusal<'w>>
+    requires format { readying.format ≡ Format.Full }
+    requires only { AreReady source.now.chart (names_of readying) (option_copied only) }
+    requires rounds { AreRounds readying.again source.now.chart (option_map (λ u. u.now) rounds) }
+    ensures { AnswersOf O.contents (ChartCommand.Ready readying.entry) file.now source.now result
+        output.old output.new }
+{
+    let (chart, text) = (source.chart(), source.text());
+    let words = ChartWords::of(alloc, chart, readying.queues, file.as_bytes(), text, None)?;
+    ready_with(alloc, readying, only, rounds, &words, source, output)
 }
 
 /// Prints whether a system of these ready instances can stick, for the chart of a text in the file
@@ -348,7 +398,7 @@ fn print_ready<'w, O: Write>(
         output.old output.new }
 {
     match readying.format {
-        Format::Text | Format::Full => {
+        Format::Text => {
             let event_style = readying.event_style;
             let event_positions = event_positions_of(
                 alloc,
@@ -357,18 +407,19 @@ fn print_ready<'w, O: Write>(
                 source.text(),
             )?;
             let style = style_of(event_style, event_positions.as_ref());
-            let ready_format = ReadyFormat::Lines(style);
-            ready_in(alloc, readying, only, rounds, ready_format, source, output)
+            let stick_format = StickFormat::Plain(ReadyFormat::Lines(style));
+            ready_in(alloc, readying, only, rounds, stick_format, source, output)
         }
         Format::Count => {
-            let ready_format = ReadyFormat::Count(file.as_bytes());
-            ready_in(alloc, readying, only, rounds, ready_format, source, output)
+            let stick_format = StickFormat::Plain(ReadyFormat::Count(file.as_bytes()));
+            ready_in(alloc, readying, only, rounds, stick_format, source, output)
         }
         Format::Lines => {
             let event_positions = EventPositions::of(alloc, file.as_bytes(), source.text())?;
-            let ready_format = ReadyFormat::Editor(&event_positions);
-            ready_in(alloc, readying, only, rounds, ready_format, source, output)
+            let stick_format = StickFormat::Plain(ReadyFormat::Editor(&event_positions));
+            ready_in(alloc, readying, only, rounds, stick_format, source, output)
         }
+        Format::Full => ready_full(alloc, readying, only, rounds, file, source, output),
     }
 }
 

@@ -106,8 +106,8 @@ fn stick_format_words() -> Alternatives<'static>
     ensures { map (λ word. word.now) result.words.now ≡ stick_format_words }
 {
     Alternatives {
-        words: &["text", "count", "lines"],
-        shown: "text|count|lines",
+        words: &["text", "count", "lines", "full"],
+        shown: "text|count|lines|full",
     }
 }
 

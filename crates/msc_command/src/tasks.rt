@@ -140,6 +140,8 @@ pub(crate) struct ReadyArgs<'w> {
     /// Whether sticks between a round of the chart and the next are included.
     pub again: bool,
     pub format: Format,
+    /// Whether findings as people read them have colours.
+    pub colours: bool,
     pub event_style: EventStyle,
 }
 
@@ -421,8 +423,8 @@ fn colours_of(words: &ArgMatches, auto: bool) -> bool
     colours_by(words.get_str(ArgName::Color.name()), auto)
 }
 
-/// The number of races of a chart with runs in this format, without `--show`: all, but of findings as
-/// people read them none.
+/// The number of races of a chart, or of first sticks, with runs in this format, without `--show`: all,
+/// but of findings as people read them none.
 fn runs_in(format: Format) -> u32
     ensures { result ≡ runs_in format }
 {
@@ -845,17 +847,19 @@ fn report_of<'w>(queues: Queues, words: &'w ArgMatches) -> Task<'w>
     Task::Draw(Drawn::Report(queues), link_words_of(words))
 }
 
-/// The task of `msc ready`.
-fn ready_of<'w>(queues: Queues, words: &'w ArgMatches) -> Task<'w>
+/// The task of `msc ready`; `auto` says whether there are colours without `--color`.
+fn ready_of<'w>(queues: Queues, words: &'w ArgMatches, auto: bool) -> Task<'w>
     ensures { architecture (found_of words.entry.now) ≡ Some queues
         → AsksFor CommandName.Ready (found_of words.entry.now) result }
 {
+    let format = format_of_sticks(words);
     let ready_args = ReadyArgs {
         queues,
         only: texts_of(words, ArgName::Only),
-        show: number_of(words, ArgName::ShowSticks, u32::MAX),
+        show: number_of(words, ArgName::ShowSticks, runs_in(format)),
         again: is_given(words, ArgName::Again),
-        format: format_of_sticks(words),
+        format,
+        colours: colours_of(words, auto),
         event_style: event_style_of(words),
     };
     Task::Chart(ChartCommand::Ready(ready_args), link_words_of(words))
@@ -973,7 +977,7 @@ fn complete_task<'w>(
         CommandName::Draw => draw_of(words),
         CommandName::Reverse => reverse_of(queues_of(words)?, words),
         CommandName::Report => Ok(report_of(queues_of(words)?, words)),
-        CommandName::Ready => Ok(ready_of(queues_of(words)?, words)),
+        CommandName::Ready => Ok(ready_of(queues_of(words)?, words, auto)),
         CommandName::Import => import_of(words),
     }
 }

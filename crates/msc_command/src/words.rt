@@ -117,11 +117,16 @@ const FORMAT_HELP: &str =
     "Print lines of text, one line with the number of races, lines that editors \
 read, or the findings as people read them";
 
+const FORMAT_STICKS_HELP: &str =
+    "Print lines of text, one line with the number of sticks, lines that editors \
+read, or the findings as people read them";
+
 const COLOR_HELP: &str =
     "Whether findings as people read them have colours; without it, they do on a terminal";
 
 const SHOW_STICKS_HELP: &str =
-    "Print a run for each of the first N sticks that are first; without it, for all";
+    "Print a run for each of the first N sticks that are first; without it, for all, with --format \
+full for none";
 
 const QUEUES_HELP: &str =
     "A queue for each sender and receiver, each receiver, or each message; or as the text says";
@@ -233,9 +238,7 @@ impl ArgName {
             }
             ArgName::ChartFormat => FORMAT_HELP,
             ArgName::Color => COLOR_HELP,
-            ArgName::FormatSticks => {
-                "Print lines of text, lines that editors read, or one line with the number of sticks"
-            }
+            ArgName::FormatSticks => FORMAT_STICKS_HELP,
             ArgName::Quiet => "Print nothing; the status tells",
             ArgName::Words => "Print a run in words, a line for each of its events",
             ArgName::Short => "Show a short run, which ends with the second event",
@@ -384,7 +387,7 @@ const REPORT: [ArgName; 7] = [
 ];
 
 /// The words after `ready`, in the order of the help.
-const READY: [ArgName; 12] = [
+const READY: [ArgName; 13] = [
     ArgName::Queues,
     ArgName::Pair,
     ArgName::Mailbox,
@@ -393,6 +396,7 @@ const READY: [ArgName; 12] = [
     ArgName::ShowSticks,
     ArgName::Again,
     ArgName::FormatSticks,
+    ArgName::Color,
     ArgName::Words,
     ArgName::Places,
     ArgName::Plain,

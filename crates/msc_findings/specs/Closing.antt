@@ -4,10 +4,12 @@ use Rattle.msc_judge.specs.declared.renderer.Heading.{Heading}
 use Rattle.msc_judge.specs.declared.renderer.Totals.{Totals}
 use Rattle.msc_wording.specs.Checking.{check_verdict}
 use Rattle.msc_wording.specs.Closing.{closing_line, help_line, with_queues}
+use Rattle.msc_wording.specs.Readying.{ready_verdict}
 use Rattle.msc_wording.specs.declared.checking.RacesFound.{RacesFound}
 use Rattle.msc_wording.specs.declared.checking.RacesFound.TheVariants.{InOneScenario, InRounds}
 use Rattle.msc_wording.specs.declared.checking.SpokenCheck.{SpokenCheck}
 use Rattle.msc_wording.specs.declared.closing.MarkedText.TheVariants.{Chart}
+use Rattle.msc_wording.specs.declared.readying.SpokenReadiness.{SpokenReadiness}
 use Rattle.msc_findings.specs.declared.format.FullFormat.{FullFormat}
 
 -- a number, or 0 if there is none
@@ -44,9 +46,16 @@ check_of t can_happen = record {
 }
 
 -- `FILE: VERDICT (queues: QUEUES)`
+abbrev pub line_with : FullFormat → List ℕ → List ℕ
+line_with x verdict = closing_line x.file.now (with_queues verdict x.queues.now) x.text.colours
+
+-- the line of what a check found
 abbrev pub closing_text : FullFormat → Totals → Bool → List ℕ
-closing_text x t can_happen =
-    closing_line x.file.now (with_queues (check_verdict (check_of t can_happen)) x.queues.now) x.text.colours
+closing_text x t can_happen = line_with x (check_verdict (check_of t can_happen))
+
+-- and that of what was found of ready instances
+abbrev pub readiness_text : FullFormat → SpokenReadiness → List ℕ
+readiness_text x r = line_with x (ready_verdict r) ++ codes "\n"
 
 -- it is told how races are accepted: some are listed, and the text has no mark
 abbrev pub helps : FullFormat → Totals → Bool

@@ -3,3 +3,4 @@ pub mod Closing
 pub mod Runs
 pub mod Findings
 pub mod Rounds
+pub mod Sticks

@@ -3,12 +3,15 @@
 ghost use Rattle.std.specs.Prelude.{◌≡◌, ◌++◌, IfOk, OnOk};
 ghost use Rattle.std.specs.String.{string_bytes};
 ghost use Rattle.msc_findings.specs.Closing.{check_of, closing_part, closing_text, found_of, help_part};
-ghost use Rattle.msc_findings.specs.Closing.{helps, listed_of, number_or_none, shown_of};
+ghost use Rattle.msc_findings.specs.Closing.{helps, line_with, listed_of, number_or_none};
+ghost use Rattle.msc_findings.specs.Closing.{readiness_text, shown_of};
 
 use crate::format::FullFormat;
 use msc_judge::{Heading, Totals};
 use msc_print::Page;
-use msc_wording::{MarkedText, RacesFound, SpokenCheck, closing_line, help_line, with_queues};
+use msc_wording::{
+    MarkedText, RacesFound, SpokenCheck, SpokenReadiness, closing_line, help_line, with_queues,
+};
 use std::alloc::{AllocError, Global};
 
 /// The number, or 0 if there is none.
@@ -82,9 +85,32 @@ impl FullFormat<'_, '_> {
     {
         let check = check_of(totals, can_happen);
         let verdict = check.verdict(alloc)?;
-        let verdict = with_queues(alloc, verdict.as_str(), self.queues)?;
+        self.line_with(alloc, verdict.as_str())
+    }
+
+    /// The line of the file with this verdict.
+    fn line_with(&self, alloc: Global, verdict: &str) -> Result<String, AllocError>
+        ensures { IfOk result (λ line. string_bytes line ≡ line_with self.now verdict.now) }
+    {
+        let verdict = with_queues(alloc, verdict, self.queues)?;
         let line = closing_line(alloc, self.file, verdict.as_str(), self.text.colours)?;
         Ok(line)
+    }
+
+    /// Appends the closing line of an answer on ready instances. The only error is want of memory.
+    pub fn print_readiness(
+        &self,
+        alloc: Global,
+        page: &mut Page,
+        readiness: SpokenReadiness,
+    ) -> Result<(), AllocError>
+        ensures { OnOk result (page.new.bytes.items ≡ page.old.bytes.items
+            ++ readiness_text self.now readiness) }
+    {
+        let verdict = readiness.verdict(alloc)?;
+        let line = self.line_with(alloc, verdict.as_str())?;
+        page.bytes.extend_from_slice(line.as_bytes())?;
+        page.bytes.extend_from_slice(b"\n")
     }
 
     /// Whether the help on marks is printed: races are listed, and the text has no mark.

@@ -1,9 +1,10 @@
-//! The renderers of races as people read them: each race as a diagnostic with the lines of the text,
-//! stale marks, and a closing line with what was found.
+//! Findings as people read them: each race as a diagnostic with the lines of the text, stale marks,
+//! sticks, and a closing line with what was found.
 //!
 //! [`FullRaces`] is for the races of a chart, and [`FullRounds`] for those between two rounds of it.
-//! Both are renderers of `msc_judge`, next to those of lines and counts; their diagnostics are those
-//! of `msc_full`. Events are numbered from 0, in the order of the chart.
+//! Both are renderers of `msc_judge`, next to those of lines and counts. A [`FullFormat`] prints
+//! sticks, one by one. All diagnostics are those of `msc_full`. Events are numbered from 0, in the
+//! order of the chart.
 #![tactic(auto)]
 
 mod closing;
@@ -12,7 +13,9 @@ mod race;
 mod races;
 mod rounds;
 mod run;
+mod sticks;
 
 pub use format::{FullFormat, ShownMark};
 pub use races::FullRaces;
 pub use rounds::FullRounds;
+pub use sticks::FoundStick;

@@ -6,7 +6,7 @@ ghost use Rattle.msc_findings.specs.Findings.{end_text, finding_text, never_part
 
 use crate::format::FullFormat;
 use crate::race::finding_text;
-use crate::run::{push_step, rows_text};
+use crate::run::{rows_text, run_steps};
 use msc_chart::{Chart, Event};
 use msc_full::{chart_steps, never_text};
 use msc_judge::{Finding, Heading, Renderer, Totals};
@@ -52,10 +52,7 @@ impl Renderer for FullRaces<'_, '_, '_> {
         run: &[Event],
     ) -> Result<Vec<u8>, AllocError> {
         let text = self.format.text;
-        let mut steps = Vec::new(alloc);
-        for e in run {
-            push_step(&mut steps, text.events, *e, None)?;
-        }
+        let steps = run_steps(alloc, text, run)?;
         let bytes = rows_text(alloc, text, steps.as_slice())?;
         Ok(bytes)
     }

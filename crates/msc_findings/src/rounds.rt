@@ -12,6 +12,7 @@ use crate::format::FullFormat;
 use crate::race::finding_text;
 use crate::run::{push_step, rows_text};
 use msc_chart::{Chart, Event, RoundNumbers};
+use msc_full::ShownText;
 use msc_judge::{Finding, Heading, Renderer, Totals};
 use msc_print::Page;
 use msc_reason::Cause;
@@ -29,48 +30,54 @@ pub struct FullRounds<'f, 'w, 'r> {
     pub can_happen: bool,
 }
 
-impl<'w> FullRounds<'_, 'w, '_> {
-    /// The event of the chart that event `k` of two rounds is, and its round, from 0.
-    fn place(&self, k: Event) -> (Event, u32)
-        requires { k < length (two_rounds self.now.numbers.now).events }
-        ensures event { result.0 ≡ once self.now.numbers.now k }
-        ensures round { result.1 ≡ round_of 2 self.now.numbers.now.events k }
-        ensures few { result.1 < 2 }
-    {
-        self.numbers.place(k)
-    }
+/// The event of the chart that event `k` of two rounds is, and its round, from 0.
+fn place(numbers: &RoundNumbers<'_>, k: Event) -> (Event, u32)
+    requires { k < length (two_rounds numbers.now).events }
+    ensures event { result.0 ≡ once numbers.now k }
+    ensures round { result.1 ≡ round_of 2 numbers.now.events k }
+    ensures known { result.0 < length numbers.now.events }
+    ensures few { result.1 < 2 }
+{
+    numbers.place(k)
+}
 
-    /// The event of the chart that event `k` of two rounds is.
-    fn once(&self, k: Event) -> Event
-        requires { k < length (two_rounds self.now.numbers.now).events }
-        ensures { result ≡ once self.now.numbers.now k }
-    {
-        self.place(k).0
-    }
+/// The event of the chart that event `k` of two rounds is.
+pub(crate) fn once(numbers: &RoundNumbers<'_>, k: Event) -> Event
+    requires { k < length (two_rounds numbers.now).events }
+    ensures event { result ≡ once numbers.now k }
+    ensures known { result < length numbers.now.events }
+{
+    place(numbers, k).0
+}
 
-    /// The steps of a run of two rounds.
-    fn steps(&self, alloc: Global, run: &[Event]) -> Result<Vec<SpokenStep<'w>>, AllocError>
-        requires { AreEventsOf (two_rounds self.now.numbers.now) run.now }
-        ensures { IfOk result (λ steps. steps.items
-            ≡ flat_map (step_at self.now.format.text self.now.numbers.now) run.now) }
-    {
-        let events = self.format.text.events;
-        let mut steps = Vec::new(alloc);
-        for k in run {
-            let (e, round) = self.place(*k);
-            push_step(&mut steps, events, e, Some(round as usize + 1))?;
-        }
-        Ok(steps)
+/// The steps of a run of two rounds.
+pub(crate) fn round_steps<'w>(
+    alloc: Global,
+    text: ShownText<'_, 'w>,
+    numbers: &RoundNumbers<'_>,
+    run: &[Event],
+) -> Result<Vec<SpokenStep<'w>>, AllocError>
+    requires { AreEventsOf (two_rounds numbers.now) run.now }
+    ensures { IfOk result (λ steps. steps.items
+        ≡ flat_map (step_at text.entry numbers.now) run.now) }
+{
+    let mut steps = Vec::new(alloc);
+    for k in run {
+        let (e, round) = place(numbers, *k);
+        push_step(&mut steps, text.events, e, Some(round as usize + 1))?;
     }
+    Ok(steps)
+}
 
+impl FullRounds<'_, '_, '_> {
     /// A cause by the events of the chart.
     fn cause_once(&self, cause: Cause) -> Cause
         requires { NamesCause (two_rounds self.now.numbers.now) cause }
         ensures { result ≡ cause_once self.now.numbers.now cause }
     {
         Cause {
-            needed: self.once(cause.needed),
-            output: self.once(cause.output),
+            needed: once(self.numbers, cause.needed),
+            output: once(self.numbers, cause.output),
             ..cause
         }
     }
@@ -86,8 +93,8 @@ impl<'w> FullRounds<'_, 'w, '_> {
         };
         Finding {
             number: finding.number,
-            first: self.once(finding.first),
-            second: self.once(finding.second),
+            first: once(self.numbers, finding.first),
+            second: once(self.numbers, finding.second),
             cause,
         }
     }
@@ -120,8 +127,9 @@ impl Renderer for FullRounds<'_, '_, '_> {
         _chart: &Chart,
         run: &[Event],
     ) -> Result<Vec<u8>, AllocError> {
-        let steps = self.steps(alloc, run)?;
-        let bytes = rows_text(alloc, self.format.text, steps.as_slice())?;
+        let text = self.format.text;
+        let steps = round_steps(alloc, text, self.numbers, run)?;
+        let bytes = rows_text(alloc, text, steps.as_slice())?;
         Ok(bytes)
     }
 

@@ -1,9 +1,11 @@
 //! The rows of a run.
 
 ghost use Rattle.std.specs.Prelude.{◌≡◌, ◌++◌, IfOk, OnOk, map, slice_get};
+ghost use Rattle.std.specs.List.{flat_map};
 ghost use Rattle.std.specs.Option.{option_copied, option_map};
 ghost use Rattle.std.specs.String.{string_bytes};
 ghost use Rattle.msc_full.specs.Blocks.{texts_of};
+ghost use Rattle.msc_findings.specs.Findings.{step_in};
 ghost use Rattle.msc_findings.specs.Runs.{joined, rows_in, rows_of_line, rows_text, step_of};
 
 use msc_chart::Event;
@@ -30,6 +32,32 @@ pub(crate) fn push_step<'t>(
         }
         None => Ok(()),
     }
+}
+
+/// The steps of a run of a chart.
+pub(crate) fn run_steps<'w>(
+    alloc: Global,
+    text: ShownText<'_, 'w>,
+    run: &[Event],
+) -> Result<Vec<SpokenStep<'w>>, AllocError>
+    ensures { IfOk result (λ steps. steps.items ≡ flat_map (step_in text.entry) run.now) }
+{
+    let mut steps = Vec::new(alloc);
+    for e in run {
+        push_step(&mut steps, text.events, *e, None)?;
+    }
+    Ok(steps)
+}
+
+/// These rows, lent.
+pub(crate) fn lent_rows(alloc: Global, rows: &[String]) -> Result<Vec<&str>, AllocError>
+    ensures { IfOk result (λ lent. texts_of lent.items ≡ map string_bytes rows.now) }
+{
+    let mut lent = Vec::new(alloc);
+    for row in rows {
+        lent.push(row.as_str())?;
+    }
+    Ok(lent)
 }
 
 /// These rows, each with its line feed.

@@ -44,11 +44,44 @@ abbrev pub stick_marks : SpokenBlockedPair → ShownEvent → ShownEvent → Lis
 stick_marks stick first second =
     mark_of first Caret (codes "waits for this") ∷ mark_of second Dash (ahead_label stick.in_mailbox) ∷ []
 
--- what is shown of it
-abbrev pub shown_part : StickShown → List Note
-shown_part Nothing = []
-shown_part (Run rows) = note_of kinds.Note (codes "a run that shows it:") (texts_of rows.now) ∷ []
-shown_part (Behind text) = note_of kinds.Note text.now [] ∷ []
+-- a stick that is told, as plain data: its events, whether the second is of the next round, and what
+-- is shown of it: a note on the stick that is ahead of it, or the rows of a run, if these are told
+pub record PlainStick : Type 0 where
+  pub first : ℕ
+  pub second : ℕ
+  pub needed : ℕ
+  pub output : ℕ
+  pub is_next : Bool
+  pub behind : Option (List ℕ)
+  pub run : Option (List (List ℕ))
+
+abbrev pub behind_of : StickShown → Option (List ℕ)
+behind_of Nothing = None
+behind_of (Run rows) = None
+behind_of (Behind text) = Some text.now
+
+abbrev pub run_of : StickShown → Option (List (List ℕ))
+run_of Nothing = None
+run_of (Run rows) = Some (texts_of rows.now)
+run_of (Behind text) = None
+
+-- that of the code
+abbrev pub plain_stick : ShownStick → PlainStick
+plain_stick stick = record {
+  first = stick.first;
+  second = stick.second;
+  needed = stick.needed;
+  output = stick.output;
+  is_next = stick.is_next;
+  behind = behind_of stick.shown;
+  run = run_of stick.shown;
+}
+
+-- the note on what is shown of it
+abbrev pub shown_part : Option (List ℕ) → Option (List (List ℕ)) → List Note
+shown_part (Some text) run = note_of kinds.Note text [] ∷ []
+shown_part None (Some rows) = note_of kinds.Note (codes "a run that shows it:") rows ∷ []
+shown_part None None = []
 
 -- what would prevent it, and what is shown of it
 abbrev pub stick_notes : List ℕ → List Note → List Note
@@ -63,25 +96,25 @@ pub record AreStickStrings (text : ShownText) (stick : SpokenBlockedPair) (strin
   pub sentence : string_bytes strings.sentence ≡ blocked_sentence (texts_of text.names.now) stick
   pub help : string_bytes strings.help ≡ stick_help (texts_of text.names.now) stick
 
--- a stick of two events as a diagnostic
-abbrev pub stick_block : List (List ℕ) → StickShown → ShownEvent → ShownEvent → SpokenBlockedPair → Diagnostic
+-- a stick of two events as a diagnostic, with these notes on what is shown of it
+abbrev pub stick_block : List (List ℕ) → List Note → ShownEvent → ShownEvent → SpokenBlockedPair → Diagnostic
 stick_block names shown first second stick =
     block_of Error (codes "stick") (blocked_sentence names stick) first.place.now
-    (stick_marks stick first second) (stick_notes (stick_help names stick) (shown_part shown))
+    (stick_marks stick first second) (stick_notes (stick_help names stick) shown)
 
 -- its text
-abbrev pub stick_between : ShownText → StickShown → ShownEvent → ShownEvent → SpokenBlockedPair → List ℕ
+abbrev pub stick_between : ShownText → List Note → ShownEvent → ShownEvent → SpokenBlockedPair → List ℕ
 stick_between text shown first second stick = block_text text (stick_block (texts_of text.names.now) shown first second stick)
 
-abbrev pub stick_numbers : ShownStick → PairNumbers
+abbrev pub stick_numbers : PlainStick → PairNumbers
 stick_numbers stick =
     record { first = stick.first; second = stick.second; needed = stick.needed; output = stick.output }
 
 -- the text of a stick, or none if an event is not there
-abbrev pub stick_if : ShownText → ShownStick → Option PairEvents → List ℕ
+abbrev pub stick_if : ShownText → PlainStick → Option PairEvents → List ℕ
 stick_if text stick None = []
 stick_if text stick (Some events) =
-    stick_between text stick.shown events.first events.second (spoken_stick events stick.is_next)
+    stick_between text (shown_part stick.behind stick.run) events.first events.second (spoken_stick events stick.is_next)
 
-abbrev pub stick_text : ShownText → ShownStick → List ℕ
+abbrev pub stick_text : ShownText → PlainStick → List ℕ
 stick_text text stick = stick_if text stick (events_of text.events.now (stick_numbers stick))

@@ -2,8 +2,9 @@
 
 ghost use Rattle.std.specs.Prelude.{◌≡◌, IfOk, map};
 ghost use Rattle.msc_diagnostic.specs.Plain.{plain_mark, plain_note};
-ghost use Rattle.msc_full.specs.Sticks.{comes_by_mailbox, shown_part, spoken_stick, stick_marks};
-ghost use Rattle.msc_full.specs.Sticks.{stick_between, stick_notes, stick_numbers, stick_text};
+ghost use Rattle.msc_full.specs.Sticks.{behind_of, comes_by_mailbox, plain_stick, run_of};
+ghost use Rattle.msc_full.specs.Sticks.{shown_part, spoken_stick, stick_between, stick_marks};
+ghost use Rattle.msc_full.specs.Sticks.{stick_notes, stick_numbers, stick_text};
 ghost use Rattle.msc_full.specs.Sticks.{AreStickStrings};
 
 use crate::block::{BlockParts, PairEvents, PairNumbers, events_of, mark, note, parts_text};
@@ -87,7 +88,8 @@ fn stick_notes<'n>(
     shown: StickShown<'n>,
 ) -> Result<Vec<Note<'n>>, AllocError>
     ensures { IfOk result (λ notes.
-        map plain_note notes.items ≡ stick_notes help.now (shown_part shown.entry)) }
+        map plain_note notes.items ≡ stick_notes help.now
+        (shown_part (behind_of shown.entry) (run_of shown.entry))) }
 {
     let mut notes = Vec::new(alloc);
     notes.push(note(NoteKind::Help, help))?;
@@ -136,7 +138,8 @@ fn stick_between<'t>(
     stick: &SpokenBlockedPair<'_>,
 ) -> Result<Vec<u8>, AllocError>
     ensures { IfOk result (λ bytes. bytes.items
-        ≡ stick_between text.entry shown.entry first.now second.now stick.now) }
+        ≡ stick_between text.entry (shown_part (behind_of shown.entry) (run_of shown.entry))
+        first.now second.now stick.now) }
 {
     let strings = strings_of(alloc, text, stick)?;
     let marks = stick_marks(alloc, stick, first, second)?;
@@ -153,7 +156,7 @@ fn stick_between<'t>(
 
 /// The numbers of the events of a stick.
 fn stick_numbers(stick: ShownStick<'_>) -> PairNumbers
-    ensures { result ≡ stick_numbers stick.entry }
+    ensures { result ≡ stick_numbers (plain_stick stick.entry) }
 {
     PairNumbers {
         first: stick.first,
@@ -171,7 +174,8 @@ pub fn stick_text(
     text: ShownText<'_, '_>,
     stick: ShownStick<'_>,
 ) -> Result<Vec<u8>, AllocError>
-    ensures { IfOk result (λ bytes. bytes.items ≡ stick_text text.entry stick.entry) }
+    ensures { IfOk result (λ bytes. bytes.items
+        ≡ stick_text text.entry (plain_stick stick.entry)) }
 {
     let Some(events) = events_of(text.events, stick_numbers(stick)) else {
         return Ok(Vec::new(alloc));

@@ -29,21 +29,22 @@ use Rattle.msc_ready.specs.Running.{AreBlockedPairRuns}
 use Rattle.msc_ready.specs.BlockedPairs.{is_blocked_pair, AreLeft, IsBlockedPair}
 use Rattle.msc_ready.specs.Views.{blocked_pairs_from, blocked_pairs_of, AreAhead, AreBlockedPairs, HasAhead}
 use Rattle.msc_ready.proofs.Left.{left_test}
-use Rattle.msc_report.specs.ReadyFormats.{left_comes_last, ready_again_count, ready_left, ready_left_count, runs_shown}
-use Rattle.msc_report.specs.declared.ready_format.ReadyFormat.{ReadyFormat}
 use Rattle.msc_text.specs.LeftRaces.{left_from, left_in}
-use Rattle.msc_text.specs.Readied.{has_none_left, AreRoundsOf, AreUnrolled, CanPrintStick, IsReadyOf, IsReadyText}
-use Rattle.msc_text.specs.Readying.{again_text, again_texts, finishes, left_behind, left_pairs, left_text, lines_of, more_after, once_texts, ready_text, rest_in, told_left, told_sticks, AreStickFacts, StickFacts, PrintsAgain, PrintsBetween, PrintsReady}
+use Rattle.msc_text.specs.Readied.{between_number, AreRoundsOf, AreUnrolled, CanPrintStick, IsReadyOf, IsReadyText}
+use Rattle.msc_text.specs.StickFormats.{again_count_in, again_texts, closing_in, comes_left_last, left_count_in, left_race_in, once_texts, runs_in}
+use Rattle.msc_text.specs.declared.stick_format.StickFormat.{StickFormat}
+use Rattle.msc_text.specs.Readying.{again_text, finishes, is_none_of, left_behind, left_number, left_pairs, left_text, lines_of, more_after, readiness_of, ready_text, rest_in, told_left, told_sticks, AreStickFacts, StickFacts, PrintsAgain, PrintsBetween, PrintsReady}
 use Rattle.msc_text.specs.declared.readying.ReadyAnswer.{ReadyAnswer}
 use Rattle.msc_text.specs.declared.readying.StickTable.{StickTable}
+use Rattle.msc_wording.specs.declared.readying.SpokenReadiness.{SpokenReadiness}
 use Rattle.msc_judge.proofs.Listed.{all_of as all_pairs}
 
 -- what is printed of the blocked pairs between two rounds, by what is known of them
-pub prints_between : (d : Drawing) (queues : Queues) (only : Option (List Bool)) (more : ℕ) (format : ReadyFormat) (r : ReadyChart)
+pub prints_between : (d : Drawing) (queues : Queues) (only : Option (List Bool)) (more : ℕ) (format : StickFormat) (r : ReadyChart)
     (ahead : List (Option (ℕ × ℕ))) (runs : ℕ → List ℕ) → IsReadyOf (two_rounds d) queues only r
     → HasVisualOrder r → AreBetween r d (between_of r d) → AreAhead r ahead (length r.chart.events)
     → AreBlockedPairRuns (wiring_of r) (ready_in r) runs
-    → PrintsBetween d queues only more format (nat_eq (length (between_of r d)) 0) (again_text format d r ahead runs more)
+    → PrintsBetween d queues only more format (Some (length (between_of r d))) (again_text format d r ahead runs more)
 prints_between d queues only more format r ahead runs its visual blocked_pairs are_ahead are_runs =
     let same : r ≡ ready_chart (two_rounds d) queues (lines_of only) r.order =
     ap (λ (c : Drawing). ready_chart c r.queues r.lines r.order) its.chart
@@ -57,18 +58,19 @@ prints_between d queues only more format r ahead runs its visual blocked_pairs a
       are_ahead = subst (λ (x : ReadyChart). AreAhead x ahead (length x.chart.events)) same are_ahead;
       runs = runs;
       are_runs = subst (λ (x : ReadyChart). AreBlockedPairRuns (wiring_of x) (ready_in x) runs) same are_runs;
-      answered = ap (λ (x : ReadyChart). nat_eq (length (between_of x d)) 0) same;
+      answered = ap (λ (x : ReadyChart). Some (length (between_of x d))) same;
       text = ap (λ (x : ReadyChart). again_text format d x ahead runs more) same;
     }
 
-module _ (d : Drawing) (queues : Queues) (only : Option (List Bool)) (again : Bool) (show : ℕ) (format : ReadyFormat) where
+module _ (d : Drawing) (queues : Queues) (only : Option (List Bool)) (again : Bool) (show : ℕ) (format : StickFormat) where
   -- what is printed of a chart with ready instances, by what is known of it, and of two rounds
   pub prints : (r : ReadyChart) (k : StickFacts) → IsReadyOf d queues only r
       → IsAccepted r.chart → HasVisualOrder r → AreBlockedPairs r (blocked_pairs_of r) → AreStickFacts r k
-      → (none : Bool) (behind : List ℕ) → PrintsAgain again d queues only (more_after r (runs_shown format show) k) format none behind
-      → PrintsReady d queues only again show format (finishes r only k && none)
-      (ready_text format r only (runs_shown format show) k ++ rest_in format (left_text format r only k) behind)
-  prints r k its accepted visual blocked_pairs is none behind rounds =
+      → (between : Option ℕ) (behind : List ℕ) → PrintsAgain again d queues only (more_after r (runs_in format show) k) format between behind
+      → PrintsReady d queues only again show format (finishes r only k && is_none_of between)
+      (ready_text format r only (runs_in format show) k
+      ++ (rest_in format (left_text format r only k) behind ++ closing_in format (readiness_of r only k between)))
+  prints r k its accepted visual blocked_pairs is between behind rounds =
       let same : r ≡ ready_chart d queues (lines_of only) r.order =
       ap (λ (c : Drawing). ready_chart c r.queues r.lines r.order) its.chart
       ∙ ap (λ (q : Queues). ready_chart d q r.lines r.order) its.queues
@@ -80,11 +82,12 @@ module _ (d : Drawing) (queues : Queues) (only : Option (List Bool)) (again : Bo
         blocked_pairs = subst (λ (x : ReadyChart). AreBlockedPairs x (blocked_pairs_of x)) same blocked_pairs;
         known = k;
         is = subst (λ (x : ReadyChart). AreStickFacts x k) same is;
-        none = none;
+        between = between;
         behind = behind;
-        rounds = subst (λ (x : ReadyChart). PrintsAgain again d queues only (more_after x (runs_shown format show) k) format none behind) same rounds;
-        answered = ap (λ (x : ReadyChart). finishes x only k && none) same;
-        text = ap (λ (x : ReadyChart). ready_text format x only (runs_shown format show) k ++ rest_in format (left_text format x only k) behind) same;
+        rounds = subst (λ (x : ReadyChart). PrintsAgain again d queues only (more_after x (runs_in format show) k) format between behind) same rounds;
+        answered = ap (λ (x : ReadyChart). finishes x only k && is_none_of between) same;
+        text = ap (λ (x : ReadyChart). ready_text format x only (runs_in format show) k
+            ++ (rest_in format (left_text format x only k) behind ++ closing_in format (readiness_of x only k between))) same;
       }
 
 -- what is known of a chart of which these are: whether some ready run is whole, and which blocked
@@ -176,7 +179,7 @@ tells contents says (Ok answer) old new right text is same written = (text, subs
 tells contents says (Err Memory) old new right text is same written = inr (right, text, is, written)
 tells contents says (Err Device) old new right text is same written = tt
 
-module _ (a b : Printed) (format : ReadyFormat) (r : ReadyChart) (ahead list : List (Option (ℕ × ℕ))) (same : ahead ≡ list) (runs : ℕ → List ℕ) (show : ℕ) where
+module _ (a b : Printed) (format : StickFormat) (r : ReadyChart) (ahead list : List (Option (ℕ × ℕ))) (same : ahead ≡ list) (runs : ℕ → List ℕ) (show : ℕ) where
   -- the blocked pairs that a source of pairs gives are all blocked pairs
   pub blocked_pairs_rows : (d : Drawing) → d ≡ r.chart
       → Prints a b (told_sticks (once_texts format d) ahead runs show (below (blocked_pairs_from r) (length r.chart.events)))
@@ -188,12 +191,12 @@ module _ (a b : Printed) (format : ReadyFormat) (r : ReadyChart) (ahead list : L
       (all_pairs (is_blocked_pair (wiring_of r) (ready_in r) r.order) (length r.chart.events)) put))
 
   -- and so it is between two rounds, after their number
-  pub between_rows : (c : Printed) (d : Drawing) (count : ℕ) → count ≡ length (between_of r d) → Prints c a (ready_again_count format count)
+  pub between_rows : (c : Printed) (d : Drawing) (count : ℕ) → count ≡ length (between_of r d) → Prints c a (again_count_in format count)
       → Prints a b (told_sticks (again_texts format d) ahead runs show (below (between_from r d) (length r.chart.events)))
       → Prints c b (again_text format d r list runs show)
   between_rows c d count number head put =
-      prints_then c a b (ready_again_count format (length (between_of r d))) (told_sticks (again_texts format d) list runs show (between_of r d))
-      (subst (λ (n : ℕ). Prints c a (ready_again_count format n)) number head)
+      prints_then c a b (again_count_in format (length (between_of r d))) (told_sticks (again_texts format d) list runs show (between_of r d))
+      (subst (λ (n : ℕ). Prints c a (again_count_in format n)) number head)
       (subst (λ (l : List (Option (ℕ × ℕ))). Prints a b (told_sticks (again_texts format d) l runs show (between_of r d))) same
       (subst (λ (pairs : List (ℕ × ℕ)). Prints a b (told_sticks (again_texts format d) ahead runs show pairs))
       (all_pairs (is_between r d) (length r.chart.events)) put))
@@ -208,32 +211,32 @@ blocked_pairs_count r ahead list show result same =
     ∙ ap (λ (l : List (Option (ℕ × ℕ))). left_behind l show (blocked_pairs_of r)) same)
 
 -- the races that are left are printed after their number
-pub left_prints : (a b c : Printed) (format : ReadyFormat) (r : ReadyChart) (wired : IsWired (wiring_of r)) (d : Drawing) (count : ℕ) → d ≡ r.chart
+pub left_prints : (a b c : Printed) (format : StickFormat) (r : ReadyChart) (wired : IsWired (wiring_of r)) (d : Drawing) (count : ℕ) → d ≡ r.chart
     → ((left : ℕ → ℕ → Bool) → AreLeft (wiring_of r) (ready_in r) left → count ≡ length (pairs_of left (length r.chart.events)))
-    → Prints a b (ready_left_count format count)
-    → Prints b c (rows_from (λ m p. ready_left format d p) (λ m p. m) 0 (below (left_from r wired) (length r.chart.events)))
+    → Prints a b (left_count_in format count)
+    → Prints b c (rows_from (λ m p. left_race_in format d p) (λ m p. m) 0 (below (left_from r wired) (length r.chart.events)))
     → (left : ℕ → ℕ → Bool) → AreLeft (wiring_of r) (ready_in r) left
     → Prints a c (told_left format r.chart (pairs_of left (length r.chart.events)))
 left_prints a b c format r wired d count chart number head put left are =
     let pairs = pairs_of left (length r.chart.events) in
-    prints_then a b c (ready_left_count format (length pairs)) (flat_map (ready_left format r.chart) pairs)
-    (subst (λ (n : ℕ). Prints a b (ready_left_count format n)) (number left are) head)
-    (subst (λ (x : Drawing). Prints b c (flat_map (ready_left format x) pairs)) chart
-    (subst (Prints b c) (left_rows r wired (ready_left format d) left are) put))
+    prints_then a b c (left_count_in format (length pairs)) (flat_map (left_race_in format r.chart) pairs)
+    (subst (λ (n : ℕ). Prints a b (left_count_in format n)) (number left are) head)
+    (subst (λ (x : Drawing). Prints b c (flat_map (left_race_in format x) pairs)) chart
+    (subst (Prints b c) (left_rows r wired (left_race_in format d) left are) put))
 
 -- a system finishes if it has no blocked pair, and no race is left where these are told
 pub finishes_so : (r : ReadyChart) (only : Option (List Bool)) (k : StickFacts)
-    → (nat_eq (length (blocked_pairs_of r)) 0 && has_none_left r only k) ≡ finishes r only k
+    → (nat_eq (length (blocked_pairs_of r)) 0 && is_none_of (left_number r only k)) ≡ finishes r only k
 finishes_so r None k = alone (nat_eq (length (blocked_pairs_of r)) 0)
   where
     -- without a list, no race is told
     alone : (all : Bool) → (all && true) ≡ all
     alone true = refl
     alone false = refl
-finishes_so r (Some lines) k = both (nat_eq (length (blocked_pairs_of r)) 0) (nat_eq (length (left_pairs r k)) 0)
+finishes_so r (Some lines) k = both (nat_eq (length (blocked_pairs_of r)) 0) (length (left_pairs r k))
   where
     -- with one, races are told where no blocked pair is
-    both : (all left : Bool) → (all && cond all left true) ≡ (all && left)
+    both : (all : Bool) (left : ℕ) → (all && is_none_of (cond all (Some left) None)) ≡ (all && nat_eq left 0)
     both true left = refl
     both false left = refl
 
@@ -243,22 +246,53 @@ rounds_unrolled d queues only None are = tt
 rounds_unrolled d queues only (Some two) are = (are.0.chart, are.1)
 
 -- what is printed of races that are left and of two rounds, in the order of the format
-pub last_prints : (a b c : Printed) (format : ReadyFormat) (left again : List ℕ) → left_comes_last format ≡ true
+pub last_prints : (a b c : Printed) (format : StickFormat) (left again : List ℕ) → comes_left_last format ≡ true
     → Prints a b again → Prints b c left → Prints a c (rest_in format left again)
 last_prints a b c format left again last first then =
     subst (λ (l : Bool). Prints a c (cond l (again ++ left) (left ++ again))) (sym last) (prints_then a b c again left first then)
 
-pub above_prints : (a b c : Printed) (format : ReadyFormat) (left again : List ℕ) → left_comes_last format ≡ false
+pub above_prints : (a b c : Printed) (format : StickFormat) (left again : List ℕ) → comes_left_last format ≡ false
     → Prints a b left → Prints b c again → Prints a c (rest_in format left again)
 above_prints a b c format left again above first then =
     subst (λ (l : Bool). Prints a c (cond l (again ++ left) (left ++ again))) (sym above) (prints_then a b c left again first then)
 
 -- what is printed of a chart, and what follows it, are the answer
-pub answer_prints : (a b c : Printed) (answer : ReadyAnswer) (text : List ℕ) (is : IsReadyText answer text)
+pub answer_begins : (a b c : Printed) (answer : ReadyAnswer) (text : List ℕ) (is : IsReadyText answer text)
     → Prints a b (ready_text answer.query.format answer.one.now.blocked_pairs (option_copied answer.query.only) answer.query.show is.known)
-    → Prints b c (rest_in answer.query.format (left_text answer.query.format answer.one.now.blocked_pairs (option_copied answer.query.only) is.known) is.behind)
+    → Prints b c (rest_in answer.query.format (left_text answer.query.format answer.one.now.blocked_pairs (option_copied answer.query.only) is.known) is.behind
+    ++ closing_in answer.query.format (readiness_of answer.one.now.blocked_pairs (option_copied answer.query.only) is.known (between_number answer.names.chart.now (option_copied answer.two))))
     → Prints a c text
-answer_prints a b c answer text is first then =
+answer_begins a b c answer text is first then =
     subst (Prints a c) (sym is.same)
     (prints_then a b c (ready_text answer.query.format answer.one.now.blocked_pairs (option_copied answer.query.only) answer.query.show is.known)
-    (rest_in answer.query.format (left_text answer.query.format answer.one.now.blocked_pairs (option_copied answer.query.only) is.known) is.behind) first then)
+    (rest_in answer.query.format (left_text answer.query.format answer.one.now.blocked_pairs (option_copied answer.query.only) is.known) is.behind
+    ++ closing_in answer.query.format (readiness_of answer.one.now.blocked_pairs (option_copied answer.query.only) is.known (between_number answer.names.chart.now (option_copied answer.two)))) first then)
+
+-- and so is that with what closes it
+pub answer_prints : (a b c e : Printed) (answer : ReadyAnswer) (text : List ℕ) (is : IsReadyText answer text)
+    → Prints a b (ready_text answer.query.format answer.one.now.blocked_pairs (option_copied answer.query.only) answer.query.show is.known)
+    → Prints b c (rest_in answer.query.format (left_text answer.query.format answer.one.now.blocked_pairs (option_copied answer.query.only) is.known) is.behind)
+    → Prints c e (closing_in answer.query.format (readiness_of answer.one.now.blocked_pairs (option_copied answer.query.only) is.known (between_number answer.names.chart.now (option_copied answer.two))))
+    → Prints a e text
+answer_prints a b c e answer text is first then last =
+    answer_begins a b e answer text is first
+    (prints_then b c e (rest_in answer.query.format (left_text answer.query.format answer.one.now.blocked_pairs (option_copied answer.query.only) is.known) is.behind)
+    (closing_in answer.query.format (readiness_of answer.one.now.blocked_pairs (option_copied answer.query.only) is.known (between_number answer.names.chart.now (option_copied answer.two)))) then last)
+
+-- what both numbers are, by what each of them is
+pub rest_left : {A B : Type 0} (P : A → Type 0) (left : Result A AllocError) (rest : Result B AllocError) (number : B → A)
+    → IfOk rest (λ found. left ≡ Ok (number found)) → IfOk left P → IfOk rest (λ found. P (number found))
+rest_left P left (Ok found) number is said = subst (λ (r : Result _ AllocError). IfOk r P) is said
+rest_left P left (Err e) number is said = tt
+
+-- what closes the answer, by what each number is
+pub closing_prints : (a b : Printed) (format : StickFormat) (r : ReadyChart) (only : Option (List Bool)) (k : StickFacts) (between : Option ℕ) (found : SpokenReadiness)
+    → found.blocked ≡ length (blocked_pairs_of r) → found.between ≡ between → found.finishes ≡ k.may → found.left ≡ left_number r only k
+    → Prints a b (closing_in format found) → Prints a b (closing_in format (readiness_of r only k between))
+closing_prints a b format r only k between found blocked is may left =
+    subst (λ (x : SpokenReadiness). Prints a b (closing_in format x)) (
+    ap (λ (n : ℕ). record { blocked = n; between = found.between; finishes = found.finishes; left = found.left }) blocked
+    ∙ ap (λ (n : Option ℕ). record { blocked = length (blocked_pairs_of r); between = n; finishes = found.finishes; left = found.left }) is
+    ∙ ap (λ (m : Bool). record { blocked = length (blocked_pairs_of r); between = between; finishes = m; left = found.left }) may
+    ∙ ap (λ (n : Option ℕ). record { blocked = length (blocked_pairs_of r); between = between; finishes = k.may; left = n }) left
+    )

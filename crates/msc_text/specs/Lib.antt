@@ -2,6 +2,7 @@
 pub mod Judging
 pub mod Explaining
 pub mod Following
+pub mod StickFormats
 pub mod Readying
 -- what the code keeps
 pub mod LeftRaces

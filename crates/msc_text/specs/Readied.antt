@@ -1,5 +1,5 @@
 -- The rows of blocked pairs and of races that are left, and the answer on ready instances.
-use Rattle.std.specs.Prelude.{◌≡◌, ℕ, ◌<◌, ◌&&◌, Bool, true, cond, List, [], ◌++◌, Option, None, Some, MatchOption, IsTrue, length, nat_eq, is_some}
+use Rattle.std.specs.Prelude.{◌≡◌, ℕ, ◌<◌, ◌&&◌, Bool, List, [], ◌++◌, Option, None, Some, MatchOption, IsTrue, length, is_some}
 use Rattle.std.specs.List.{All}
 use Rattle.std.specs.Option.{option_copied}
 use Rattle.msc_chart.specs.declared.queue.Queues.{Queues}
@@ -13,15 +13,12 @@ use Rattle.msc_ready.specs.BlockedPairs.{IsBlockedPair}
 use Rattle.msc_ready.specs.Views.{blocked_pairs_of, HasAhead}
 use Rattle.msc_reason.specs.Named.{AreEventsOf}
 use Rattle.msc_report.specs.EventTexts.{AreTextsOf}
-use Rattle.msc_report.specs.declared.ready_format.ReadyFormat.{ReadyFormat}
-use Rattle.msc_text.specs.Readying.{again_text, finishes, left_pairs, left_text, lines_of, more_after, ready_text, rest_in, tells_left, AreStickFacts, StickFacts, PrintsAgain, StickTexts}
+use Rattle.msc_text.specs.Readying.{again_text, finishes, is_none_of, left_text, lines_of, more_after, readiness_of, ready_text, rest_in, AreStickFacts, StickFacts, PrintsAgain}
+use Rattle.msc_text.specs.StickFormats.{closing_in}
+use Rattle.msc_text.specs.declared.stick_format.StickFormat.{StickFormat}
 use Rattle.msc_text.specs.declared.readying.ReadyAnswer.{ReadyAnswer}
 use Rattle.msc_text.specs.declared.readying.StickTable.{StickTable}
 use Rattle.msc_text.specs.declared.blocked_pairs.KnownRun.{KnownRun}
-
--- how blocked pairs are printed: these three
-abbrev pub stick_texts : (ℕ × ℕ → List ℕ) → (ℕ × ℕ → List ℕ) → (List ℕ → List ℕ) → StickTexts
-stick_texts bare behind run = record { bare = bare; behind = behind; run = run }
 
 -- a blocked pair of this drawing can be printed with the one that is ahead of it, or with this run
 pub record CanAppendStick (d : Drawing) (blocked_pair : ℕ × ℕ) (ahead : Option (ℕ × ℕ)) (run : Option (List ℕ)) : Type 0 where
@@ -75,18 +72,13 @@ pub record AreBetweenRounds (d : Drawing) (r : ReadyChart) : Type 0 where
   pub runs : ℕ → List ℕ
   pub are_runs : AreBlockedPairRuns (wiring_of r) (ready_in r) runs
 
--- there is no blocked pair between two rounds, if they are asked for
-abbrev pub has_none_between : Drawing → Option StickTable → Bool
-has_none_between d None = true
-has_none_between d (Some two) = nat_eq (length (between_of two.blocked_pairs d)) 0
-
--- no race is left, if those that are left are told
-abbrev pub has_none_left : ReadyChart → Option (List Bool) → StickFacts → Bool
-has_none_left r only k =
-    cond (tells_left only (length (blocked_pairs_of r))) (nat_eq (length (left_pairs r k)) 0) true
+-- how many blocked pairs are between two rounds, if they are asked for
+abbrev pub between_number : Drawing → Option StickTable → Option ℕ
+between_number d None = None
+between_number d (Some two) = Some (length (between_of two.blocked_pairs d))
 
 -- this is the text on the blocked pairs between two rounds, if they are asked for
-abbrev pub IsAgainText : ReadyFormat → Drawing → Option StickTable → ℕ → List ℕ → Type 0
+abbrev pub IsAgainText : StickFormat → Drawing → Option StickTable → ℕ → List ℕ → Type 0
 IsAgainText format d None more text = text ≡ []
 IsAgainText format d (Some two) more text =
     (runs : ℕ → List ℕ) × AreBlockedPairRuns (wiring_of two.blocked_pairs) (ready_in two.blocked_pairs) runs
@@ -95,8 +87,8 @@ IsAgainText format d (Some two) more text =
 -- there is such a text, and it is what is promised
 abbrev pub HasAgainText : Drawing → Queues → Option (List Bool) → Option StickTable → Type 0
 HasAgainText d queues only two =
-    (more : ℕ) (format : ReadyFormat) → (text : List ℕ) × IsAgainText format d two more text
-    × PrintsAgain (is_some two) d queues only more format (has_none_between d two) text
+    (more : ℕ) (format : StickFormat) → (text : List ℕ) × IsAgainText format d two more text
+    × PrintsAgain (is_some two) d queues only more format (between_number d two) text
 
 -- the answer can be printed
 pub record CanPrintReady (answer : ReadyAnswer) : Type 0 where
@@ -116,10 +108,11 @@ pub record IsReadyText (answer : ReadyAnswer) (text : List ℕ) : Type 0 where
   pub again : IsAgainText answer.query.format answer.names.chart.now (option_copied answer.two) (more_after answer.one.now.blocked_pairs answer.query.show known) behind
   pub same : text
       ≡ ready_text answer.query.format answer.one.now.blocked_pairs (option_copied answer.query.only) answer.query.show known
-      ++ rest_in answer.query.format (left_text answer.query.format answer.one.now.blocked_pairs (option_copied answer.query.only) known) behind
+      ++ (rest_in answer.query.format (left_text answer.query.format answer.one.now.blocked_pairs (option_copied answer.query.only) known) behind
+      ++ closing_in answer.query.format (readiness_of answer.one.now.blocked_pairs (option_copied answer.query.only) known (between_number answer.names.chart.now (option_copied answer.two))))
 
 -- and it is answered whether the system finishes, and there is no blocked pair between two rounds
 abbrev pub IsReadyAnswer : ReadyAnswer → Bool → Type 0
 IsReadyAnswer answer passed =
     (k : StickFacts) → AreStickFacts answer.one.now.blocked_pairs k
-    → passed ≡ (finishes answer.one.now.blocked_pairs (option_copied answer.query.only) k && has_none_between answer.names.chart.now (option_copied answer.two))
+    → passed ≡ (finishes answer.one.now.blocked_pairs (option_copied answer.query.only) k && is_none_of (between_number answer.names.chart.now (option_copied answer.two)))

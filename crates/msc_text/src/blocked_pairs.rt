@@ -1,68 +1,43 @@
 //! The rows of blocked pairs, of one round or between two.
 
-ghost use Rattle.std.specs.Prelude.{◌≡◌, ℕ, ◌<◌, List, ◌++◌, None, Some, IfSome, OnOk, option_map};
+ghost use Rattle.std.specs.Prelude.{◌≡◌, ℕ, ◌<◌, List, None, Some, IfSome};
 ghost use Rattle.std.specs.Option.{option_copied};
 ghost use Rattle.msc_ready.specs.Held.{ready_in, wiring_of};
 ghost use Rattle.msc_ready.specs.Running.{AreBlockedPairRuns};
 ghost use Rattle.msc_ready.specs.BlockedPairs.{IsFirstBlockedPair};
 ghost use Rattle.msc_print.specs.Prints.{Prints};
-ghost use Rattle.msc_text.specs.Readying.{after_stick, showing_text, shown_after, shown_run};
-ghost use Rattle.msc_text.specs.Readying.{told_stick};
-ghost use Rattle.msc_text.specs.Readied.{stick_texts, AreKnown, ArePairRuns, AreRuns};
+ghost use Rattle.msc_text.specs.Readying.{after_stick, shown_after, shown_run, told_stick};
+ghost use Rattle.msc_text.specs.Readied.{AreKnown, ArePairRuns, AreRuns};
 ghost use Rattle.msc_text.specs.Readied.{CanAppendStick, CanPrintStick};
 
+use crate::stick_format::{StickFormat, StickNames};
 use msc_chart::Event;
+use msc_findings::FoundStick;
 use msc_print::{Page, Pair, Printer, Rows, Text};
 use msc_ready::BlockedPairs;
 use msc_ready::laws::{each_first_blocked_pair_has_one_run, ready_runs_keep_ready_lines};
-use msc_report::{EventNames, ReadyFormat};
 use std::alloc::{AllocError, Global};
 use std::io::Write;
 
 /// A blocked pair with the one that is ahead of it, or with its run if that is shown.
 #[derive(Drop)]
-struct StickRow<'r, N> {
+struct StickRow<'r, 'f, 'w, N> {
+    alloc: Global,
     names: &'r N,
-    format: ReadyFormat<'r>,
-    blocked_pair: Pair,
-    ahead: Option<Pair>,
-    run: Option<&'r [Event]>,
+    format: StickFormat<'f, 'w>,
+    stick: FoundStick<'r>,
 }
 
-impl<N: EventNames> StickRow<'_, N> {
-    /// Appends what shows the blocked pair.
-    fn print_shown(&self, page: &mut Page) -> Result<(), AllocError>
-        requires { CanAppendStick (N.drawing self.now.names.now) self.now.blocked_pair self.now.ahead
-            (option_copied self.now.run) }
-        ensures { OnOk result (page.new.bytes.items ≡ page.old.bytes.items
-            ++ showing_text (stick_texts (N.stick_text self.now.names.now self.now.format)
-            (N.behind_text self.now.names.now self.now.format)
-            (N.run_lines self.now.names.now self.now.format))
-            self.now.ahead (option_copied self.now.run)) }
-    {
-        if let Some(ahead) = self.ahead {
-            return self.names.print_behind(page, self.format, ahead);
-        }
-        match self.run {
-            Some(run) => self.names.print_run(page, self.format, run),
-            None => Ok(()),
-        }
-    }
-}
+impl<N: StickNames> Text for StickRow<'_, '_, '_, N> {
+    ghost can_append = { λ s. CanAppendStick (N.drawing s.names.now) s.stick.pair s.stick.ahead
+        (option_copied s.stick.run) };
 
-impl<N: EventNames> Text for StickRow<'_, N> {
-    ghost can_append = { λ s. CanAppendStick (N.drawing s.names.now) s.blocked_pair s.ahead
-        (option_copied s.run) };
-
-    ghost bytes = { λ s. N.stick_text s.names.now s.format s.blocked_pair
-        ++ showing_text (stick_texts (N.stick_text s.names.now s.format)
-        (N.behind_text s.names.now s.format) (N.run_lines s.names.now s.format))
-        s.ahead (option_copied s.run) };
+    ghost bytes = { λ s. N.text s.names.now s.format s.stick.pair s.stick.ahead
+        (option_copied s.stick.run) };
 
     fn append(&self, page: &mut Page) -> Result<(), AllocError> {
         self.names
-            .print_blocked_pair(page, self.format, self.blocked_pair)?;
-        self.print_shown(page)
+            .print_stick(self.alloc, page, self.format, self.stick)
     }
 }
 
@@ -90,18 +65,19 @@ fn run_in(known: &[KnownRun], second: Event) -> Option<&[Event]>
 /// The rows of blocked pairs: each with the blocked pair that is ahead of it, or, if it is a first
 /// one, with its run while runs are shown. The count is the number of runs that may still be shown.
 #[derive(Drop)]
-pub(crate) struct StickRows<'r, 'a, N> {
+pub(crate) struct StickRows<'r, 'a, 'w, N> {
     pub blocked_pairs: &'r BlockedPairs<'a>,
     /// For each event the blocked pair that is ahead of those that end with it.
     pub ahead: &'r [Option<Pair>],
     pub names: N,
-    pub format: ReadyFormat<'r>,
+    pub format: StickFormat<'r, 'w>,
 }
 
-impl<N: EventNames> StickRows<'_, '_, N> {
+impl<N: StickNames> StickRows<'_, '_, '_, N> {
     /// Prints a blocked pair with the one that is ahead of it, or with a run.
     fn print_with<W: Write>(
         &self,
+        alloc: Global,
         printer: &mut Printer<'_, W>,
         blocked_pair: Pair,
         ahead: Option<Pair>,
@@ -109,18 +85,18 @@ impl<N: EventNames> StickRows<'_, '_, N> {
     )
         requires { CanAppendStick (N.drawing self.now.names) blocked_pair ahead (option_copied run) }
         ensures { Prints printer.old printer.new
-            (N.stick_text self.now.names self.now.format blocked_pair
-            ++ showing_text (stick_texts (N.stick_text self.now.names self.now.format)
-            (N.behind_text self.now.names self.now.format)
-            (N.run_lines self.now.names self.now.format))
-            ahead (option_copied run.entry)) }
+            (N.text self.now.names self.now.format blocked_pair ahead (option_copied run.entry)) }
     {
-        printer.print_text(&StickRow {
-            names: &self.names,
-            format: self.format,
-            blocked_pair,
+        let stick = FoundStick {
+            pair: blocked_pair,
             ahead,
             run,
+        };
+        printer.print_text(&StickRow {
+            alloc,
+            names: &self.names,
+            format: self.format,
+            stick,
         });
     }
 
@@ -141,21 +117,20 @@ impl<N: EventNames> StickRows<'_, '_, N> {
         ensures known { AreKnown self.now.blocked_pairs.now known.new.items }
         ensures printed { (runs : ℕ → List ℕ)
             → AreBlockedPairRuns (wiring_of self.now.blocked_pairs.now) (ready_in self.now.blocked_pairs.now) runs
-            → Prints printer.old printer.new
-            (N.stick_text self.now.names self.now.format blocked_pair
-            ++ N.run_lines self.now.names self.now.format (runs blocked_pair.1)) }
+            → Prints printer.old printer.new (N.text self.now.names self.now.format blocked_pair None
+            (Some (runs blocked_pair.1))) }
     {
         each_first_blocked_pair_has_one_run();
         ready_runs_keep_ready_lines();
         let ready = self.blocked_pairs.ready();
         ready.facts();
         if let Some(run) = run_in(known.as_slice(), blocked_pair.1) {
-            self.print_with(printer, blocked_pair, None, Some(run));
+            self.print_with(alloc, printer, blocked_pair, None, Some(run));
             return;
         }
         match ready.blocked_pair_run(alloc, blocked_pair.0, blocked_pair.1) {
             Ok(run) => {
-                self.print_with(printer, blocked_pair, None, Some(run.as_slice()));
+                self.print_with(alloc, printer, blocked_pair, None, Some(run.as_slice()));
                 let second = blocked_pair.1;
                 if known.push(KnownRun { second, run }).is_err() {
                     printer.stop();
@@ -184,15 +159,11 @@ impl<N: EventNames> StickRows<'_, '_, N> {
         ensures more { result ≡ shown_after more None }
         ensures printed { (runs : ℕ → List ℕ)
             → AreBlockedPairRuns (wiring_of self.now.blocked_pairs.now) (ready_in self.now.blocked_pairs.now) runs
-            → Prints printer.old printer.new
-            (N.stick_text self.now.names self.now.format blocked_pair
-            ++ showing_text (stick_texts (N.stick_text self.now.names self.now.format)
-            (N.behind_text self.now.names self.now.format)
-            (N.run_lines self.now.names self.now.format))
-            None (shown_run more (runs blocked_pair.1))) }
+            → Prints printer.old printer.new (N.text self.now.names self.now.format blocked_pair None
+            (shown_run more (runs blocked_pair.1))) }
     {
         if more == 0 {
-            self.print_with(printer, blocked_pair, None, None);
+            self.print_with(alloc, printer, blocked_pair, None, None);
             return 0;
         }
         self.print_run(alloc, printer, known, blocked_pair);
@@ -200,15 +171,14 @@ impl<N: EventNames> StickRows<'_, '_, N> {
     }
 }
 
-impl<N: EventNames> Rows for StickRows<'_, '_, N> {
+impl<N: StickNames> Rows for StickRows<'_, '_, '_, N> {
     type Memo = Vec<KnownRun>;
 
     ghost can_print = { λ s p. CanPrintStick s.blocked_pairs.now (N.drawing s.names) s.ahead.now p };
 
     ghost are_runs = { λ s runs. ArePairRuns s.blocked_pairs.now runs };
 
-    ghost row_text = { λ s runs. told_stick (stick_texts (N.stick_text s.names s.format)
-        (N.behind_text s.names s.format) (N.run_lines s.names s.format)) s.ahead.now runs };
+    ghost row_text = { λ s runs. told_stick (N.text s.names s.format) s.ahead.now runs };
 
     ghost after = { λ s. after_stick s.ahead.now };
 
@@ -230,7 +200,7 @@ impl<N: EventNames> Rows for StickRows<'_, '_, N> {
     ) -> u32 {
         match self.ahead[pair.1 as usize] {
             Some(ahead) => {
-                self.print_with(printer, pair, Some(ahead), None);
+                self.print_with(alloc, printer, pair, Some(ahead), None);
                 count
             }
             None => self.print_first(alloc, printer, memo, count, pair),

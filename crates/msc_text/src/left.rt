@@ -1,40 +1,42 @@
 //! The rows of races that are left.
 
 ghost use Rattle.std.specs.Prelude.{◌<◌, length};
-ghost use Rattle.msc_report.specs.ReadyFormats.{ready_left};
+ghost use Rattle.msc_text.specs.StickFormats.{left_race_in};
 
+use crate::stick_format::{StickFormat, print_left_race};
 use msc_print::{Page, Pair, Printer, Rows, Text};
-use msc_report::{OneRound, ReadyFormat};
+use msc_report::OneRound;
 use std::alloc::{AllocError, Global};
 use std::io::Write;
 
 /// A race that is left, in a format.
 #[derive(Clone, Copy)]
-struct LeftRow<'r, 'f> {
+struct LeftRow<'r, 'f, 'w> {
+    alloc: Global,
     names: OneRound<'r>,
-    format: ReadyFormat<'f>,
+    format: StickFormat<'f, 'w>,
     race: Pair,
 }
 
-impl Text for LeftRow<'_, '_> {
+impl Text for LeftRow<'_, '_, '_> {
     ghost can_append = { λ s. (s.race.0 < length s.names.chart.now.events)
         × (s.race.1 < length s.names.chart.now.events) };
 
-    ghost bytes = { λ s. ready_left s.format s.names.chart.now s.race };
+    ghost bytes = { λ s. left_race_in s.format s.names.chart.now s.race };
 
     fn append(&self, page: &mut Page) -> Result<(), AllocError> {
-        self.names.print_left_race(page, self.format, self.race)
+        print_left_race(self.alloc, page, self.names, self.format, self.race)
     }
 }
 
 /// The rows of races that are left. The count stays as it is.
 #[derive(Clone, Copy)]
-pub(crate) struct LeftRows<'r, 'f> {
+pub(crate) struct LeftRows<'r, 'f, 'w> {
     pub names: OneRound<'r>,
-    pub format: ReadyFormat<'f>,
+    pub format: StickFormat<'f, 'w>,
 }
 
-impl Rows for LeftRows<'_, '_> {
+impl Rows for LeftRows<'_, '_, '_> {
     type Memo = ();
 
     ghost can_print = { λ s p. (p.0 < length s.names.chart.now.events)
@@ -42,7 +44,7 @@ impl Rows for LeftRows<'_, '_> {
 
     ghost are_runs = { λ s runs. Unit {0} };
 
-    ghost row_text = { λ s runs n p. ready_left s.format s.names.chart.now p };
+    ghost row_text = { λ s runs n p. left_race_in s.format s.names.chart.now p };
 
     ghost after = { λ s n p. n };
 
@@ -54,13 +56,14 @@ impl Rows for LeftRows<'_, '_> {
 
     fn print_row<W: Write>(
         &self,
-        _alloc: Global,
+        alloc: Global,
         printer: &mut Printer<'_, W>,
         _memo: &mut (),
         count: u32,
         pair: Pair,
     ) -> u32 {
         printer.print_text(&LeftRow {
+            alloc,
             names: self.names,
             format: self.format,
             race: pair,

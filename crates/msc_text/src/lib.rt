@@ -24,6 +24,7 @@ mod left;
 mod listing;
 mod readying;
 mod sources;
+mod stick_format;
 mod text;
 
 pub use explaining::explain_pair;
@@ -31,4 +32,5 @@ pub use following::follow_drawing;
 pub use judging::{ChartFormat, CheckInput, judge_chart, passes_chart};
 pub use listing::list_chart;
 pub use readying::{ReadyQuery, write_ready};
+pub use stick_format::StickFormat;
 pub use text::write_reading;

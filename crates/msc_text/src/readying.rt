@@ -1,6 +1,6 @@
 //! Whether a system of ready instances can stick, in bytes.
 
-ghost use Rattle.std.specs.Prelude.{◌≡◌, ◌<◌, ℕ, ◌&&◌, Bool, List, IfOk, Option, Some, is_some};
+ghost use Rattle.std.specs.Prelude.{◌≡◌, ◌<◌, ℕ, ◌&&◌, Bool, List, IfOk, Ok, Option, Some, is_some};
 ghost use Rattle.std.specs.Prelude.{length, nat_eq};
 ghost use Rattle.std.specs.List.{All};
 ghost use Rattle.std.specs.Option.{option_copied};
@@ -17,13 +17,15 @@ ghost use Rattle.msc_ready.specs.Views.{blocked_pairs_of, HasAhead};
 ghost use Rattle.msc_report.specs.Counts.{ready_tally_line};
 ghost use Rattle.msc_report.specs.EventTexts.{AreTextsOf};
 ghost use Rattle.msc_report.specs.BlockedPairs.{ready_head};
-ghost use Rattle.msc_report.specs.ReadyFormats.{ready_again_count, ready_left_count};
-ghost use Rattle.msc_text.specs.Readying.{again_text, first_in, head_in, left_behind, left_text};
-ghost use Rattle.msc_text.specs.Readying.{lines_of, more_after, once_texts, ready_text, rest_in};
-ghost use Rattle.msc_text.specs.Readying.{told_left, told_sticks};
+ghost use Rattle.msc_text.specs.StickFormats.{again_count_in, again_texts, closing_in};
+ghost use Rattle.msc_text.specs.StickFormats.{left_count_in, once_texts};
+ghost use Rattle.msc_text.specs.Readying.{again_text, first_in, head_in, is_none_of, left_behind};
+ghost use Rattle.msc_text.specs.Readying.{left_number, left_text, lines_of, more_after, plain_head};
+ghost use Rattle.msc_text.specs.Readying.{readiness_of, ready_text, rest_in, told_left};
+ghost use Rattle.msc_text.specs.Readying.{told_sticks};
 ghost use Rattle.msc_text.specs.Readying.{AreStickFacts, StickFacts, PrintsReady};
 ghost use Rattle.msc_text.specs.Judging.{AreItsRounds};
-ghost use Rattle.msc_text.specs.Readied.{has_none_between, has_none_left, AreBetweenRounds};
+ghost use Rattle.msc_text.specs.Readied.{between_number, AreBetweenRounds};
 ghost use Rattle.msc_text.specs.Readied.{AreRoundsOf};
 ghost use Rattle.msc_text.specs.Readied.{AreUnrolled};
 ghost use Rattle.msc_text.specs.Readied.{CanPrintReady, HasAgainText, IsAgainText, IsReadyAnswer};
@@ -32,6 +34,7 @@ ghost use Rattle.msc_text.specs.Readied.{IsReadyOf, IsReadyText};
 use crate::blocked_pairs::StickRows;
 use crate::left::LeftRows;
 use crate::sources::{AllBlockedPairs, BlockedPairsBetween, LeftRaces};
+use crate::stick_format::StickFormat;
 use msc_chart::laws::ends_share_queues;
 use msc_chart::{Chart, Event, Queues, RoundNumbers, Unrolled};
 use msc_print::{Page, Pair, Print, Printer, Text, WriteFault, print_pairs, write_by};
@@ -40,12 +43,13 @@ use msc_ready::{BlockedPairs, Ready, RoundBlockedPairs};
 use msc_report::{
     EventTexts, OneRound, ReadyFormat, RoundNames, write_ready_head, write_ready_tally,
 };
+use msc_wording::SpokenReadiness;
 use std::alloc::{AllocError, Global};
 use std::io::Write;
 
 /// A query on the blocked pairs of a chart.
 #[derive(Clone, Copy)]
-pub struct ReadyQuery<'q> {
+pub struct ReadyQuery<'q, 'w> {
     /// The architecture.
     pub queues: Queues,
     /// Which instances are ready. Without a list, all are.
@@ -53,17 +57,17 @@ pub struct ReadyQuery<'q> {
     /// The number of first blocked pairs for which a run is printed, if the format has runs.
     pub show: u32,
     /// The format of the answer.
-    pub format: ReadyFormat<'q>,
+    pub format: StickFormat<'q, 'w>,
 }
 
-impl<'q> ReadyQuery<'q> {
+impl<'q, 'w> ReadyQuery<'q, 'w> {
     /// A query with these parts.
     pub fn of(
         queues: Queues,
         only: Option<&'q [bool]>,
         show: u32,
-        format: ReadyFormat<'q>,
-    ) -> ReadyQuery<'q>
+        format: StickFormat<'q, 'w>,
+    ) -> ReadyQuery<'q, 'w>
         ensures { result ≡ record {
           queues = queues;
           only = only.entry;
@@ -116,24 +120,34 @@ fn first_in(ahead: &[Option<Pair>], pairs: &[Pair]) -> usize
 }
 
 /// Prints the number of blocked pairs between two rounds, if the format has it.
-fn print_again_count<W: Write>(printer: &mut Printer<'_, W>, format: ReadyFormat<'_>, count: u32)
-    ensures { Prints printer.old printer.new (ready_again_count format.entry count) }
+fn print_again_count<W: Write>(
+    printer: &mut Printer<'_, W>,
+    format: StickFormat<'_, '_>,
+    count: u32,
+)
+    ensures { Prints printer.old printer.new (again_count_in format.entry count) }
 {
     match format {
-        ReadyFormat::Lines(_) => write!(printer, "again {count}\n"),
-        ReadyFormat::Count(_) => {}
-        ReadyFormat::Editor(_) => {}
+        StickFormat::Plain(format) => match format {
+            ReadyFormat::Lines(_) => write!(printer, "again {count}\n"),
+            ReadyFormat::Count(_) => {}
+            ReadyFormat::Editor(_) => {}
+        },
+        StickFormat::Full(_) => {}
     }
 }
 
 /// Prints the number of races that are left, if the format has it.
-fn print_left_count<W: Write>(printer: &mut Printer<'_, W>, format: ReadyFormat<'_>, count: u32)
-    ensures { Prints printer.old printer.new (ready_left_count format.entry count) }
+fn print_left_count<W: Write>(printer: &mut Printer<'_, W>, format: StickFormat<'_, '_>, count: u32)
+    ensures { Prints printer.old printer.new (left_count_in format.entry count) }
 {
     match format {
-        ReadyFormat::Lines(_) => write!(printer, "races {count}\n"),
-        ReadyFormat::Count(_) => {}
-        ReadyFormat::Editor(_) => {}
+        StickFormat::Plain(format) => match format {
+            ReadyFormat::Lines(_) => write!(printer, "races {count}\n"),
+            ReadyFormat::Count(_) => {}
+            ReadyFormat::Editor(_) => {}
+        },
+        StickFormat::Full(_) => {}
     }
 }
 
@@ -210,7 +224,7 @@ impl<'a> StickTable<'a> {
         alloc: Global,
         printer: &mut Printer<'_, W>,
         texts: &EventTexts,
-        format: ReadyFormat<'_>,
+        format: StickFormat<'_, '_>,
         show: u32,
     ) -> Result<u32, AllocError>
         requires ahead { HasAhead self.now.blocked_pairs self.now.ahead.items }
@@ -240,20 +254,18 @@ impl<'a> StickTable<'a> {
         print_pairs(alloc, printer, &pairs, &mut Vec::new(alloc), &rows, show)
     }
 
-    /// Prints the number of races that are left, and then all of them. It returns whether there is
-    /// none.
+    /// Prints the number of races that are left, and then all of them. It returns that number.
     fn print_races<W: Write>(
         &self,
         alloc: Global,
         printer: &mut Printer<'_, W>,
         texts: &EventTexts,
-        format: ReadyFormat<'_>,
-    ) -> Result<bool, AllocError>
+        format: StickFormat<'_, '_>,
+    ) -> Result<u32, AllocError>
         requires { AreTextsOf self.now.blocked_pairs.chart texts.now }
-        ensures none { IfOk result (λ none. (left : ℕ → ℕ → Bool)
+        ensures count { IfOk result (λ count. (left : ℕ → ℕ → Bool)
             → AreLeft (wiring_of self.now.blocked_pairs) (ready_in self.now.blocked_pairs) left
-            → none ≡ nat_eq (length
-            (pairs_of left (length self.now.blocked_pairs.chart.events))) 0) }
+            → count ≡ length (pairs_of left (length self.now.blocked_pairs.chart.events))) }
         ensures printed { (left : ℕ → ℕ → Bool)
             → AreLeft (wiring_of self.now.blocked_pairs) (ready_in self.now.blocked_pairs) left
             → Prints printer.old printer.new (told_left format.entry self.now.blocked_pairs.chart
@@ -271,23 +283,23 @@ impl<'a> StickTable<'a> {
         };
         let rows = LeftRows { names, format };
         print_pairs(alloc, printer, &pairs, &mut Vec::new(alloc), &rows, 0)?;
-        Ok(count == 0)
+        Ok(count)
     }
 
     /// Prints the number of blocked pairs between two rounds, and then all of them, with runs for
-    /// up to `show` first ones. It returns whether there is none.
+    /// up to `show` first ones. It returns that number.
     fn print_between<W: Write>(
         &self,
         alloc: Global,
         printer: &mut Printer<'_, W>,
         names: RoundNames<'_>,
-        format: ReadyFormat<'_>,
+        format: StickFormat<'_, '_>,
         show: u32,
-    ) -> Result<bool, AllocError>
+    ) -> Result<u32, AllocError>
         requires two_rounds { self.now.blocked_pairs.chart ≡ two_rounds names.chart.now }
         requires ahead { HasAhead self.now.blocked_pairs self.now.ahead.items }
-        ensures none { IfOk result (λ none. none
-            ≡ nat_eq (length (between_of self.now.blocked_pairs names.entry.chart.now)) 0) }
+        ensures count { IfOk result (λ count. count
+            ≡ length (between_of self.now.blocked_pairs names.entry.chart.now)) }
         ensures printed { (runs : ℕ → List ℕ)
             → AreBlockedPairRuns (wiring_of self.now.blocked_pairs) (ready_in self.now.blocked_pairs) runs
             → Prints printer.old printer.new (again_text format.entry names.entry.chart.now
@@ -308,7 +320,7 @@ impl<'a> StickTable<'a> {
             format,
         };
         print_pairs(alloc, printer, &pairs, &mut Vec::new(alloc), &rows, show)?;
-        Ok(count == 0)
+        Ok(count)
     }
 }
 
@@ -388,18 +400,80 @@ impl Text for ReadyTally<'_> {
     }
 }
 
-/// Whether a system with `count` blocked pairs passes, if no race is left and no blocked pair is
-/// between two rounds.
-fn passes(count: u32, none_left: bool, none_between: bool) -> bool
-    ensures { result ≡ ((nat_eq count 0 && none_left) && none_between) }
+/// What closes findings for people; other formats have nothing there.
+#[derive(Clone, Copy)]
+struct ReadyClosing<'f, 'w> {
+    alloc: Global,
+    format: StickFormat<'f, 'w>,
+    readiness: SpokenReadiness,
+}
+
+impl Text for ReadyClosing<'_, '_> {
+    ghost can_append = { λ s. Unit {0} };
+
+    ghost bytes = { λ s. closing_in s.format s.readiness };
+
+    fn append(&self, page: &mut Page) -> Result<(), AllocError> {
+        match self.format {
+            StickFormat::Plain(_) => Ok(()),
+            StickFormat::Full(format) => format.print_readiness(self.alloc, page, self.readiness),
+        }
+    }
+}
+
+/// This number, if there is one.
+fn number_of(number: Option<u32>) -> Option<usize>
+    ensures { result ≡ number }
 {
-    count == 0 && none_left && none_between
+    match number {
+        Some(number) => Some(number as usize),
+        None => None,
+    }
+}
+
+/// Whether there is none of these, if they were counted.
+fn is_none_of(number: Option<u32>) -> bool
+    ensures { result ≡ is_none_of number }
+{
+    match number {
+        Some(number) => number == 0,
+        None => true,
+    }
+}
+
+/// What was found besides the blocked pairs of a chart.
+#[derive(Clone, Copy)]
+struct Rest {
+    /// The number of races that are left, if they were counted.
+    left: Option<u32>,
+    /// The number of blocked pairs between two rounds, if they were counted.
+    between: Option<u32>,
+}
+
+/// Both numbers, if memory did not run out.
+fn rest_of(
+    left: Result<Option<u32>, AllocError>,
+    between: Result<Option<u32>, AllocError>,
+) -> Result<Rest, AllocError>
+    ensures { IfOk result (λ rest. (left ≡ Ok rest.left) × (between ≡ Ok rest.between)) }
+{
+    match (left, between) {
+        (Ok(left), Ok(between)) => Ok(Rest { left, between }),
+        _ => Err(AllocError),
+    }
+}
+
+/// Whether a system with `count` blocked pairs passes.
+fn passes(count: u32, rest: Rest) -> bool
+    ensures { result ≡ ((nat_eq count 0 && is_none_of rest.left) && is_none_of rest.between) }
+{
+    count == 0 && is_none_of(rest.left) && is_none_of(rest.between)
 }
 
 /// The answer to a query: the table of the chart, that of its two rounds if the query includes
 /// them, and whether some ready run is whole.
 #[derive(Clone, Copy)]
-struct ReadyAnswer<'r, 'a, 's, 'b, 'n, 'q> {
+struct ReadyAnswer<'r, 'a, 's, 'b, 'n, 'q, 'w> {
     one: &'r StickTable<'a>,
     /// The texts of the events of the chart.
     texts: &'r EventTexts,
@@ -408,18 +482,23 @@ struct ReadyAnswer<'r, 'a, 's, 'b, 'n, 'q> {
     /// The number of blocked pairs of the chart.
     count: u32,
     may: bool,
-    query: ReadyQuery<'q>,
+    query: ReadyQuery<'q, 'w>,
 }
 
-impl ReadyAnswer<'_, '_, '_, '_, '_, '_> {
-    /// Prints what precedes the blocked pairs. If memory runs out, the printer stops.
-    fn print_head<W: Write>(&self, alloc: Global, printer: &mut Printer<'_, W>)
+impl ReadyAnswer<'_, '_, '_, '_, '_, '_, '_> {
+    /// Prints what precedes the blocked pairs in this format. If memory runs out, the printer stops.
+    fn print_plain_head<W: Write>(
+        &self,
+        alloc: Global,
+        printer: &mut Printer<'_, W>,
+        format: ReadyFormat<'_>,
+    )
         requires { CanPrintReady self.now }
         ensures { (k : StickFacts) → k.ahead ≡ self.now.one.now.ahead.items → k.may ≡ self.now.may
-            → Prints printer.old printer.new (head_in self.now.query.format
+            → Prints printer.old printer.new (plain_head format.entry
             self.now.one.now.blocked_pairs (option_copied self.now.query.only) k) }
     {
-        match self.query.format {
+        match format {
             ReadyFormat::Lines(_) => printer.print_text(&ReadyHead {
                 ready: self.one.blocked_pairs.ready(),
                 only: self.query.only,
@@ -438,17 +517,29 @@ impl ReadyAnswer<'_, '_, '_, '_, '_, '_> {
         }
     }
 
-    /// Prints the races that are left, if they are printed. It returns whether none of these is
-    /// left.
+    /// Prints what precedes the blocked pairs. If memory runs out, the printer stops.
+    fn print_head<W: Write>(&self, alloc: Global, printer: &mut Printer<'_, W>)
+        requires { CanPrintReady self.now }
+        ensures { (k : StickFacts) → k.ahead ≡ self.now.one.now.ahead.items → k.may ≡ self.now.may
+            → Prints printer.old printer.new (head_in self.now.query.format
+            self.now.one.now.blocked_pairs (option_copied self.now.query.only) k) }
+    {
+        match self.query.format {
+            StickFormat::Plain(format) => self.print_plain_head(alloc, printer, format),
+            StickFormat::Full(_) => {}
+        }
+    }
+
+    /// Prints the races that are left, if they are printed. It returns how many there are then.
     fn print_left<W: Write>(
         &self,
         alloc: Global,
         printer: &mut Printer<'_, W>,
-    ) -> Result<bool, AllocError>
+    ) -> Result<Option<u32>, AllocError>
         requires { CanPrintReady self.now }
-        ensures none { IfOk result (λ none. (k : StickFacts)
+        ensures count { IfOk result (λ left. (k : StickFacts)
             → AreStickFacts self.now.one.now.blocked_pairs k
-            → none ≡ has_none_left self.now.one.now.blocked_pairs
+            → left ≡ left_number self.now.one.now.blocked_pairs
             (option_copied self.now.query.only) k) }
         ensures printed { (k : StickFacts) → AreStickFacts self.now.one.now.blocked_pairs k
             → Prints printer.old printer.new (left_text self.now.query.format
@@ -456,48 +547,51 @@ impl ReadyAnswer<'_, '_, '_, '_, '_, '_> {
     {
         if self.count == 0 && self.query.only.is_some() {
             let format = self.query.format;
-            return self.one.print_races(alloc, printer, self.texts, format);
+            let count = self.one.print_races(alloc, printer, self.texts, format)?;
+            return Ok(Some(count));
         }
-        Ok(true)
+        Ok(None)
     }
 
     /// Prints the answer on two rounds, if the query includes them, with up to `more` runs. It
-    /// returns whether there is no blocked pair between them.
+    /// returns how many blocked pairs are between them then.
     fn print_again<W: Write>(
         &self,
         alloc: Global,
         printer: &mut Printer<'_, W>,
         more: u32,
-    ) -> Result<bool, AllocError>
+    ) -> Result<Option<u32>, AllocError>
         requires { CanPrintReady self.now }
-        ensures none { IfOk result (λ none. none
-            ≡ has_none_between self.now.names.chart.now (option_copied self.now.two)) }
+        ensures count { IfOk result (λ between. between
+            ≡ between_number self.now.names.chart.now (option_copied self.now.two)) }
         ensures printed { (text : List ℕ) → IsAgainText self.now.query.format
             self.now.names.chart.now (option_copied self.now.two) more text
             → Prints printer.old printer.new text }
     {
-        match self.two {
-            Some(two) => two.print_between(alloc, printer, self.names, self.query.format, more),
-            None => Ok(true),
-        }
+        let Some(two) = self.two else {
+            return Ok(None);
+        };
+        let format = self.query.format;
+        let count = two.print_between(alloc, printer, self.names, format, more)?;
+        Ok(Some(count))
     }
 
     /// Prints what follows the blocked pairs of the chart, with up to `more` runs: the races that
-    /// are left and the answer on two rounds, in the order of the format. It returns whether no
-    /// race is left, and whether no blocked pair is between two rounds.
+    /// are left and the answer on two rounds, in the order of the format. It returns how many races
+    /// are left, and how many blocked pairs are between two rounds, if these were counted.
     fn print_rest<W: Write>(
         &self,
         alloc: Global,
         printer: &mut Printer<'_, W>,
         more: u32,
-    ) -> (Result<bool, AllocError>, Result<bool, AllocError>)
+    ) -> Result<Rest, AllocError>
         requires { CanPrintReady self.now }
-        ensures left { IfOk result.0 (λ none. (k : StickFacts)
+        ensures left { IfOk result (λ rest. (k : StickFacts)
             → AreStickFacts self.now.one.now.blocked_pairs k
-            → none ≡ has_none_left self.now.one.now.blocked_pairs
+            → rest.left ≡ left_number self.now.one.now.blocked_pairs
             (option_copied self.now.query.only) k) }
-        ensures between { IfOk result.1 (λ none. none
-            ≡ has_none_between self.now.names.chart.now (option_copied self.now.two)) }
+        ensures between { IfOk result (λ rest. rest.between
+            ≡ between_number self.now.names.chart.now (option_copied self.now.two)) }
         ensures printed { (k : StickFacts) (text : List ℕ)
             → AreStickFacts self.now.one.now.blocked_pairs k
             → IsAgainText self.now.query.format self.now.names.chart.now
@@ -509,11 +603,33 @@ impl ReadyAnswer<'_, '_, '_, '_, '_, '_> {
         if self.query.format.left_comes_last() {
             let between = self.print_again(alloc, printer, more);
             let left = self.print_left(alloc, printer);
-            return (left, between);
+            return rest_of(left, between);
         }
         let left = self.print_left(alloc, printer);
         let between = self.print_again(alloc, printer, more);
-        (left, between)
+        rest_of(left, between)
+    }
+
+    /// Prints what closes the answer, with these numbers.
+    fn print_closing<W: Write>(&self, alloc: Global, printer: &mut Printer<'_, W>, rest: Rest)
+        ensures { Prints printer.old printer.new (closing_in self.now.query.format (record {
+          blocked = self.now.count;
+          between = rest.between;
+          finishes = self.now.may;
+          left = rest.left;
+        })) }
+    {
+        let readiness = SpokenReadiness {
+            blocked: self.count as usize,
+            between: number_of(rest.between),
+            finishes: self.may,
+            left: number_of(rest.left),
+        };
+        printer.print_text(&ReadyClosing {
+            alloc,
+            format: self.query.format,
+            readiness,
+        });
     }
 
     /// Prints all that comes before what `print_rest` prints. It returns how many more runs may be
@@ -539,7 +655,7 @@ impl ReadyAnswer<'_, '_, '_, '_, '_, '_> {
     }
 }
 
-impl Print for ReadyAnswer<'_, '_, '_, '_, '_, '_> {
+impl Print for ReadyAnswer<'_, '_, '_, '_, '_, '_, '_> {
     ghost can_print = { CanPrintReady };
 
     ghost is_text = { IsReadyText };
@@ -552,10 +668,16 @@ impl Print for ReadyAnswer<'_, '_, '_, '_, '_, '_> {
         printer: &mut Printer<'_, W>,
     ) -> Result<bool, AllocError> {
         match self.print_once(alloc, printer) {
-            Ok(more) => {
-                let (left, between) = self.print_rest(alloc, printer, more);
-                Ok(passes(self.count, left?, between?))
-            }
+            Ok(more) => match self.print_rest(alloc, printer, more) {
+                Ok(rest) => {
+                    self.print_closing(alloc, printer, rest);
+                    Ok(passes(self.count, rest))
+                }
+                Err(_) => {
+                    printer.stop();
+                    Err(AllocError)
+                }
+            },
             Err(_) => {
                 printer.stop();
                 Err(AllocError)
@@ -569,9 +691,10 @@ impl Print for ReadyAnswer<'_, '_, '_, '_, '_, '_> {
 /// which the system has stuck; any other names the blocked pair that is ahead of it. With a list of
 /// ready instances, the answer is about these, and if there is no blocked pair, the races that are
 /// left follow. With two rounds of the chart, the blocked pairs between these follow in the same
-/// way, with the runs that `show` leaves; in lines for editors they precede races that are left. A
-/// count has neither: it is of the blocked pairs of one round. Returns whether there is no blocked
-/// pair, and, with a list, no race is left.
+/// way, with the runs that `show` leaves; in lines for editors and in findings for people they precede
+/// races that are left. A count has neither: it is of the blocked pairs of one round. Findings for
+/// people are closed by a line with what was found. Returns whether there is no blocked pair, and,
+/// with a list, no race is left.
 ///
 /// After `Memory` a beginning of the answer may have been written. `Device` says that a write
 /// failed.
@@ -579,7 +702,7 @@ pub fn write_ready<W: Write>(
     alloc: Global,
     chart: &Chart,
     rounds: Option<&Unrolled<'_>>,
-    query: ReadyQuery<'_>,
+    query: ReadyQuery<'_, '_>,
     writer: &mut W,
 ) -> Result<bool, WriteFault>
     requires lines { (l : List Bool) → option_copied query.only ≡ Some l

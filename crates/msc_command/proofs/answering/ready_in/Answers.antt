@@ -25,9 +25,9 @@ returns-in_err-finishes g c = λ file its.
     let d = c.args.source.now.chart in
     let of_query = subst (λ (q : ReadyQuery). Tells g.O.Write.contents (PrintsReady c.chart.result.now q.queues (option_copied q.only) (is_some c.args.rounds) q.show q.format) (Err c.in_err-finishes.field-0.0) c.args.output.now c.write_ready.new.writer)
     c.of-query.ensures c.in_err-finishes.ensures in
-    let told = subst (λ (d : Drawing). Tells g.O.Write.contents (PrintsReady d x.queues (option_copied c.args.only) (is_some c.args.rounds) x.show c.args.ready_format) (Err c.in_err-finishes.field-0.0) c.args.output.now c.write_ready.new.writer)
+    let told = subst (λ (d : Drawing). Tells g.O.Write.contents (PrintsReady d x.queues (option_copied c.args.only) (is_some c.args.rounds) x.show c.args.stick_format) (Err c.in_err-finishes.field-0.0) c.args.output.now c.write_ready.new.writer)
     c.chart.ensures of_query in
-    rw (p.1, p.2) (not_readied g.O.Write.contents x file c.args.source.now _ c.requires.only c.args.ready_format its
+    rw (p.1, p.2) (not_readied g.O.Write.contents x file c.args.source.now _ c.requires.only c.args.stick_format its
     (has_room x.again d c.args.rounds c.requires.rounds) _ (rounds_given x.again d c.args.rounds c.requires.rounds) _ _ _ told)
 
 pub returns : goal.returns
@@ -36,7 +36,7 @@ returns g c = λ file its.
     let d = c.args.source.now.chart in
     let of_query = subst (λ (q : ReadyQuery). Tells g.O.Write.contents (PrintsReady c.chart.result.now q.queues (option_copied q.only) (is_some c.args.rounds) q.show q.format) (Ok c.in_ok-finishes.finishes) c.args.output.now c.write_ready.new.writer)
     c.of-query.ensures c.in_ok-finishes.ensures in
-    let told = subst (λ (d : Drawing). Tells g.O.Write.contents (PrintsReady d x.queues (option_copied c.args.only) (is_some c.args.rounds) x.show c.args.ready_format) (Ok c.in_ok-finishes.finishes) c.args.output.now c.write_ready.new.writer)
+    let told = subst (λ (d : Drawing). Tells g.O.Write.contents (PrintsReady d x.queues (option_copied c.args.only) (is_some c.args.rounds) x.show c.args.stick_format) (Ok c.in_ok-finishes.finishes) c.args.output.now c.write_ready.new.writer)
     c.chart.ensures of_query in
-    rw c.ended_by.ensures (readied g.O.Write.contents x file c.args.source.now _ c.requires.only c.args.ready_format its
+    rw c.ended_by.ensures (readied g.O.Write.contents x file c.args.source.now _ c.requires.only c.args.stick_format its
     (has_room x.again d c.args.rounds c.requires.rounds) _ (rounds_given x.again d c.args.rounds c.requires.rounds) _ _ _ told)

@@ -1,11 +1,12 @@
-use Rattle.std.proofs.Common.{ℕ, List, ◌++◌, ◌&&◌, is_some, sym, ap, ◌∙◌, subst, length}
+use Rattle.std.proofs.Common.{ℕ, List, Option, ◌++◌, ◌&&◌, is_some, sym, ap, ap₂, ◌∙◌, subst, length}
 use Rattle.std.specs.Option.{option_copied}
 use Rattle.std.proofs.lemmas.Result.{IfOk-weaker}
 use Rattle.msc_chart.specs.Drawings.{Drawing}
-use Rattle.msc_report.specs.ReadyFormats.{runs_shown}
-use Rattle.msc_text.specs.Readied.{has_none_between, IsAgainText}
-use Rattle.msc_text.specs.Readying.{finishes, left_text, more_after, ready_text, rest_in, PrintsReady}
+use Rattle.msc_text.specs.StickFormats.{closing_in, runs_in}
+use Rattle.msc_text.specs.Readied.{between_number, IsAgainText}
+use Rattle.msc_text.specs.Readying.{finishes, is_none_of, left_text, more_after, readiness_of, ready_text, rest_in, PrintsReady}
 use Rattle.msc_text.proofs.Readied.{known_so, prints, rounds_unrolled, tells}
+use Rattle.msc_text.specs.declared.readying.StickTable.{StickTable}
 use Rattle.msc_text.proofs.readying.write_ready.Goals as goal
 
 pub round_facts-requires : goal.round_facts-requires
@@ -29,7 +30,7 @@ returns g c =
     let d = c.args.chart.now in
     let query = c.args.query in
     let only = option_copied query.only in
-    let shown : ℕ = runs_shown query.format query.show in
+    let shown : ℕ = runs_in query.format query.show in
     let table = c.in_ok-one.one in
     let r = table.blocked_pairs in
     let two = c.in_ok-two.two in
@@ -38,11 +39,13 @@ returns g c =
     let may = rw c.ready-ready.ensures at c.in_ok-may.ensures in
     let k = known_so r accepted c.each_first_blocked_pair_has_one_run.ensures.exists c.races_left_are_told.ensures c.in_ok-may.may may table.ahead.items c.in_ok-one.ensures.ahead.ahead in
     let again = c.round_facts.ensures query.queues only (c.in_ok-two.ensures.rounds d c.requires.rounds) (more_after r shown k.0) query.format in
-    let right = finishes r only k.0 && has_none_between d two in
-    let text : List ℕ = ready_text query.format r only shown k.0 ++ rest_in query.format (left_text query.format r only k.0) again.0 in
+    let between = between_number d two in
+    let right = finishes r only k.0 && is_none_of between in
+    let closing : List ℕ = closing_in query.format (readiness_of r only k.0 between) in
+    let text : List ℕ = ready_text query.format r only shown k.0 ++ (rest_in query.format (left_text query.format r only k.0) again.0 ++ closing) in
     let behind = rw c.in_ok-two.ensures.some at again.2 in
     tells g.W.Write.contents (PrintsReady d query.queues only (is_some c.args.rounds) query.show query.format) c.write_by.result c.args.writer.now c.write_by.new.writer right text
-    (prints d query.queues only (is_some c.args.rounds) query.show query.format r k.0 c.in_ok-one.ensures.of accepted visual c.facts.ensures k.1 (has_none_between d two) again.0 behind)
+    (prints d query.queues only (is_some c.args.rounds) query.show query.format r k.0 c.in_ok-one.ensures.of accepted visual c.facts.ensures k.1 between again.0 behind)
     (IfOk-weaker c.write_by.result _ _ (λ a is. rw c.as_ref-both.ensures.value at (is k.0 k.1)) c.write_by.ensures.answer)
     (c.write_by.ensures.written text (record {
       known = k.0;
@@ -51,5 +54,7 @@ returns g c =
       may = k.3;
       behind = again.0;
       again = rw c.as_ref-both.ensures.value (subst (λ (n : ℕ). IsAgainText query.format d two (more_after r n k.0) again.0) (sym c.runs_shown-show.ensures) again.1);
-      same = ap (λ (n : ℕ). ready_text query.format r only n k.0 ++ rest_in query.format (left_text query.format r only k.0) again.0) (sym c.runs_shown-show.ensures);
+      same = ap₂ (λ (n : ℕ) (t : Option StickTable). ready_text query.format r only n k.0
+          ++ (rest_in query.format (left_text query.format r only k.0) again.0 ++ closing_in query.format (readiness_of r only k.0 (between_number d t))))
+          (sym c.runs_shown-show.ensures) (sym c.as_ref-both.ensures.value);
     }))

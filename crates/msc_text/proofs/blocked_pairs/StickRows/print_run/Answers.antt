@@ -1,4 +1,4 @@
-use Rattle.std.proofs.Common.{◌≡◌, ◌++◌, ℕ, List, [], sym, ◌∙◌, subst}
+use Rattle.std.proofs.Common.{◌≡◌, ℕ, List, [], None, Some, sym, ◌∙◌, subst}
 use Rattle.std.proofs.lemmas.List.{append-nil}
 use Rattle.msc_print.specs.Prints.{Prints}
 use Rattle.msc_print.proofs.PrintLemmas.{prints_then}
@@ -16,7 +16,7 @@ print_with-requires g c =
     let accepted = rw c.ready-ready.ensures at c.facts.ensures.chart in
     let law = c.each_first_blocked_pair_has_one_run.ensures.exists r.queues r.chart accepted (ready_in r) in
     let its = c.in-Some.ensures law.0 (subst (AreRuns law.0) (sym c.as_slice.ensures.value) (c.requires.known law.0 law.1)) in
-    with_run r (g.N.EventNames.drawing self.names) self.ahead.now c.args.blocked_pair c.requires.pair c.in-Some.run'.now
+    with_run r (g.N.StickNames.drawing self.names) self.ahead.now c.args.blocked_pair c.requires.pair c.in-Some.run'.now
     (subst (AreEventsOf r.chart) (sym its)
     (shown_events r c.ready_runs_keep_ready_lines.ensures.lines c.args.blocked_pair.0 c.args.blocked_pair.1 (law.0 c.args.blocked_pair.1) (law.1 c.args.blocked_pair.0 c.args.blocked_pair.1 c.requires.blocked_pair)))
 
@@ -25,14 +25,14 @@ returns-in-Some-clause-printed g c runs are =
     let self = c.args.self.now in
     let its = c.in-Some.ensures runs (subst (AreRuns runs) (sym c.as_slice.ensures.value) (c.requires.known runs are)) in
     subst (λ (run : List ℕ). Prints c.args.printer.now c.print_with.new.printer
-    (g.N.EventNames.stick_text self.names self.format c.args.blocked_pair ++ g.N.EventNames.run_lines self.names self.format run)) its c.print_with.ensures
+    (g.N.StickNames.text self.names self.format c.args.blocked_pair None (Some run))) its c.print_with.ensures
 
 pub print_with-requires-in-Ok : goal.print_with-requires-in-Ok
 print_with-requires-in-Ok g c =
     let self = c.args.self.now in
     let r = self.blocked_pairs.now in
     let is = rw c.ready-ready.ensures at c.in-Ok.ensures in
-    with_run r (g.N.EventNames.drawing self.names) self.ahead.now c.args.blocked_pair c.requires.pair c.as_slice-in-Ok.result.now
+    with_run r (g.N.StickNames.drawing self.names) self.ahead.now c.args.blocked_pair c.requires.pair c.as_slice-in-Ok.result.now
     (subst (AreEventsOf r.chart) (sym c.as_slice-in-Ok.ensures.value)
     (shown_events r c.ready_runs_keep_ready_lines.ensures.lines c.args.blocked_pair.0 c.args.blocked_pair.1 c.in-Ok.run'.items is))
 
@@ -62,7 +62,7 @@ returns-then-is_err-clause-printed g c runs are =
     let e : ℕ = c.args.blocked_pair.0 in
     let f : ℕ = c.args.blocked_pair.1 in
     let own = c.each_first_blocked_pair_has_one_run.ensures.unique r.queues r.chart (ready_in r) e e f c.in-Ok.run'.items (runs f) is (are e f c.requires.blocked_pair) in
-    let text : List ℕ → List ℕ = λ run. g.N.EventNames.stick_text self.names self.format c.args.blocked_pair ++ g.N.EventNames.run_lines self.names self.format run in
+    let text : List ℕ → List ℕ = λ run. g.N.StickNames.text self.names self.format c.args.blocked_pair None (Some run) in
     let put = subst (λ (run : List ℕ). Prints c.args.printer.now c.print_with-in-Ok.new.printer (text run)) (c.as_slice-in-Ok.ensures.value ∙ own) c.print_with-in-Ok.ensures in
     subst (Prints c.args.printer.now c.stop.new.self) (append-nil (text (runs f)))
     (prints_then c.args.printer.now c.print_with-in-Ok.new.printer c.stop.new.self (text (runs f)) [] put (c.stop.ensures []))

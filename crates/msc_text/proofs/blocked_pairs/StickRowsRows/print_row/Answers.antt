@@ -6,7 +6,7 @@ use Rattle.msc_text.proofs.blocked_pairs.StickRowsRows.print_row.Goals as goal
 pub bounds : goal.bounds
 bounds g c =
     let self = c.args.self.now in
-    let below = second_below self.blocked_pairs.now (g.N.EventNames.drawing self.names) self.ahead.now c.args.pair c.requires.pair in
+    let below = second_below self.blocked_pairs.now (g.N.StickNames.drawing self.names) self.ahead.now c.args.pair c.requires.pair in
     let each = c.requires.pair.has_ahead.each in
     omega (arith, below, each)
 
@@ -14,7 +14,7 @@ pub print_with-requires : goal.print_with-requires
 print_with-requires g c =
     let self = c.args.self.now in
     let r = self.blocked_pairs.now in
-    let d = g.N.EventNames.drawing self.names in
+    let d = g.N.StickNames.drawing self.names in
     let below = second_below r d self.ahead.now c.args.pair c.requires.pair in
     with_ahead r d self.ahead.now c.args.pair c.requires.pair c.in-Some.ahead
     (subst (IsAheadOf r c.args.pair.1) c.in-Some.is (c.requires.pair.has_ahead.ahead c.args.pair.1 below))
@@ -23,5 +23,5 @@ pub print_first-requires-clause-blocked_pair : goal.print_first-requires-clause-
 print_first-requires-clause-blocked_pair g c =
     let self = c.args.self.now in
     let r = self.blocked_pairs.now in
-    let below = second_below r (g.N.EventNames.drawing self.names) self.ahead.now c.args.pair c.requires.pair in
+    let below = second_below r (g.N.StickNames.drawing self.names) self.ahead.now c.args.pair c.requires.pair in
     record { blocked_pair = c.requires.pair.blocked_pair; none_ahead = subst (IsAheadOf r c.args.pair.1) c.in-None.is (c.requires.pair.has_ahead.ahead c.args.pair.1 below) }

@@ -3,7 +3,8 @@ use Rattle.std.specs.Option.{option_copied}
 use Rattle.msc_print.specs.Prints.{Prints}
 use Rattle.msc_print.proofs.PrintLemmas.{prints_then}
 use Rattle.msc_ready.specs.Views.{blocked_pairs_of}
-use Rattle.msc_text.specs.Readying.{head_in, once_texts, told_sticks}
+use Rattle.msc_text.specs.Readying.{head_in, told_sticks}
+use Rattle.msc_text.specs.StickFormats.{once_texts}
 use Rattle.msc_text.proofs.readying.ReadyAnswer.print_once.Goals as goal
 
 pub returns-clause-printed : goal.returns-clause-printed

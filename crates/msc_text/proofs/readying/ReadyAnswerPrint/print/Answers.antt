@@ -1,45 +1,41 @@
-use Rattle.std.proofs.Common.{ℕ, Bool, ◌&&◌, nat_eq, ap₂, ◌∙◌, sym, subst}
+use Rattle.std.proofs.Common.{ℕ, Bool, Option, ◌&&◌, nat_eq, ap, ap₂, ◌∙◌, sym, subst}
 use Rattle.std.specs.Option.{option_copied}
-use Rattle.msc_text.specs.Readied.{IsAgainText}
-use Rattle.msc_text.specs.Readying.{left_text, rest_in}
-use Rattle.msc_text.proofs.Readied.{answer_prints, finishes_so}
+use Rattle.msc_text.specs.Readied.{between_number, IsAgainText}
+use Rattle.msc_text.specs.Readying.{is_none_of}
+use Rattle.msc_text.proofs.Readied.{answer_begins, answer_prints, closing_prints, finishes_so}
 use Rattle.msc_text.proofs.readying.ReadyAnswerPrint.print.Goals as goal
 
-pub returns-in_err-left-in-Ok-clause-printed : goal.returns-in_err-left-in-Ok-clause-printed
-returns-in_err-left-in-Ok-clause-printed g c text is =
+pub returns-in-Ok-print_rest-clause-printed : goal.returns-in-Ok-print_rest-clause-printed
+returns-in-Ok-print_rest-clause-printed g c text is =
     let self = c.args.self.now in
-    answer_prints c.args.printer.now c.print_once.new.printer c.print_rest-left.new.printer self text is
+    let found = c.in-Ok-print_rest.ensures in
+    answer_prints c.args.printer.now c.print_once.new.printer c.print_rest.new.printer c.print_closing.new.printer self text is
     (c.print_once.ensures.printed is.known is.is is.ahead is.may)
-    (c.print_rest-left.ensures.printed is.known is.behind is.is (subst (λ (m : ℕ). IsAgainText self.query.format self.names.chart.now (option_copied self.two) m is.behind)
+    (c.print_rest.ensures.printed is.known is.behind is.is (subst (λ (m : ℕ). IsAgainText self.query.format self.names.chart.now (option_copied self.two) m is.behind)
     (sym (c.in-Ok.ensures.more is.known is.ahead)) is.again))
+    (closing_prints c.print_rest.new.printer c.print_closing.new.printer self.query.format self.one.now.blocked_pairs (option_copied self.query.only) is.known
+    (between_number self.names.chart.now (option_copied self.two)) _ c.requires.count found.between (sym is.may) (found.left is.known is.is) c.print_closing.ensures)
 
-pub returns-in_err-between-in-Ok-clause-printed : goal.returns-in_err-between-in-Ok-clause-printed
-returns-in_err-between-in-Ok-clause-printed g c text is =
+pub returns-in-Ok-print_rest-clause-answer : goal.returns-in-Ok-print_rest-clause-answer
+returns-in-Ok-print_rest-clause-answer g c k is =
     let self = c.args.self.now in
-    answer_prints c.args.printer.now c.print_once.new.printer c.print_rest-left.new.printer self text is
-    (c.print_once.ensures.printed is.known is.is is.ahead is.may)
-    (c.print_rest-left.ensures.printed is.known is.behind is.is (subst (λ (m : ℕ). IsAgainText self.query.format self.names.chart.now (option_copied self.two) m is.behind)
-    (sym (c.in-Ok.ensures.more is.known is.ahead)) is.again))
-
-pub returns-in_ok-between-in-Ok-clause-printed : goal.returns-in_ok-between-in-Ok-clause-printed
-returns-in_ok-between-in-Ok-clause-printed g c text is =
-    let self = c.args.self.now in
-    answer_prints c.args.printer.now c.print_once.new.printer c.print_rest-left.new.printer self text is
-    (c.print_once.ensures.printed is.known is.is is.ahead is.may)
-    (c.print_rest-left.ensures.printed is.known is.behind is.is (subst (λ (m : ℕ). IsAgainText self.query.format self.names.chart.now (option_copied self.two) m is.behind)
-    (sym (c.in-Ok.ensures.more is.known is.ahead)) is.again))
-
-pub returns-in_ok-between-in-Ok-clause-answer : goal.returns-in_ok-between-in-Ok-clause-answer
-returns-in_ok-between-in-Ok-clause-answer g c k is =
-    let self = c.args.self.now in
-    let left = rw c.in_ok-left-in-Ok.was at c.print_rest-left.ensures.left in
-    let between = rw c.in_ok-between-in-Ok.was at c.print_rest-left.ensures.between in
+    let found = c.in-Ok-print_rest.ensures in
     c.passes.ensures ∙ ap₂ (λ (a b : Bool). a && b)
-    (ap₂ (λ (n : ℕ) (none : Bool). nat_eq n 0 && none) c.requires.count (left k is) ∙ finishes_so self.one.now.blocked_pairs (option_copied self.query.only) k) between
+    (ap₂ (λ (n : ℕ) (left : Option ℕ). nat_eq n 0 && is_none_of left) c.requires.count (found.left k is) ∙ finishes_so self.one.now.blocked_pairs (option_copied self.query.only) k)
+    (ap is_none_of found.between)
+
+pub returns-in-Err-print_rest-clause-printed : goal.returns-in-Err-print_rest-clause-printed
+returns-in-Err-print_rest-clause-printed g c text is =
+    let self = c.args.self.now in
+    answer_prints c.args.printer.now c.print_once.new.printer c.print_rest.new.printer c.stop.new.self self text is
+    (c.print_once.ensures.printed is.known is.is is.ahead is.may)
+    (c.print_rest.ensures.printed is.known is.behind is.is (subst (λ (m : ℕ). IsAgainText self.query.format self.names.chart.now (option_copied self.two) m is.behind)
+    (sym (c.in-Ok.ensures.more is.known is.ahead)) is.again))
+    (c.stop.ensures _)
 
 pub returns-in-Err-clause-printed : goal.returns-in-Err-clause-printed
 returns-in-Err-clause-printed g c text is =
     let self = c.args.self.now in
-    answer_prints c.args.printer.now c.print_once.new.printer c.stop.new.self self text is
+    answer_begins c.args.printer.now c.print_once.new.printer c.stop-in-Err.new.self self text is
     (c.print_once.ensures.printed is.known is.is is.ahead is.may)
-    (c.stop.ensures (rest_in self.query.format (left_text self.query.format self.one.now.blocked_pairs (option_copied self.query.only) is.known) is.behind))
+    (c.stop-in-Err.ensures _)

@@ -3,7 +3,7 @@ use Rattle.msc_print.specs.Prints.{Prints}
 use Rattle.msc_ready.specs.Views.{blocked_pairs_of}
 use Rattle.msc_report.specs.Counts.{ready_tally_line}
 use Rattle.msc_text.specs.Readying.{first_in}
-use Rattle.msc_text.proofs.readying.ReadyAnswer.print_head.Goals as goal
+use Rattle.msc_text.proofs.readying.ReadyAnswer.print_plain_head.Goals as goal
 
 pub returns-in-Ok : goal.returns-in-Ok
 returns-in-Ok g c = λ k ahead may.
