@@ -9,6 +9,7 @@ of `--format full`: these are printed to a terminal, unless `NO_COLOR` or `TERM`
 `--color` says. Prints how many runs were compared. The exit status is 1 if one prints something
 else.
 """
+import itertools
 import os
 import pathlib
 import pty
@@ -63,7 +64,12 @@ ANSWERS = [
     ["follow", "--queues", "pair", "charts/urgent_overtakes.msc"],
 ]
 
-FULL = ["check", "--queues", "pair", "--format", "full", "charts/two_phase_commit.msc"]
+# findings and a fault as people read them
+FULL = [
+    ["check", "--queues", "pair", "--format", "full", "charts/two_phase_commit.msc"],
+    ["ready", "--queues", "mailbox", "--format", "full", "charts/two_phase_commit.msc"],
+    ["check", "--queues", "pair", "--format", "full", "charts/refused/repeated_message.msc"],
+]
 
 # Variables, what `--color` says, and whether there are colours on a terminal, and elsewhere.
 COLOURS = [
@@ -119,16 +125,15 @@ def plain(program, words, variables=None):
     return ended.stdout, ended.stderr
 
 
-def has_wrong_colours(program, variables, color, on_terminal, elsewhere):
+def has_wrong_colours(program, command, variables, color, on_terminal, elsewhere):
     """Whether a run with these variables has colours where it should not, or none where it should,
     or prints something else besides."""
-    words = [*FULL, *([] if color is None else ["--color", color])]
-    shown = run(program, words, "stdout", variables)[0]
-    piped = plain(program, words, variables)[0]
-    bare = plain(program, [*FULL, "--color", "never"])[0]
-    found = [bool(SEQUENCE.search(text)) for text in (shown, piped)]
-    texts = {SEQUENCE.sub(b"", text) for text in (shown, piped)}
-    return found != [on_terminal, elsewhere] or texts != {bare}
+    words = [*command, *([] if color is None else ["--color", color])]
+    answers = [run(program, words, "stdout", variables), plain(program, words, variables)]
+    bare = plain(program, [*command, "--color", "never"])
+    found = [bool(SEQUENCE.search(output)) for output, _ in answers]
+    texts = {(SEQUENCE.sub(b"", output), faults) for output, faults in answers}
+    return found != [on_terminal, elsewhere] or texts != {bare} or bare[1]
 
 
 def failures(program):
@@ -146,9 +151,9 @@ def failures(program):
     for words in ANSWERS:
         if not plain(program, words) == run(program, words, "stdout") == run(program, words, "stderr"):
             yield words
-    for variables, color, *wanted in COLOURS:
-        if has_wrong_colours(program, variables, color, *wanted):
-            yield variables, color
+    for command, (variables, color, *wanted) in itertools.product(FULL, COLOURS):
+        if has_wrong_colours(program, command, variables, color, *wanted):
+            yield command, variables, color
 
 
 def main():
@@ -156,7 +161,7 @@ def main():
     failed = list(failures(program))
     for words in failed:
         print("terminal: another answer:", words)
-    runs = 3 * (len(FAULTS) + len(ANSWERS) + len(COLOURS))
+    runs = 3 * (len(FAULTS) + len(ANSWERS) + len(FULL) * len(COLOURS))
     print(f"terminal: {runs} runs, {len(failed)} others")
     return 1 if failed else 0
 

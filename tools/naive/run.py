@@ -38,7 +38,7 @@ HERE = pathlib.Path(__file__).resolve().parent
 SIZES, FLAGS = ("number", "messages", "lines", "events"), ("plain", "uniform", "write")
 
 # comparisons with what the program does not have yet: they run only by their names
-AHEAD = ("full_charts", "full_diagrams")
+AHEAD = ("full_diagrams",)
 
 
 def comparisons():

@@ -7,44 +7,43 @@ use Rattle.msc_print.proofs.KnownBytes.{Appends-append}
 use Rattle.msc_report.specs.declared.fault.Fault.TheVariants.{Parse, Chart, NotStarted, Memory, Device}
 use Rattle.msc_print.proofs.PrintLemmas.{Appends-none as nothing_more}
 use Rattle.msc_command.specs.Answering.{AnswersWith, TellsBlock}
-use Rattle.msc_command.specs.Refused.{format_of, is_spent, IsToldIn, TellsIn}
+use Rattle.msc_command.specs.Refused.{form_of, is_spent, AreTold, IsToldIn, TellsIn}
 use Rattle.msc_command.specs.Scenarios.{RefusesScenarios}
-use Rattle.msc_command.specs.Surveys.{at_block, behind, refused_text, worse, AreLinesIn, BeginsBlock, BeginsOne, BeginsSurvey, PrintsBlock, Surveys, SurveysOne}
+use Rattle.msc_command.specs.Surveys.{at_block, behind, refused_text, worse, BeginsBlock, BeginsOne, BeginsSurvey, PrintsBlock, Surveys, SurveysOne}
 use Rattle.msc_command.specs.declared.ending.Refusal.{Refusal}
 use Rattle.msc_command.specs.declared.ending.Refusal.TheVariants as refusals
 use Rattle.msc_command.specs.declared.ending.Status.{Status}
 use Rattle.msc_command.specs.declared.ending.Status.TheVariants.{Done, Refused}
 use Rattle.msc_command.specs.declared.scenarios.Surveyed.{Surveyed}
-use Rattle.msc_command.specs.declared.tasks.Format.{Format}
-use Rattle.msc_command.specs.declared.tasks.Format.TheVariants as formats
+use Rattle.msc_command.specs.declared.tasks.RefusalForm.{RefusalForm}
+use Rattle.msc_command.specs.declared.tasks.RefusalForm.TheVariants as forms
 use Rattle.msc_command.specs.declared.tasks.ScenarioArgs.{ScenarioArgs}
 use Rattle.msc_command.specs.declared.tasks.Task.TheVariants as tasks
 
--- what a form has of a refusal are its lines
-lines_in : {W : Type 0} (contents : W → Option (List ℕ)) (format : Format) (file text : List ℕ) (refusal : Refusal) (old new : W)
-    → TellsIn contents format file text refusal old new
-    → (lines : List ℕ) × AreLinesIn format file text refusal lines × Appends (contents old) (contents new) lines
-lines_in contents formats.Lines file text refusal old new told = told
-lines_in contents formats.Text file text refusal old new same = ([], refl, rw same (nothing_more _))
-lines_in contents formats.Count file text refusal old new same = ([], refl, rw same (nothing_more _))
-lines_in contents formats.Full file text refusal old new same = ([], refl, rw same (nothing_more _))
+-- what a form has of a refusal went out, if it is nothing too
+lines_in : {W : Type 0} (contents : W → Option (List ℕ)) (form : RefusalForm) (file text : List ℕ) (refusal : Refusal) (old new : W)
+    → TellsIn contents form file text refusal old new
+    → (lines : List ℕ) × AreTold form file text refusal lines × Appends (contents old) (contents new) lines
+lines_in contents forms.Nothing file text refusal old new same = ([], refl, rw same (nothing_more _))
+lines_in contents forms.Lines file text refusal old new told = told
+lines_in contents (forms.Words colours) file text refusal old new told = told
 
 module _ {W : Type 0} (contents : W → Option (List ℕ)) (x : ScenarioArgs) (file text : List ℕ) where
   module _ (n : ℕ) where
     -- the text of a diagram that is refused went out, and its lines, or why not
-    pub told_block : (refusal : Refusal) (format : Format) → format ≡ format_of (tasks.Scenarios x) → (result : Result (Unit {0}) Refusal) (old mid new : W)
+    pub told_block : (refusal : Refusal) (form : RefusalForm) → form ≡ form_of (tasks.Scenarios x) → (result : Result (Unit {0}) Refusal) (old mid new : W)
         → Appends (contents old) (contents mid) (refused_text x file n)
-        → IsToldIn contents format file text refusal result mid new
+        → IsToldIn contents form file text refusal result mid new
         → TellsBlock contents x file text n refusal result old new
-    told_block refusal format is (Ok u) old mid new wrote told =
-        let lines = lines_in contents format file text refusal mid new told in (
+    told_block refusal form is (Ok u) old mid new wrote told =
+        let lines = lines_in contents form file text refusal mid new told in (
           lines.0,
-          subst (λ (f : Format). AreLinesIn f file text refusal lines.0) is lines.1,
+          subst (λ (f : RefusalForm). AreTold f file text refusal lines.0) is lines.1,
           Appends-append (contents old) (contents mid) (contents new) (refused_text x file n) lines.0 wrote lines.2,
         )
-    told_block refusal format is (Err other) old mid new wrote (inl (memory, same)) =
+    told_block refusal form is (Err other) old mid new wrote (inl (memory, same)) =
         inl (memory, inr (rw same wrote))
-    told_block refusal format is (Err other) old mid new wrote (inr device) = inr device
+    told_block refusal form is (Err other) old mid new wrote (inr device) = inr device
 
     -- where nothing is refused, a diagram is left as that
     pub spent_block : (r : Refusal) (old new : W) → is_spent r ≡ true

@@ -50,7 +50,7 @@ use Rattle.msc_command.specs.declared.tasks.QuietArgs.{QuietArgs}
 use Rattle.msc_command.specs.declared.tasks.ReadyArgs.{ReadyArgs}
 use Rattle.msc_text.specs.Readying.{PrintsReady}
 use Rattle.msc_text.specs.declared.stick_format.StickFormat.{StickFormat}
-use Rattle.msc_command.specs.Refused.{format_of, is_spent, TellsIn, TellsThat, TellsUnread}
+use Rattle.msc_command.specs.Refused.{form_of, is_spent, TellsIn, TellsThat, TellsUnread}
 use Rattle.msc_print.proofs.PrintLemmas.{Appends-none as nothing_more}
 
 -- bytes that are kept were written
@@ -384,7 +384,7 @@ module _ {W : Type 0} (contents : W → Option (List ℕ)) where
 
     -- and then it is told
     told_so : (refusal : Refusal) (old mid new : W) → is_spent refusal ≡ false → Does contents task file text (Err refusal) old mid
-        → TellsIn contents (format_of task) file text refusal old new → Delivers contents task file text (Err refusal) old new
+        → TellsIn contents (form_of task) file text refusal old new → Delivers contents task file text (Err refusal) old new
     told_so (refusals.Fault (Parse f)) old mid new refused does tells = (does.0, tells)
     told_so (refusals.Fault (Chart f)) old mid new refused does tells = (does.0, tells)
     told_so (refusals.Fault (NotStarted i)) old mid new refused does tells = (does.0, tells)
@@ -399,12 +399,12 @@ module _ {W : Type 0} (contents : W → Option (List ℕ)) where
 
     -- so a task that is refused is left as it has to be
     pub delivered : (refusal told : Refusal) (old mid new : W) → Does contents task file text (Err refusal) old mid
-        → TellsThat contents (format_of task) file text refusal told mid new → Delivers contents task file text (Err told) old new
+        → TellsThat contents (form_of task) file text refusal told mid new → Delivers contents task file text (Err told) old new
     delivered refusal told old mid new does (inl (spent, same, stays)) =
         rw (same, stays) (spent_so refusal old mid spent does)
     delivered refusal told old mid new does (inr (refused, inl (same, tells))) =
         rw same (told_so refusal old mid new refused does
-        (subst (λ (w : W). TellsIn contents (format_of task) file text refusal w new) (untouched refusal old mid refused does) tells))
+        (subst (λ (w : W). TellsIn contents (form_of task) file text refusal w new) (untouched refusal old mid refused does) tells))
     delivered refusal told old mid new does (inr (refused, inr (inl (memory, stays)))) =
         rw memory (inl (stays ∙ untouched refusal old mid refused does))
     delivered refusal told old mid new does (inr (refused, inr (inr device))) = rw device tt

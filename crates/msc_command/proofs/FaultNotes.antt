@@ -19,9 +19,9 @@ use Rattle.msc_command.specs.declared.tasks.Task.TheVariants as tasks
 use Rattle.msc_command.specs.Answering.{ends_with, Performs, Prints, PrintsDiagrams}
 use Rattle.msc_command.specs.Ending.{ended_by, finished_by, status_code}
 use Rattle.msc_command.specs.Program.{Obeys, Tells, TellsAnswer, TellsRefused}
-use Rattle.msc_command.specs.Refused.{format_of, TellsIn}
-use Rattle.msc_command.specs.declared.tasks.Format.{Format}
-use Rattle.msc_command.specs.declared.tasks.Format.TheVariants as formats
+use Rattle.msc_command.specs.Refused.{form_of, TellsIn}
+use Rattle.msc_command.specs.declared.tasks.RefusalForm.{RefusalForm}
+use Rattle.msc_command.specs.declared.tasks.RefusalForm.TheVariants as forms
 
 -- no run that tells whether something holds ends as refused
 never_ended : (holds : Bool) → Refused ≡ ended_by holds → ⊥
@@ -62,12 +62,12 @@ printed_refused (tasks.Import x) file text printed (same, says) = absurd cc
 printed_refused (tasks.Scenarios x) file text printed says = diagram_refused (many_in x text) x file text printed refl says
 
 module _ {W : Type 0} (contents : W → Option (List ℕ)) where
-  -- of a refusal that was told, nothing or its lines went out
-  refused_told : (format : Format) (file text : List ℕ) (refusal : Refusal) (old new : W) → TellsIn contents format file text refusal old new → TellsRefused contents old new
-  refused_told formats.Text file text refusal old new same = inl same
-  refused_told formats.Count file text refusal old new same = inl same
-  refused_told formats.Full file text refusal old new same = inl same
-  refused_told formats.Lines file text refusal old new (printed, is, wrote) = inr (inl (file, text, refusal, printed, is, wrote))
+  -- of a refusal nothing went out, or what its form has of it
+  refused_told : (form : RefusalForm) (file text : List ℕ) (refusal : Refusal) (old new : W) → TellsIn contents form file text refusal old new → TellsRefused contents old new
+  refused_told forms.Nothing file text refusal old new same = inl same
+  refused_told forms.Lines file text refusal old new (printed, is, wrote) = inr (inl (forms.Lines, file, text, refusal, printed, is, wrote))
+  refused_told (forms.Words colours) file text refusal old new (printed, is, wrote) =
+      inr (inl (forms.Words colours, file, text, refusal, printed, is, wrote))
 
   -- and of several diagrams of which one is refused all that is printed did
   several_told : (printed : List ℕ) (old new : W) → RefusesOne printed → Appends (contents old) (contents new) printed → TellsRefused contents old new
@@ -85,24 +85,24 @@ module _ {W : Type 0} (contents : W → Option (List ℕ)) where
   tells task file reads (Ok Unfinished) old new (inl (text, read, (printed, says, wrote))) = (task, file, text, printed, says, wrote)
   tells task file reads (Ok Unfinished) old new (inr (never, same)) = absurd never
   tells task file reads (Ok Failed) old new said = tt
-  tells task file reads (Err (refusals.Fault (Parse f))) old new (inl (text, read, (refused, told))) = refused_told (format_of task) file text (refusals.Fault (Parse f)) old new told
+  tells task file reads (Err (refusals.Fault (Parse f))) old new (inl (text, read, (refused, told))) = refused_told (form_of task) file text (refusals.Fault (Parse f)) old new told
   tells task file reads (Err (refusals.Fault (Parse f))) old new (inr (never, same)) = absurd never
-  tells task file reads (Err (refusals.Fault (Chart f))) old new (inl (text, read, (refused, told))) = refused_told (format_of task) file text (refusals.Fault (Chart f)) old new told
+  tells task file reads (Err (refusals.Fault (Chart f))) old new (inl (text, read, (refused, told))) = refused_told (form_of task) file text (refusals.Fault (Chart f)) old new told
   tells task file reads (Err (refusals.Fault (Chart f))) old new (inr (never, same)) = absurd never
   tells task file reads (Err (refusals.Fault (NotStarted i))) old new said = tt
   tells task file reads (Err (refusals.Fault Memory)) old new said = tt
   tells task file reads (Err (refusals.Fault Device)) old new said = tt
-  tells task file reads (Err (refusals.Pair f)) old new (inl (text, read, (refused, told))) = refused_told (format_of task) file text (refusals.Pair f) old new told
+  tells task file reads (Err (refusals.Pair f)) old new (inl (text, read, (refused, told))) = refused_told (form_of task) file text (refusals.Pair f) old new told
   tells task file reads (Err (refusals.Pair f)) old new (inr (never, same)) = absurd never
-  tells task file reads (Err (refusals.Mark f)) old new (inl (text, read, (refused, told))) = refused_told (format_of task) file text (refusals.Mark f) old new told
+  tells task file reads (Err (refusals.Mark f)) old new (inl (text, read, (refused, told))) = refused_told (form_of task) file text (refusals.Mark f) old new told
   tells task file reads (Err (refusals.Mark f)) old new (inr (never, same)) = absurd never
-  tells task file reads (Err (refusals.Instance name)) old new (inl (text, read, (refused, told))) = refused_told (format_of task) file text (refusals.Instance name) old new told
-  tells task file reads (Err (refusals.Link fault)) old new (inl (text, read, (refused, told))) = refused_told (format_of task) file text (refusals.Link fault) old new told
+  tells task file reads (Err (refusals.Instance name)) old new (inl (text, read, (refused, told))) = refused_told (form_of task) file text (refusals.Instance name) old new told
+  tells task file reads (Err (refusals.Link fault)) old new (inl (text, read, (refused, told))) = refused_told (form_of task) file text (refusals.Link fault) old new told
   tells task file reads (Err (refusals.Instance name)) old new (inr (never, same)) = absurd never
   tells task file reads (Err (refusals.Link fault)) old new (inr (never, same)) = absurd never
-  tells task file reads (Err (refusals.Rounds f)) old new (inl (text, read, (refused, told))) = refused_told (format_of task) file text (refusals.Rounds f) old new told
+  tells task file reads (Err (refusals.Rounds f)) old new (inl (text, read, (refused, told))) = refused_told (form_of task) file text (refusals.Rounds f) old new told
   tells task file reads (Err (refusals.Rounds f)) old new (inr (never, same)) = absurd never
-  tells task file reads (Err (refusals.Import e)) old new (inl (text, read, (refused, told))) = refused_told (format_of task) file text (refusals.Import e) old new told
+  tells task file reads (Err (refusals.Import e)) old new (inl (text, read, (refused, told))) = refused_told (form_of task) file text (refusals.Import e) old new told
   tells task file reads (Err (refusals.Import e)) old new (inr (never, same)) = absurd never
 
   -- and of words that were obeyed

@@ -35,11 +35,11 @@ use Rattle.msc_command.specs.Marked.{AreMarked, HasFaultyMark}
 use Rattle.msc_command.specs.Linked.{under, usual_in, AreLinked, HasLinkFault}
 use Rattle.msc_command.specs.Naming.{AreTwoNamed, IsNamedFault}
 use Rattle.msc_command.specs.Readied.{names_of, AreReady, IsFirstUnknown}
-use Rattle.msc_command.specs.Refused.{format_of, TellsRefusal, TellsUnread}
+use Rattle.msc_command.specs.Refused.{form_of, AreTold, TellsRefusal, TellsUnread}
 use Rattle.msc_command.specs.Rounds.{HasRoom, LacksRounds}
 use Rattle.msc_command.specs.Scenarios.{BeginsScenarios, PrintsScenarios, RefusesScenarios}
 use Rattle.msc_command.specs.Sited.{AreSited, IsStyle}
-use Rattle.msc_command.specs.Surveys.{many_in, refused_text, AreLinesIn, BeginsSurvey, Surveys}
+use Rattle.msc_command.specs.Surveys.{many_in, refused_text, BeginsSurvey, Surveys}
 use Rattle.msc_command.specs.declared.ending.Refusal.{Refusal}
 use Rattle.msc_command.specs.declared.ending.Refusal.TheVariants as refusals
 use Rattle.msc_command.specs.declared.ending.Status.{Status}
@@ -245,7 +245,7 @@ IsPut contents bytes status (Err refusal) old new = refusal ≡ refusals.Fault D
 abbrev pub TellsBlock : {W : Type 0} → (W → Option (List ℕ)) → ScenarioArgs → List ℕ → List ℕ → ℕ → Refusal
     → Result (Unit {0}) Refusal → W → W → Type 0
 TellsBlock contents x file text n refusal (Ok u) old new =
-    (lines : List ℕ) × AreLinesIn (format_of (Scenarios x)) file text refusal lines × Appends (contents old) (contents new) (refused_text x file n ++ lines)
+    (lines : List ℕ) × AreTold (form_of (Scenarios x)) file text refusal lines × Appends (contents old) (contents new) (refused_text x file n ++ lines)
 TellsBlock contents x file text n refusal (Err other) old new =
     ((other ≡ refusals.Fault Memory) × ((new ≡ old) ⊎ Appends (contents old) (contents new) (refused_text x file n)))
     ⊎ (other ≡ refusals.Fault Device)

@@ -1,5 +1,5 @@
 -- What is drawn of a chart.
-use Rattle.std.specs.Prelude.{◌≡◌, ℕ, List, Option, None, Some, Result, Ok, Err, codes}
+use Rattle.std.specs.Prelude.{◌≡◌, ℕ, List, None, Some, Result, Ok, Err, codes}
 use Rattle.msc_chart.specs.declared.queue.LinkKind.{LinkKind}
 use Rattle.msc_chart.specs.declared.queue.LinkKind.TheVariants.{Pair}
 use Rattle.msc_chart.specs.declared.queue.Queues.{Queues}

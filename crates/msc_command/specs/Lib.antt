@@ -13,6 +13,7 @@ pub mod Rounds
 pub mod Drawing
 pub mod Ending
 pub mod Refused
+pub mod RefusedWords
 pub mod Charting
 pub mod Spans
 pub mod Own

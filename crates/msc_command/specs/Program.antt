@@ -12,12 +12,13 @@ use Rattle.msc_command.specs.Answering.{EndsAs, Prints}
 use Rattle.msc_command.specs.Asking.{file_of, AsksFor, IsTwofold}
 use Rattle.msc_command.specs.Grammar.{AreAnswered, AreTaken}
 use Rattle.msc_command.specs.Misuses.{IsNoCommand}
-use Rattle.msc_command.specs.Refused.{IsRefusalText}
+use Rattle.msc_command.specs.Refused.{AreTold}
 use Rattle.msc_command.specs.Surveys.{many_in, Surveys}
 use Rattle.msc_command.specs.Words.{command_of_word}
 use Rattle.msc_command.specs.declared.ending.Refusal.{Refusal}
 use Rattle.msc_command.specs.declared.ending.Status.{Status}
 use Rattle.msc_command.specs.declared.ending.Status.TheVariants.{Done, Races, Refused, Unfinished, Failed}
+use Rattle.msc_command.specs.declared.tasks.RefusalForm.{RefusalForm}
 use Rattle.msc_command.specs.declared.tasks.ScenarioArgs.{ScenarioArgs}
 use Rattle.msc_command.specs.declared.tasks.Task.{Task}
 use Rattle.msc_command.specs.declared.words.CommandName.{CommandName}
@@ -99,12 +100,12 @@ TellsRefusedDiagram contents old new =
     (x : ScenarioArgs) × (file : List ℕ) × (text : List ℕ) × (f : Markdown) × (many_in x text ≡ Some f) × (printed : List ℕ)
     × Surveys x file text f.numbers Done Refused printed × Appends (contents old) (contents new) printed
 
--- where a task is refused the writer has had no call, or has the lines of a refusal behind its
--- known bytes; where one of several diagrams is, it has what is printed of all of them there
+-- where a task is refused the writer has had no call, or has a refusal in some form behind its known
+-- bytes; where one of several diagrams is, it has what is printed of all of them there
 abbrev pub TellsRefused : {W : Type 0} → (W → Option (List ℕ)) → W → W → Type 0
 TellsRefused contents old new =
-    (new ≡ old) ⊎ (((file : List ℕ) × (text : List ℕ) × (refusal : Refusal) × (printed : List ℕ)
-    × IsRefusalText file text refusal printed × Appends (contents old) (contents new) printed)
+    (new ≡ old) ⊎ (((form : RefusalForm) × (file : List ℕ) × (text : List ℕ) × (refusal : Refusal) × (printed : List ℕ)
+    × AreTold form file text refusal printed × Appends (contents old) (contents new) printed)
     ⊎ TellsRefusedDiagram contents old new)
 
 -- what the status tells of the answer that went out

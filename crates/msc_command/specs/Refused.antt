@@ -1,5 +1,5 @@
--- What a refusal is told as on the output, in the form of lines for editors.
-use Rattle.std.specs.Prelude.{◌≡◌, ◌⊎◌, ℕ, ◌++◌, Bool, true, false, cond, List, Option, None, Some, Result, Ok, Err}
+-- What the output gets of a refusal: nothing, lines for editors, or the refusal as people read it.
+use Rattle.std.specs.Prelude.{◌≡◌, ◌⊎◌, ℕ, [], ◌++◌, Bool, true, false, cond, List, Option, None, Some, Result, Ok, Err}
 use Rattle.std.specs.Io.KnownBytes.{Appends}
 use Rattle.msc_import_notes.specs.Places.{fault_line}
 use Rattle.msc_mark.specs.declared.fault.MarkFault.{MarkFault}
@@ -12,6 +12,7 @@ use Rattle.msc_place.specs.EventPositions.{beginning}
 use Rattle.msc_place.specs.declared.position.Position.{Position}
 use Rattle.msc_report.specs.declared.fault.Fault.TheVariants.{Parse, Chart, Memory, Device}
 use Rattle.msc_command.specs.Ending.{refusal_line}
+use Rattle.msc_command.specs.RefusedWords.{AreWords}
 use Rattle.msc_command.specs.declared.own.LinkRefusal.{LinkRefusal}
 use Rattle.msc_command.specs.declared.own.LinkRefusal.TheVariants.{Given, Text, Unclear}
 use Rattle.msc_command.specs.declared.ending.Refusal.{Refusal}
@@ -19,6 +20,8 @@ use Rattle.msc_command.specs.declared.ending.Refusal.TheVariants as refusals
 use Rattle.msc_command.specs.declared.tasks.ChartCommand.TheVariants.{Check, Ready}
 use Rattle.msc_command.specs.declared.tasks.Format.{Format}
 use Rattle.msc_command.specs.declared.tasks.Format.TheVariants as formats
+use Rattle.msc_command.specs.declared.tasks.RefusalForm.{RefusalForm}
+use Rattle.msc_command.specs.declared.tasks.RefusalForm.TheVariants as forms
 use Rattle.msc_command.specs.declared.tasks.Task.{Task}
 use Rattle.msc_command.specs.declared.tasks.Task.TheVariants as tasks
 
@@ -57,31 +60,43 @@ pub record IsRefusalText (file text : List ℕ) (refusal : Refusal) (printed : L
   pub more : List ℕ
   pub printed_is : printed ≡ error_text file position ++ (refusal_line refusal ++ more)
 
--- what the output gets of a refusal in a form: its lines where these are for editors, else nothing
-abbrev pub TellsIn : {W : Type 0} → (W → Option (List ℕ)) → Format → List ℕ → List ℕ → Refusal → W → W → Type 0
-TellsIn contents formats.Lines file text refusal old new =
-    (printed : List ℕ) × IsRefusalText file text refusal printed × Appends (contents old) (contents new) printed
-TellsIn contents format file text refusal old new = new ≡ old
+-- what is printed of a refusal in a form
+abbrev pub AreTold : RefusalForm → List ℕ → List ℕ → Refusal → List ℕ → Type 0
+AreTold forms.Nothing file text refusal printed = printed ≡ []
+AreTold forms.Lines file text refusal printed = IsRefusalText file text refusal printed
+AreTold (forms.Words colours) file text refusal printed = AreWords colours file text refusal printed
 
--- the format of a task's answer
-abbrev pub format_of : Task → Format
-format_of (tasks.Chart (Check c) links) = c.format
-format_of (tasks.Chart (Ready x) links) = x.format
-format_of (tasks.Scenarios x) = cond x.quiet formats.Text x.check_args.format
-format_of task = formats.Text
+-- what the output gets of a refusal in a form
+abbrev pub TellsIn : {W : Type 0} → (W → Option (List ℕ)) → RefusalForm → List ℕ → List ℕ → Refusal → W → W → Type 0
+TellsIn contents forms.Nothing file text refusal old new = new ≡ old
+TellsIn contents form file text refusal old new =
+    (printed : List ℕ) × AreTold form file text refusal printed × Appends (contents old) (contents new) printed
+
+-- the form of refusals in a format, with or without colours
+abbrev pub form_in : Format → Bool → RefusalForm
+form_in formats.Text colours = forms.Nothing
+form_in formats.Count colours = forms.Nothing
+form_in formats.Lines colours = forms.Lines
+form_in formats.Full colours = forms.Words colours
+
+-- the form of refusals of a task
+abbrev pub form_of : Task → RefusalForm
+form_of (tasks.Chart (Check c) links) = form_in c.format c.colours
+form_of (tasks.Chart (Ready x) links) = form_in x.format x.colours
+form_of (tasks.Scenarios x) = cond x.quiet forms.Nothing (form_in x.check_args.format x.check_args.colours)
+form_of task = forms.Nothing
 
 -- what the output gets of a refusal of a task
 abbrev pub TellsRefusal : {W : Type 0} → (W → Option (List ℕ)) → Task → List ℕ → List ℕ → Refusal → W → W → Type 0
-TellsRefusal contents task file text refusal old new = TellsIn contents (format_of task) file text refusal old new
+TellsRefusal contents task file text refusal old new = TellsIn contents (form_of task) file text refusal old new
 
--- of a file that could not be read the output gets nothing, but in lines for editors as much of
--- them as it took
-abbrev pub TellsUnreadIn : {W : Type 0} → Format → W → W → Type 0
-TellsUnreadIn formats.Lines old new = Unit {0}
-TellsUnreadIn format old new = new ≡ old
+-- of a file that could not be read the output gets nothing, or as much as it took of what the form has
+abbrev pub TellsUnreadIn : {W : Type 0} → RefusalForm → W → W → Type 0
+TellsUnreadIn forms.Nothing old new = new ≡ old
+TellsUnreadIn form old new = Unit {0}
 
 abbrev pub TellsUnread : {W : Type 0} → Task → W → W → Type 0
-TellsUnread task old new = TellsUnreadIn (format_of task) old new
+TellsUnread task old new = TellsUnreadIn (form_of task) old new
 
 -- memory ran out, or a device failed: nothing is refused
 abbrev pub is_spent : Refusal → Bool
@@ -90,20 +105,20 @@ is_spent (refusals.Fault Device) = true
 is_spent refusal = false
 
 -- what telling it answers: it was told, or memory ran out before that, or the output failed
-abbrev pub IsToldIn : {W : Type 0} → (W → Option (List ℕ)) → Format → List ℕ → List ℕ → Refusal → Result (Unit {0}) Refusal → W → W → Type 0
-IsToldIn contents format file text refusal (Ok u) old new = TellsIn contents format file text refusal old new
-IsToldIn contents format file text refusal (Err other) old new =
+abbrev pub IsToldIn : {W : Type 0} → (W → Option (List ℕ)) → RefusalForm → List ℕ → List ℕ → Refusal → Result (Unit {0}) Refusal → W → W → Type 0
+IsToldIn contents form file text refusal (Ok u) old new = TellsIn contents form file text refusal old new
+IsToldIn contents form file text refusal (Err other) old new =
     ((other ≡ refusals.Fault Memory) × (new ≡ old)) ⊎ (other ≡ refusals.Fault Device)
 
 -- A refusal was told in a form, or memory ran out before that or the output failed, which is
 -- answered then.
-abbrev pub TellsOr : {W : Type 0} → (W → Option (List ℕ)) → Format → List ℕ → List ℕ → Refusal → Refusal → W → W → Type 0
-TellsOr contents format file text refusal told old new =
-    ((told ≡ refusal) × TellsIn contents format file text refusal old new)
+abbrev pub TellsOr : {W : Type 0} → (W → Option (List ℕ)) → RefusalForm → List ℕ → List ℕ → Refusal → Refusal → W → W → Type 0
+TellsOr contents form file text refusal told old new =
+    ((told ≡ refusal) × TellsIn contents form file text refusal old new)
     ⊎ (((told ≡ refusals.Fault Memory) × (new ≡ old)) ⊎ (told ≡ refusals.Fault Device))
 
 -- what is answered where a task is refused: where nothing is, it is left as that
-abbrev pub TellsThat : {W : Type 0} → (W → Option (List ℕ)) → Format → List ℕ → List ℕ → Refusal → Refusal → W → W → Type 0
-TellsThat contents format file text refusal told old new =
+abbrev pub TellsThat : {W : Type 0} → (W → Option (List ℕ)) → RefusalForm → List ℕ → List ℕ → Refusal → Refusal → W → W → Type 0
+TellsThat contents form file text refusal told old new =
     ((is_spent refusal ≡ true) × (told ≡ refusal) × (new ≡ old))
-    ⊎ ((is_spent refusal ≡ false) × TellsOr contents format file text refusal told old new)
+    ⊎ ((is_spent refusal ≡ false) × TellsOr contents form file text refusal told old new)

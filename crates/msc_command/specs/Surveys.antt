@@ -9,7 +9,7 @@ use Rattle.msc_mermaid.specs.declared.fault.ImportFault.{ImportFault}
 use Rattle.msc_place.specs.Texts.{shown_byte}
 use Rattle.msc_report.specs.Texts.{text_line}
 use Rattle.msc_command.specs.Ending.{status_code}
-use Rattle.msc_command.specs.Refused.{format_of, IsRefusalText}
+use Rattle.msc_command.specs.Refused.{form_of, AreTold}
 use Rattle.msc_command.specs.Scenarios.{draws_branches, BeginsAll, OfScenarios, PrintsCounted, RefusesScenarios}
 use Rattle.msc_command.specs.declared.ending.Refusal.{Refusal}
 use Rattle.msc_command.specs.declared.ending.Status.{Status}
@@ -73,18 +73,13 @@ abbrev pub refused_text : ScenarioArgs → List ℕ → ℕ → List ℕ
 refused_text x file n =
     cond x.quiet [] (refused_in x.check_args.format (numbered (chart_name x.diagram.name.now) n) (numbered file n))
 
--- behind that stand the lines of the refusal, where these are for editors
-abbrev pub AreLinesIn : Format → List ℕ → List ℕ → Refusal → List ℕ → Type 0
-AreLinesIn formats.Lines file text refusal lines = IsRefusalText file text refusal lines
-AreLinesIn format file text refusal lines = lines ≡ []
-
--- the diagram of this number is refused, which is told so
+-- the diagram of this number is refused: behind its text stands what the form has of the refusal
 pub record TellsRefusedBlock (x : ScenarioArgs) (file text : List ℕ) (n : ℕ) (one : Surveyed) (printed : List ℕ) : Type 0 where
   pub refusal : Refusal
   pub refused : RefusesScenarios (at_block x n) text refusal
   pub ends : one ≡ record { status = Refused; listed = 0 }
   pub lines : List ℕ
-  pub are : AreLinesIn (format_of (tasks.Scenarios x)) file text refusal lines
+  pub are : AreTold (form_of (tasks.Scenarios x)) file text refusal lines
   pub text_is : printed ≡ refused_text x file n ++ lines
 
 -- what is printed of the diagram of this number, refused or not, and how its check ends

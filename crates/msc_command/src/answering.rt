@@ -15,7 +15,7 @@ ghost use Rattle.msc_command.specs.Importing.{PrintsImportPage, RefusesImport};
 ghost use Rattle.msc_command.specs.Marked.{AreMarked};
 ghost use Rattle.msc_command.specs.Readied.{names_of, AreReady};
 ghost use Rattle.msc_command.specs.Rounds.{AreRounds};
-ghost use Rattle.msc_command.specs.Refused.{format_of, IsToldIn, TellsThat, TellsUnread};
+ghost use Rattle.msc_command.specs.Refused.{form_of, IsToldIn, TellsThat, TellsUnread};
 ghost use Rattle.msc_command.specs.Refused.{TellsUnreadIn};
 ghost use Rattle.msc_command.specs.Surveys.{BeginsOne, BeginsSurvey, Surveys, SurveysOne};
 ghost use Rattle.msc_markdown.specs.Markdowns.{markdown};
@@ -25,7 +25,9 @@ ghost use Rattle.msc_shown_chart.specs.Words.{plain_words};
 ghost use Rattle.msc_source.specs.Inputs.{IsReadFrom};
 
 use crate::drawing::page_of;
-use crate::ending::{Refusal, Status, end_refused, end_unread, ended_by, finished_by, is_spent};
+use crate::ending::{
+    Refusal, Status, end_refused, end_unread, ended_by, ends_as, finished_by, is_spent,
+};
 use crate::importing::import_page;
 use crate::links::queues_in;
 use crate::marked::marks_of;
@@ -34,13 +36,14 @@ use crate::notes::{write_cause, write_notes};
 use crate::readied::{first_unknown, lent, lines_named};
 use crate::recorded::TellsFailure;
 use crate::refused::refusal_lines;
+use crate::refused_words::{has_words, refusal_words, unread_words};
 use crate::rounds::rounds_of;
 use crate::scenarios::{Surveyed, check_scenarios};
 use crate::sited::{event_positions_of, style_of};
 use crate::surveying::{behind, blocks_of, check_block, of_block, refused_page, worse};
 use crate::tasks::{
     ChartCommand, CheckArgs, Drawn, ExplainArgs, FollowArgs, Format, ImportArgs, LinkWords,
-    QuietArgs, ReadyArgs, Request, ScenarioArgs, Task, format_of,
+    QuietArgs, ReadyArgs, RefusalForm, Request, ScenarioArgs, Task, form_of,
 };
 use msc_chart::Unrolled;
 use msc_instance::AlwaysOpen;
@@ -555,10 +558,28 @@ fn tell_lines<O: Write>(
     refusal: Refusal<'_>,
     output: &mut O,
 ) -> Result<(), Refusal<'static>>
-    ensures { IsToldIn O.contents Format.Lines file.now text.now refusal.entry result
+    ensures { IsToldIn O.contents RefusalForm.Lines file.now text.now refusal.entry result
         output.old output.new }
 {
     let page = refusal_lines(alloc, task, file, text, refusal)?;
+    let _ = put(output, &page, Status::Refused)?;
+    flush(output)
+}
+
+/// Writes a refusal as people read it.
+fn tell_words<O: Write>(
+    alloc: Global,
+    task: Task<'_>,
+    colours: bool,
+    file: &str,
+    text: &[u8],
+    refusal: Refusal<'_>,
+    output: &mut O,
+) -> Result<(), Refusal<'static>>
+    ensures { IsToldIn O.contents (RefusalForm.Words colours) file.now text.now refusal.entry result
+        output.old output.new }
+{
+    let page = refusal_words(alloc, task, colours, file, text, refusal)?;
     let _ = put(output, &page, Status::Refused)?;
     flush(output)
 }
@@ -572,12 +593,15 @@ fn tell_in<O: Write>(
     refusal: Refusal<'_>,
     output: &mut O,
 ) -> Result<(), Refusal<'static>>
-    ensures { IsToldIn O.contents (format_of task.entry) file.now text.now refusal.entry result
+    ensures { IsToldIn O.contents (form_of task.entry) file.now text.now refusal.entry result
         output.old output.new }
 {
-    match format_of(task) {
-        Format::Lines => tell_lines(alloc, task, file, text, refusal, output),
-        Format::Text | Format::Count | Format::Full => Ok(()),
+    match form_of(task) {
+        RefusalForm::Lines => tell_lines(alloc, task, file, text, refusal, output),
+        RefusalForm::Words(colours) => {
+            tell_words(alloc, task, colours, file, text, refusal, output)
+        }
+        RefusalForm::Nothing => Ok(()),
     }
 }
 
@@ -591,7 +615,7 @@ fn tell_refusal<'w, O: Write>(
     refusal: Refusal<'w>,
     output: &mut O,
 ) -> Refusal<'w>
-    ensures { TellsThat O.contents (format_of task.entry) file.now text.now refusal.entry result
+    ensures { TellsThat O.contents (form_of task.entry) file.now text.now refusal.entry result
         output.old output.new }
 {
     if is_spent(refusal) {
@@ -612,7 +636,13 @@ fn tell_failure<O: TellsFailure, E: Write>(faults: &mut E, refusal: Refusal<'_>,
     }
 }
 
-/// Writes the line of a refusal, with its notes if they are requested, and returns the status.
+/// Whether the output has words for a refusal of a task.
+fn is_said(task: Task<'_>, refusal: Refusal<'_>) -> bool {
+    matches!(form_of(task), RefusalForm::Words(_)) && has_words(refusal)
+}
+
+/// Writes the line of a refusal, with its notes if they are requested, unless the output has words for
+/// it. Returns the status.
 fn end_told<O: TellsFailure, E: Write>(
     alloc: Global,
     request: Request<'_>,
@@ -623,6 +653,9 @@ fn end_told<O: TellsFailure, E: Write>(
 ) -> Status
     ensures { result ≡ ends_as refusal.entry }
 {
+    if is_said(request.task, refusal) {
+        return ends_as(refusal);
+    }
     let status = end_refused(faults, refusal).0;
     if request.notes {
         let _ = write_notes(alloc, faults, request, text, refusal);
@@ -641,22 +674,46 @@ fn write_unread<O: Write>(output: &mut O, file: &str, error: &io::Error) -> io::
     output.flush()
 }
 
-/// Writes to the output that a file could not be read, if the form requires it.
-fn tell_unread<O: Write>(format: Format, file: &str, fault: &ReadFault, output: &mut O)
-    ensures { TellsUnreadIn format output.old output.new }
+/// Writes that a file could not be read as people read it. Returns whether it was written.
+fn write_unread_words<O: Write>(
+    alloc: Global,
+    colours: bool,
+    file: &str,
+    error: &io::Error,
+    output: &mut O,
+) -> bool {
+    match unread_words(alloc, colours, file, error) {
+        Ok(bytes) => output.write_all(bytes.as_slice()).is_ok() && output.flush().is_ok(),
+        Err(_) => false,
+    }
+}
+
+/// Writes to the output that a file could not be read, if the form requires it. Returns whether it
+/// has words for that.
+fn tell_unread<O: Write>(
+    alloc: Global,
+    form: RefusalForm,
+    file: &str,
+    fault: &ReadFault,
+    output: &mut O,
+) -> bool
+    ensures { TellsUnreadIn form output.old output.new }
 {
-    match format {
-        Format::Lines => {
-            if let ReadFault::Device(error) = fault {
-                let _ = write_unread(output, file, error);
-            }
+    match (form, fault) {
+        (RefusalForm::Lines, ReadFault::Device(error)) => {
+            let _ = write_unread(output, file, error);
+            false
         }
-        Format::Text | Format::Count | Format::Full => {}
+        (RefusalForm::Words(colours), ReadFault::Device(error)) => {
+            write_unread_words(alloc, colours, file, error, output)
+        }
+        _ => false,
     }
 }
 
 /// Writes why a file could not be read, and returns the status.
 pub(crate) fn end_unread_task<O: Write, E: Write>(
+    alloc: Global,
     request: Request<'_>,
     fault: ReadFault,
     output: &mut O,
@@ -665,7 +722,10 @@ pub(crate) fn end_unread_task<O: Write, E: Write>(
     ensures status { result ≡ ends_as (Refusal.Fault (of_reading fault)) }
     ensures told { TellsUnread request.entry.task output.old output.new }
 {
-    tell_unread(format_of(request.task), request.file, &fault, output);
+    let form = form_of(request.task);
+    if tell_unread(alloc, form, request.file, &fault, output) {
+        return ends_as(Refusal::Fault(fault.into()));
+    }
     end_unread(faults, request.file, fault, request.notes)
 }
 
@@ -865,7 +925,7 @@ pub(crate) fn perform<R: Threads + Wait + Sync, I: Read, O: TellsFailure, E: Wri
 {
     let text = match read_all(alloc, input) {
         Ok(text) => text,
-        Err(fault) => return end_unread_task(request, fault, output, faults),
+        Err(fault) => return end_unread_task(alloc, request, fault, output, faults),
     };
     match deliver(rt, alloc, request, text.as_slice(), output, faults) {
         Ok(status) => status,

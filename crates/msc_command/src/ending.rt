@@ -214,7 +214,7 @@ pub(crate) fn is_spent(refusal: Refusal<'_>) -> bool
 }
 
 /// The status of a refusal.
-fn ends_as(refusal: Refusal<'_>) -> Status
+pub(crate) fn ends_as(refusal: Refusal<'_>) -> Status
     ensures { result ≡ ends_as refusal.entry }
 {
     match refusal {

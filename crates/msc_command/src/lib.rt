@@ -23,7 +23,7 @@
 //!   carry no cause.
 //! - `perform` prints the notes on a refusal, since it has the text. If memory runs out there, the
 //!   line of the refusal stays alone, and the status stays.
-//! - With `--chart_format lines` a refusal is on both streams: editors read only the output. Its
+//! - With `--format lines` a refusal is on both streams: editors read only the output. Its
 //!   lines are made as a whole before they are written, and the contract is about the first
 //!   (`IsRefusalText`, `specs/Refused`).
 #![tactic(auto)]
@@ -44,6 +44,7 @@ mod program;
 mod readied;
 mod recorded;
 mod refused;
+mod refused_words;
 mod rounds;
 mod scenarios;
 mod shown;

@@ -52,7 +52,7 @@ fn perform_on<R: Files + Threads + Wait + Sync, I: Read, O: TellsFailure, E: Wri
     }
     match fs::open(rt, request.file) {
         Ok(mut opened) => perform(rt, alloc, request, &mut opened, output, faults),
-        Err(error) => end_unread_task(request, ReadFault::Device(error), output, faults),
+        Err(error) => end_unread_task(alloc, request, ReadFault::Device(error), output, faults),
     }
 }
 

@@ -19,7 +19,7 @@ ghost use Rattle.msc_command.specs.Asking.{args_of, IsOptionNumber, AreCheckOpti
 ghost use Rattle.msc_command.specs.Misuses.{IsCheckMisuse, IsDiagramMisuse, IsEventMisuse};
 ghost use Rattle.msc_command.specs.Misuses.{IsImportMisuse, IsLimitMisuse, IsMisuse, IsPairMisuse};
 ghost use Rattle.msc_command.specs.Misuses.{IsQueuesMisuse, IsRoundsMisuse, IsWordMisuse};
-ghost use Rattle.msc_command.specs.Refused.{format_of};
+ghost use Rattle.msc_command.specs.Refused.{form_in, form_of};
 ghost use Rattle.msc_command.specs.Words.{format_of_word, format_word, arg_word};
 
 use crate::choices::{gives_choices, gives_rounds, title_of};
@@ -250,16 +250,44 @@ pub(crate) enum Task<'w> {
     Scenarios(ScenarioArgs<'w>),
 }
 
-/// The format of a task's answer.
-pub(crate) fn format_of(task: Task<'_>) -> Format
-    ensures { result ≡ format_of task.entry }
+/// What the output gets of a refusal of a task.
+#[derive(Clone, Copy)]
+pub(crate) enum RefusalForm {
+    /// Nothing.
+    Nothing,
+    /// Lines for editors.
+    Lines,
+    /// The refusal as people read it, with or without colours.
+    Words(bool),
+}
+
+/// What the output gets of a refusal in a format, with or without colours.
+fn form_in(format: Format, colours: bool) -> RefusalForm
+    ensures { result ≡ form_in format colours }
+{
+    match format {
+        Format::Text | Format::Count => RefusalForm::Nothing,
+        Format::Lines => RefusalForm::Lines,
+        Format::Full => RefusalForm::Words(colours),
+    }
+}
+
+/// What the output gets of a refusal of a task.
+pub(crate) fn form_of(task: Task<'_>) -> RefusalForm
+    ensures { result ≡ form_of task.entry }
 {
     match task {
-        Task::Chart(ChartCommand::Check(check_args), _) => check_args.format,
-        Task::Chart(ChartCommand::Ready(ready_args), _) => ready_args.format,
-        Task::Scenarios(words) if !words.quiet => words.check_args.format,
-        Task::Read | Task::Chart(..) | Task::Draw(..) => Format::Text,
-        Task::Import(_) | Task::Scenarios(_) => Format::Text,
+        Task::Chart(ChartCommand::Check(check_args), _) => {
+            form_in(check_args.format, check_args.colours)
+        }
+        Task::Chart(ChartCommand::Ready(ready_args), _) => {
+            form_in(ready_args.format, ready_args.colours)
+        }
+        Task::Scenarios(words) if !words.quiet => {
+            form_in(words.check_args.format, words.check_args.colours)
+        }
+        Task::Read | Task::Chart(..) | Task::Draw(..) => RefusalForm::Nothing,
+        Task::Import(_) | Task::Scenarios(_) => RefusalForm::Nothing,
     }
 }
 

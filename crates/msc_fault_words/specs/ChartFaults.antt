@@ -1,5 +1,5 @@
 -- The faults of a draft that is no chart, in words.
-use Rattle.std.specs.Prelude.{ℕ, Bool, true, false, cond, List, [], ◌++◌, Option, None, Some, codes, slice_get}
+use Rattle.std.specs.Prelude.{ℕ, Bool, true, false, cond, List, [], ◌++◌, Option, None, Some, codes}
 use Rattle.msc_chart.specs.declared.fault.ChartFault.{ChartFault}
 use Rattle.msc_chart.specs.declared.fault.ChartFault.TheVariants as charts
 use Rattle.msc_diagnostic.specs.declared.mark.Sign.TheVariants.{Caret, Dash}
@@ -51,7 +51,7 @@ unknown_name is_header place notes spans =
     (unknown (codes "chart 3") (header_text (shown_bytes (note_text Name notes))) place notes spans)
     (unknown (codes "chart 4") (named_text (shown_bytes (note_text Name notes))) place notes spans)
 
--- faults of messages; of an event that is not known the sentence has no names
+-- faults of messages; without the event of the fault the sentence has no names
 abbrev pub twice_at : Option ℕ → List Note → List Span → Option MessageEnd → Words
 twice_at place notes spans None = placed (codes "chart 6") (codes "a message is there twice") place spans
 twice_at place notes spans (Some end) = twice end place notes spans
@@ -61,21 +61,21 @@ unmatched_at id place notes spans None = placed id (codes "a message lacks its o
 unmatched_at id place notes spans (Some end) = unmatched id end place notes spans
 
 -- the words of a fault
-abbrev pub chart : Option ℕ → List Note → List Span → List MessageEnd → ChartFault → Words
-chart place notes spans events charts.TooManyInstances =
+abbrev pub chart : Option ℕ → List Note → List Span → Option MessageEnd → ChartFault → Words
+chart place notes spans end charts.TooManyInstances =
     placed (codes "chart 1") (codes "more than 32 instances") place spans
-chart place notes spans events (charts.TwiceInstance i) = twice_named place notes spans
-chart place notes spans events (charts.HeaderWithoutBody k) = unknown_name true place notes spans
-chart place notes spans events (charts.UnknownAddress e) = unknown_name false place notes spans
-chart place notes spans events charts.TooManyMessages =
+chart place notes spans end (charts.TwiceInstance i) = twice_named place notes spans
+chart place notes spans end (charts.HeaderWithoutBody k) = unknown_name true place notes spans
+chart place notes spans end (charts.UnknownAddress e) = unknown_name false place notes spans
+chart place notes spans end charts.TooManyMessages =
     placed (codes "chart 5") (codes "more than 1024 messages") place spans
-chart place notes spans events charts.TooManyActions =
+chart place notes spans end charts.TooManyActions =
     placed (codes "chart 11") (codes "more than 1024 actions") place spans
-chart place notes spans events (charts.TwiceEvent e) = twice_at place notes spans (slice_get events e)
-chart place notes spans events (charts.UnmatchedOut e) =
-    unmatched_at (codes "chart 7") place notes spans (slice_get events e)
-chart place notes spans events (charts.UnmatchedIn e) =
-    unmatched_at (codes "chart 8") place notes spans (slice_get events e)
-chart place notes spans events (charts.Cyclic e) =
+chart place notes spans end (charts.TwiceEvent e) = twice_at place notes spans end
+chart place notes spans end (charts.UnmatchedOut e) =
+    unmatched_at (codes "chart 7") place notes spans end
+chart place notes spans end (charts.UnmatchedIn e) =
+    unmatched_at (codes "chart 8") place notes spans end
+chart place notes spans end (charts.Cyclic e) =
     placed (codes "chart 9") (codes "these events wait for each other, so none of them can happen") place spans
-chart place notes spans events charts.Memory = memory
+chart place notes spans end charts.Memory = memory

@@ -1,6 +1,6 @@
 //! The faults of a draft that is no chart, in words.
 
-ghost use Rattle.std.specs.Prelude.{◌≡◌, IfOk, slice_get};
+ghost use Rattle.std.specs.Prelude.{◌≡◌, IfOk};
 ghost use Rattle.std.specs.String.{string_bytes};
 ghost use Rattle.msc_fault_words.specs.ChartFaults.{chart, defined_twice, header_text, named_text};
 ghost use Rattle.msc_fault_words.specs.ChartFaults.{twice_at, unmatched_at};
@@ -107,37 +107,35 @@ fn unknown_name(
     unknown(alloc, "chart 4", sentence, told, spans)
 }
 
-/// An event that an earlier one repeats, by its number.
+/// An event that an earlier one repeats.
 fn twice_at(
     alloc: Global,
-    e: u32,
     told: &FaultNotes,
     spans: &[Span],
-    events: &[MessageEnd<'_>],
+    end: Option<MessageEnd<'_>>,
 ) -> Result<FaultWords, AllocError>
     ensures { IfOk result (λ words. words
-        ≡ twice_at told.now.place told.now.notes spans.now (slice_get events.now e)) }
+        ≡ twice_at told.now.place told.now.notes spans.now end.entry) }
 {
-    match events.get(e as usize) {
-        Some(end) => twice_words(alloc, *end, told, spans),
+    match end {
+        Some(end) => twice_words(alloc, end, told, spans),
         None => placed(alloc, "chart 6", "a message is there twice", told, spans),
     }
 }
 
-/// An event without another end, by its number.
+/// An event without another end.
 fn unmatched_at(
     alloc: Global,
     id: &'static str,
-    e: u32,
     told: &FaultNotes,
     spans: &[Span],
-    events: &[MessageEnd<'_>],
+    end: Option<MessageEnd<'_>>,
 ) -> Result<FaultWords, AllocError>
     ensures { IfOk result (λ words. words
-        ≡ unmatched_at id.now told.now.place told.now.notes spans.now (slice_get events.now e)) }
+        ≡ unmatched_at id.now told.now.place told.now.notes spans.now end.entry) }
 {
-    match events.get(e as usize) {
-        Some(end) => unmatched_words(alloc, id, *end, told, spans),
+    match end {
+        Some(end) => unmatched_words(alloc, id, end, told, spans),
         None => placed(alloc, id, "a message lacks its other end", told, spans),
     }
 }
@@ -145,19 +143,20 @@ fn unmatched_at(
 /// That events wait for each other.
 const WAITING: &str = "these events wait for each other, so none of them can happen";
 
-/// A fault of a draft in words. `told` are the notes on it; `spans` are the names of sections, the
-/// names of the header, the addresses and the statements of events, in any order; and `events` are the
-/// events, by their numbers; of one that is not there the sentence has no names. Events that wait for each other are named here by the first of them; a
-/// diagnostic of all of them is that of `waiting_text` in `msc_full`. The only error is want of memory.
+/// A fault of a draft in words. `told` are the notes on it; `spans` are the names and the statements at
+/// the places that these have, in any order; and `end` is the event of the fault, if it is an end of a
+/// message: without it the sentence has no names. Of events that wait for each other the first is
+/// marked; a diagnostic of all of them is that of `waiting_text` in `msc_full`. The only error is want
+/// of memory.
 pub fn chart_words(
     alloc: Global,
     fault: ChartFault,
     told: &FaultNotes,
     spans: &[Span],
-    events: &[MessageEnd<'_>],
+    end: Option<MessageEnd<'_>>,
 ) -> Result<FaultWords, AllocError>
     ensures { IfOk result (λ words. words
-        ≡ chart told.now.place told.now.notes spans.now events.now fault) }
+        ≡ chart told.now.place told.now.notes spans.now end.entry fault) }
 {
     match fault {
         ChartFault::TooManyInstances => {
@@ -172,9 +171,9 @@ pub fn chart_words(
         ChartFault::TooManyActions => {
             placed(alloc, "chart 11", "more than 1024 actions", told, spans)
         }
-        ChartFault::TwiceEvent(e) => twice_at(alloc, e, told, spans, events),
-        ChartFault::UnmatchedOut(e) => unmatched_at(alloc, "chart 7", e, told, spans, events),
-        ChartFault::UnmatchedIn(e) => unmatched_at(alloc, "chart 8", e, told, spans, events),
+        ChartFault::TwiceEvent(_) => twice_at(alloc, told, spans, end),
+        ChartFault::UnmatchedOut(_) => unmatched_at(alloc, "chart 7", told, spans, end),
+        ChartFault::UnmatchedIn(_) => unmatched_at(alloc, "chart 8", told, spans, end),
         ChartFault::Cyclic(_) => placed(alloc, "chart 9", WAITING, told, spans),
         ChartFault::Memory => memory_words(alloc),
     }

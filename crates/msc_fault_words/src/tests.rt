@@ -95,7 +95,7 @@ fn a_misspelt_name_is_told(rt: HostRuntime) {
         },
     ];
     let fault = ChartFault::UnknownAddress(0);
-    let words = chart_words(rt.alloc(), fault, &told, &spans, &[]);
+    let words = chart_words(rt.alloc(), fault, &told, &spans, None);
     let words = words.expect(&rt, "memory for a refusal");
     assert_eq!(rt; words.place(), Some(41));
     let printed = printed(&rt, TYPO, "typo.msc:3:18", &words);
@@ -151,7 +151,7 @@ fn an_output_without_input_is_told(rt: HostRuntime) {
         },
     ];
     let fault = ChartFault::UnmatchedOut(0);
-    let words = chart_words(rt.alloc(), fault, &told, &spans, &[ACK]);
+    let words = chart_words(rt.alloc(), fault, &told, &spans, Some(ACK));
     let words = words.expect(&rt, "memory for a refusal");
     let printed = printed(&rt, UNMATCHED, "unmatched.msc:3:3", &words);
     assert_eq!(rt; printed.as_slice(), UNMATCHED_PRINTED.as_bytes());
@@ -208,7 +208,7 @@ fn a_repeated_message_is_told(rt: HostRuntime) {
         ChartFault::TwiceEvent(1),
         &told,
         &spans,
-        &[end, end],
+        Some(end),
     );
     let words = words.expect(&rt, "memory for a refusal");
     let printed = printed(&rt, TWICE, "twice.msc:4:3", &words);
@@ -274,7 +274,7 @@ fn a_repeated_instance_is_told(rt: HostRuntime) {
     let first = note(&rt, Tag::First, "", Some(24));
     let told = told(&rt, 49, name, Some(first));
     let fault = ChartFault::TwiceInstance(1);
-    let words = chart_words(rt.alloc(), fault, &told, &[], &[]);
+    let words = chart_words(rt.alloc(), fault, &told, &[], None);
     let words = words.expect(&rt, "memory for a refusal");
     let printed = printed(&rt, TWO, "two.msc:5:10", &words);
     assert_eq!(rt; printed.as_slice(), TWO_PRINTED.as_bytes());
@@ -379,7 +379,7 @@ fn faults_of_charts_have_sentences(rt: HostRuntime) {
     };
     for (fault, wanted) in table {
         let told = untold(&rt, Some(0));
-        let words = chart_words(rt.alloc(), fault, &told, &[], &[ACK, input]);
+        let words = chart_words(rt.alloc(), fault, &told, &[], Some(input));
         let words = words.expect(&rt, "memory for a refusal");
         assert_eq!(rt; first_row(&rt, &words).as_slice(), wanted.as_bytes());
     }

@@ -11,12 +11,14 @@ use msc_parser::{Direction, Draft, Item, Section, Signal, Statement};
 use std::alloc::{AllocError, Global};
 use std::slice;
 
-/// An event with its instance: the name and the number of its instance, and the number of its item
-/// there; a coregion is one item.
+/// An event of a draft, with its instance.
 #[derive(Clone, Copy)]
-pub(crate) struct OwnEvent<'d> {
+pub struct OwnEvent<'d> {
+    /// The number of its instance, from 0.
     pub line: usize,
+    /// The number of its item in the instance, from 0; a coregion is one item.
     pub item: usize,
+    /// The name of its instance.
     pub own: &'d [u8],
     pub statement: &'d Statement,
 }
@@ -83,11 +85,8 @@ fn push_section<'d>(
     Ok(())
 }
 
-/// The events of a draft.
-pub(crate) fn events_of<'d>(
-    alloc: Global,
-    draft: &'d Draft,
-) -> Result<Vec<OwnEvent<'d>>, AllocError>
+/// The events of a draft, in the order of its text. The only error is want of memory.
+pub fn events_of<'d>(alloc: Global, draft: &'d Draft) -> Result<Vec<OwnEvent<'d>>, AllocError>
     ensures { IfOk result (λ events.
         map own_view events.items ≡ owned_of draft.entry.now.sections) }
 {

@@ -30,6 +30,7 @@ mod standing;
 pub mod writing;
 
 pub use chart::tell_chart;
+pub use event::{OwnEvent, events_of};
 pub use note::{FaultNotes, Note, Tag};
 pub use other_faults::{FURTHER_LIMIT, FurtherFaults, NotedFault, further, tell_further};
 pub use parse::tell_parse;

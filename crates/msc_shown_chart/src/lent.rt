@@ -25,8 +25,8 @@ pub struct LentWords<'w> {
     pub queues: &'w str,
 }
 
-/// These names, lent.
-fn lent_names(alloc: Global, names: &[String]) -> Result<Vec<&str>, AllocError>
+/// These names, lent. The only error is want of memory.
+pub fn lent_names(alloc: Global, names: &[String]) -> Result<Vec<&str>, AllocError>
     ensures { IfOk result (λ lent.
         map (λ name. name.now) lent.items ≡ map string_bytes names.now) }
 {

@@ -12,6 +12,6 @@ mod marks;
 mod shown;
 mod words;
 
-pub use lent::LentWords;
-pub use marks::MarkWords;
-pub use words::{ChartWords, EventWords, file_said};
+pub use lent::{LentWords, lent_names};
+pub use marks::{MarkWords, text_end};
+pub use words::{ChartWords, EventWords, file_said, position_said};

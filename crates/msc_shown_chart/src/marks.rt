@@ -55,8 +55,9 @@ fn quoted_length(bytes: &[u8]) -> usize
     bytes.len()
 }
 
-/// The place after the text that begins with the apostrophe at this place.
-fn text_end(text: &[u8], at: usize) -> usize
+/// The place after the text that begins with the apostrophe at this place; the place itself, if it is
+/// the end of the whole text. It takes no memory.
+pub fn text_end(text: &[u8], at: usize) -> usize
     ensures { result ≡ text_end text.now at }
 {
     if at >= text.len() {

@@ -61,13 +61,9 @@ pub fn file_said(alloc: Global, file: &[u8]) -> Result<String, AllocError>
     shown(alloc, bytes.as_slice())
 }
 
-/// A place in a file, as it is printed.
+/// A place in a file, as it is printed: `FILE:LINE:COLUMN`. The only error is want of memory.
 #[tactic(auto, unfolding(crate::specs::Words::position_said))]
-pub(crate) fn position_said(
-    alloc: Global,
-    file: &str,
-    position: Position,
-) -> Result<String, AllocError>
+pub fn position_said(alloc: Global, file: &str, position: Position) -> Result<String, AllocError>
     ensures { IfOk result (λ said. string_bytes said
         ≡ position_said file.now position.line position.column) }
 {

@@ -1,8 +1,8 @@
 -- The steps of a ring that keeps each run from a drawing are between events of the chart.
-use Rattle.std.proofs.Common.{◌≡◌, ℕ, ◌<◌, All, List, [], ◌∷◌, ◌++◌, length, refl, sym, subst, arith}
+use Rattle.std.proofs.Common.{ℕ, ◌<◌, List, [], ◌∷◌, ◌++◌, length, sym, subst, arith}
 use Rattle.std.proofs.lemmas.List.Elements.{All-cons, All-from_get_or, All-head, All-push, All-tail}
 use Rattle.msc_chart.specs.Drawings.{Drawing}
-use Rattle.msc_chart.specs.Orders.{wired, WiredChart}
+use Rattle.msc_chart.specs.Orders.{wired}
 use Rattle.msc_chart.specs.declared.queue.Queues.{Queues}
 use Rattle.msc_follow.specs.Following.{IsLeastStepRing}
 use Rattle.msc_reason.specs.Named.{AreEventsOf}

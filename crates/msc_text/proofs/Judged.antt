@@ -26,7 +26,6 @@ use Rattle.msc_print.specs.declared.page.WriteFault.{WriteFault}
 use Rattle.msc_print.specs.declared.page.WriteFault.TheVariants as writing
 use Rattle.msc_judge.specs.declared.options.CheckOptions.{CheckOptions}
 use Rattle.msc_report.specs.Following.{ring_steps}
-use Rattle.msc_report.specs.declared.fault.Fault.TheVariants.{Memory}
 use Rattle.msc_text.specs.Judging.{asked, left_out, round_texts_in, texts_in, IsMarking, IsRingIn, JudgesChart, JudgesUnrolled, PassesOnce, PassesRounds}
 use Rattle.msc_text.specs.declared.judging.ChartFormat.{ChartFormat}
 

@@ -1,7 +1,7 @@
 """What `msc check` and `msc ready` print of random charts with `--format full`.
 
 The charts have random line ends, and some have marks or name their queues; others of the texts have
-mistakes. The program does not print refusals in this form yet.
+mistakes.
 """
 import re
 

@@ -6,7 +6,7 @@ from models.chart import Chart
 from models.diagnostic import Note, printed
 from models.ready import Ready
 from models.rounds import Several
-from models.wording import ChartSpeech, Pair, RoundSpeech, left_block, run_note, stick_block
+from models.wording import ChartSpeech, LeftPair, Pair, RoundSpeech, left_block, run_note, stick_block
 
 
 class Runs:
@@ -75,7 +75,7 @@ def ready_lines(text, page, queues, options):
     if found.two:
         rounds = RoundSpeech(speech, found.two)
         blocks += stick_blocks(rounds, found.double, found.between, runs, True)
-    blocks += [left_block(Pair(speech, found.drawn, e, f)) for e, f in found.left]
+    blocks += [left_block(LeftPair(speech, found.drawn, e, f)) for e, f in found.left]
     verdict = closing.verdict_on(found.verdict(options), queues, found.drawn.names)
     lines = printed(page, blocks, options.colours)
     return [*lines, closing.closing(page.file, verdict, options.colours)], found.status

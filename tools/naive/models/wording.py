@@ -241,6 +241,13 @@ def race_block(pair, where=None, run=None):
     return Block(level, ident, pair.sentence(), marks, tuple(filter(None, notes)))
 
 
+class LeftPair(Pair):
+    """A race that `ready --only` leaves. It can happen first; whether it always does is not said."""
+
+    def is_always(self):
+        return False
+
+
 def left_block(pair):
     """The block of a race that `ready --only` leaves."""
     return Block("warning", "race", pair.sentence(), pair.marks())

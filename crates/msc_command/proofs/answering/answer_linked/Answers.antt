@@ -3,7 +3,7 @@ use Rattle.std.proofs.lemmas.Result.{err_from_is_err_and}
 use Rattle.msc_chart.specs.declared.queue.LinkKind.{LinkKind}
 use Rattle.msc_command.proofs.Answered.{answered_under, not_linked_at}
 use Rattle.msc_command.specs.Answering.{AnswersOf}
-use Rattle.msc_command.specs.Linked.{under, usual_in, AreLinked}
+use Rattle.msc_command.specs.Linked.{AreLinked}
 use Rattle.msc_command.specs.declared.tasks.ChartCommand.{ChartCommand}
 use Rattle.msc_command.proofs.answering.answer_linked.Goals as goal
 

@@ -3,7 +3,7 @@ use Rattle.std.proofs.lemmas.Result.{err_from_is_err_and}
 use Rattle.msc_chart.specs.declared.queue.LinkKind.{LinkKind}
 use Rattle.msc_command.proofs.Drawn.{drawn_linked, undrawn_linked}
 use Rattle.msc_command.specs.Answering.{Answers}
-use Rattle.msc_command.specs.Drawing.{usual_drawn, PrintsPage, RefusesDrawn}
+use Rattle.msc_command.specs.Drawing.{PrintsPage, RefusesDrawn}
 use Rattle.msc_command.specs.Linked.{AreLinked}
 use Rattle.msc_command.specs.declared.tasks.Drawn.{Drawn}
 use Rattle.msc_command.proofs.answering.draw_linked.Goals as goal
