@@ -57,7 +57,7 @@ closing_text x t can_happen = line_with x (check_verdict (check_of t can_happen)
 abbrev pub readiness_text : FullFormat → SpokenReadiness → List ℕ
 readiness_text x r = line_with x (ready_verdict r) ++ codes "\n"
 
--- it is told how races are accepted: some are listed, and the text has no mark
+-- the help on marks is printed: some races are listed, and the text has no mark
 abbrev pub helps : FullFormat → Totals → Bool
 helps x t = nat_lt 0 (listed_of t.heading) && nat_eq (length x.marks.now) 0
 

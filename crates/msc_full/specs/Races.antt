@@ -20,8 +20,8 @@ use Rattle.msc_full.specs.declared.block.PairNumbers.{PairNumbers}
 use Rattle.msc_full.specs.declared.race.RaceStrings.{RaceStrings}
 use Rattle.msc_full.specs.declared.race.ShownRace.{ShownRace}
 
--- a race that is told, as plain data: its events, why it is a race, whether the second event is of the
--- next round, in which scenarios it is a race and the rows of a run, if these are told
+-- a race to print, as plain data: its events, why it is a race, whether the second event is of the
+-- next round, in which scenarios it is a race and the rows of a run, if these are printed
 pub record PlainRace : Type 0 where
   pub first : ℕ
   pub second : ℕ

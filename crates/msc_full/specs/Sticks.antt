@@ -44,8 +44,8 @@ abbrev pub stick_marks : SpokenBlockedPair → ShownEvent → ShownEvent → Lis
 stick_marks stick first second =
     mark_of first Caret (codes "waits for this") ∷ mark_of second Dash (ahead_label stick.in_mailbox) ∷ []
 
--- a stick that is told, as plain data: its events, whether the second is of the next round, and what
--- is shown of it: a note on the stick that is ahead of it, or the rows of a run, if these are told
+-- a stick to print, as plain data: its events, whether the second is of the next round, and what
+-- is shown of it: a note on the stick that is ahead of it, or the rows of a run, if these are printed
 pub record PlainStick : Type 0 where
   pub first : ℕ
   pub second : ℕ

@@ -30,8 +30,8 @@ listed_text r e q m closes runs =
 abbrev pub number_in : Heading → ℕ
 number_in h = unwrap_or h.closest h.counting
 
--- what is written of these races of two rounds behind those of one round, of which this is said,
--- with so many marks that accept none: how many there are, and each of them
+-- what is written of these races of two rounds after those of one round, which have this heading and
+-- beside which `stale` marks accept no race: the number of the races of two rounds, and each of them
 abbrev pub rounds_from : Texts → EnforcedChart → CheckOptions → ℕ → (ℕ × ℕ → List ℕ) → Heading → List (ℕ × ℕ) → List ℕ
 rounds_from r two q stale runs h pairs =
     r.heading (round_heading two.queues (length pairs))

@@ -50,7 +50,7 @@ fn round_heading(queues: Queues, count: u32) -> Heading
 }
 
 /// The races between two rounds, `count` of them. They are numbered after the races of one round,
-/// which have this heading, with so many marks that accept none.
+/// which have this heading, and beside which `stale` marks accept no race.
 #[derive(Drop)]
 struct RoundList<'t, 'a, R: Renderer> {
     rounds: Rounds<'t, 'a>,

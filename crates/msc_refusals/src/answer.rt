@@ -59,7 +59,7 @@ impl RefusedLines<'_, '_> {
     }
 }
 
-/// Appends the line that closes a refusal; so many further faults are not shown.
+/// Appends the line that closes a refusal and counts the `further` faults that are not shown.
 pub(crate) fn close(
     alloc: Global,
     refused: RefusedText<'_>,

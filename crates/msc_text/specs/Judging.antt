@@ -123,8 +123,8 @@ pub record JudgesOnce (d : Drawing) (queues : Queues) (q : CheckOptions) (marks 
   pub text : printed
       ≡ answer_text (texts_in format (ring_steps ring) d) (enforced_chart d queues order) (asked format q) marking tables (not again)
 
--- What is printed of two rounds of a chart behind so many races that are listed, where this is said
--- of the chart, with such a ring and so many marks that accept none; and whether no race is between
+-- What is printed of two rounds of a chart after the `number` races that are listed of one, with this
+-- heading, this ring and `stale` marks that accept no race; and whether no race is between
 -- the rounds: by the enforced order of the two, what their races lack, and the runs that show them.
 -- The question is what is asked in the format.
 pub record JudgesRounds (d : Drawing) (queues : Queues) (q : CheckOptions) (format : ChartFormat) (ring : List ℕ) (number stale : ℕ) (h : Heading) (none : Bool) (printed : List ℕ) : Type 0 where
