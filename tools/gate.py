@@ -27,9 +27,8 @@ import tempfile
 TOP = pathlib.Path(__file__).resolve().parent.parent
 # crates with wrong bodies that a promise is known by, as `visual_as_enforced` and `take_skips`
 KNOWN = ("msc_chart", "msc_fifo", "msc_gather", "msc_instance", "msc_order", "msc_race")
-# The last commit at which `./test` tried all edits below must-fail, and each was refused; it left out
-# those of msc_command and msc_shown_chart, which both changed after it.
-ALL_TRIED = "543fbffc"
+# The last commit at which `./test` had tried all edits below must-fail, and each was refused.
+ALL_TRIED = "ba276895"
 LISTED = re.compile(r"(?m)^(\w+)[^:#\n]*:")
 THIRDS = 3
 
