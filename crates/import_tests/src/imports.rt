@@ -2,8 +2,8 @@
 
 use listed::Listed;
 use msc_import::{
-    Imported, Importing, ImportingAll, Language, Manner, Own, Par, Refused, Scenarios, import,
-    import_all, places,
+    Imported, Importing, ImportingAll, Language, Manner, Own, Par, Refused, draw_all, import,
+    places, read,
 };
 use msc_mermaid::{ImportFault, diagram_of};
 use msc_place::Position;
@@ -202,15 +202,13 @@ fn the_places_of_events(rt: HostRuntime) {
     assert!(rt; found);
 }
 
-/// All scenarios of a text, if loops go these numbers of rounds. Their charts' name is `t`.
-fn all_of(
-    rt: &impl AllocGlobal,
-    text: &[u8],
-    rounds: &[usize],
+/// The import of all scenarios, if loops go these numbers of rounds. The name of the charts is `t`.
+fn importing_all<'r>(
+    rounds: &'r [usize],
     limit: usize,
     fence: Option<usize>,
-) -> Result<Scenarios<'static>, Refused> {
-    let importing = ImportingAll {
+) -> ImportingAll<'r, 'static> {
+    ImportingAll {
         language: Language::Any,
         fence,
         cross: None,
@@ -218,28 +216,34 @@ fn all_of(
         rounds,
         limit,
         name: b"t",
+    }
+}
+
+/// Whether a text has scenarios with just these choices, if loops go these numbers of rounds.
+fn has_choices(rt: &impl AllocGlobal, text: &[u8], rounds: &[usize], wanted: &[&[usize]]) -> bool {
+    let importing = importing_all(rounds, wanted.len(), None);
+    let Ok(diagram) = read(rt.alloc(), importing.reading(), text) else {
+        return false;
     };
-    import_all(rt.alloc(), importing, text)
+    let Ok(found) = draw_all(rt.alloc(), importing, &diagram) else {
+        return false;
+    };
+    let list = found.list;
+    let mut same = list.len() == wanted.len() && !found.drawn;
+    for i in 0..list.len() {
+        let choices = match list.scenario(rt.alloc(), i) {
+            Ok(scenario) => scenario.choices,
+            Err(_) => Listed::from_vec(Vec::new(rt.alloc())),
+        };
+        same = same && i < wanted.len() && choices.as_slice() == wanted[i];
+    }
+    same
 }
 
 #[test]
-fn all_choices_of_import_all(rt: HostRuntime) {
+fn all_choices_of_a_diagram(rt: HostRuntime) {
     for &(text, rounds, wanted) in CHOICES {
-        let same = match all_of(&rt, text, rounds, wanted.len(), None) {
-            Ok(found) => {
-                let list = found.list;
-                let mut same = list.len() == wanted.len() && !found.drawn;
-                for i in 0..list.len() {
-                    let choices = match list.scenario(rt.alloc(), i) {
-                        Ok(scenario) => scenario.choices,
-                        Err(_) => Listed::from_vec(Vec::new(rt.alloc())),
-                    };
-                    same = same && i < wanted.len() && choices.as_slice() == wanted[i];
-                }
-                same
-            }
-            Err(_) => false,
-        };
+        let same = has_choices(&rt, text, rounds, wanted);
         assert!(rt; same, "{text:?}");
     }
 }
@@ -299,7 +303,8 @@ fn a_diagram_of_markdown_has_its_places(rt: HostRuntime) {
     ] {
         let fault = main_of(&rt, number).err().map(|refused| refused.fault);
         assert!(rt; fault == Some(wanted), "{number}");
-        let fault = all_of(&rt, MARKDOWN, &[0], 1, Some(number))
+        let reading = importing_all(&[0], 1, Some(number)).reading();
+        let fault = read(rt.alloc(), reading, MARKDOWN)
             .err()
             .map(|refused| refused.fault);
         assert!(rt; fault == Some(wanted), "{number}");

@@ -5,13 +5,19 @@ use msc_import::{EventSpans, Imported, Importing, Language, Manner, Own, Par, Re
 use msc_mermaid::Span;
 use std::alloc::AllocGlobal;
 
+/// The places of the statement of an event and of the label of its arrow.
+struct Site {
+    label: Span,
+    statement: Span,
+}
+
 /// A text; the places at which its lines are named first, and those of their shown names; and for
 /// each event the places of its statement and its label.
 type Sited = (
     &'static [u8],
     &'static [Span],
     &'static [Option<Span>],
-    &'static [EventSpans],
+    &'static [Site],
 );
 
 /// A byte order mark and line ends of two bytes; a block of Markdown after bytes that are no
@@ -37,7 +43,7 @@ const SITED: &[Sited] = &[
             None,
         ],
         &[
-            EventSpans {
+            Site {
                 label: Span {
                     first: 71,
                     past: 74,
@@ -47,7 +53,7 @@ const SITED: &[Sited] = &[
                     past: 74,
                 },
             },
-            EventSpans {
+            Site {
                 label: Span {
                     first: 71,
                     past: 74,
@@ -57,7 +63,7 @@ const SITED: &[Sited] = &[
                     past: 74,
                 },
             },
-            EventSpans {
+            Site {
                 label: Span {
                     first: 90,
                     past: 93,
@@ -83,7 +89,7 @@ const SITED: &[Sited] = &[
         ],
         &[None, None],
         &[
-            EventSpans {
+            Site {
                 label: Span {
                     first: 77,
                     past: 89,
@@ -93,7 +99,7 @@ const SITED: &[Sited] = &[
                     past: 89,
                 },
             },
-            EventSpans {
+            Site {
                 label: Span {
                     first: 77,
                     past: 89,
@@ -125,7 +131,7 @@ const SITED: &[Sited] = &[
             None,
         ],
         &[
-            EventSpans {
+            Site {
                 label: Span {
                     first: 82,
                     past: 85,
@@ -135,7 +141,7 @@ const SITED: &[Sited] = &[
                     past: 85,
                 },
             },
-            EventSpans {
+            Site {
                 label: Span {
                     first: 82,
                     past: 85,
@@ -165,6 +171,16 @@ fn main_of(rt: &impl AllocGlobal, text: &[u8]) -> Result<Imported, Refused> {
     import(rt.alloc(), importing, text)
 }
 
+/// Whether the events have these sites, outside of all loops.
+fn has_events(found: &[EventSpans], events: &[Site]) -> bool {
+    found.len() == events.len()
+        && found.iter().zip(events.iter()).all(|(found, event)| {
+            found.statement == event.statement
+                && found.label == event.label
+                && found.rounds.as_slice().is_empty()
+        })
+}
+
 /// Whether these positions are those of a text.
 fn has_sites(rt: &impl AllocGlobal, sited: &Sited) -> bool {
     let &(text, names, shown, events) = sited;
@@ -172,7 +188,7 @@ fn has_sites(rt: &impl AllocGlobal, sited: &Sited) -> bool {
         Ok(found) => {
             found.spans.names.as_slice() == names
                 && found.spans.shown.as_slice() == shown
-                && found.spans.events.as_slice() == events
+                && has_events(found.spans.events.as_slice(), events)
         }
         Err(_) => false,
     }
@@ -182,5 +198,36 @@ fn has_sites(rt: &impl AllocGlobal, sited: &Sited) -> bool {
 fn names_labels_and_statements_stand_there(rt: HostRuntime) {
     for sited in SITED {
         assert!(rt; has_sites(&rt, sited), "{:?}", sited.0);
+    }
+}
+
+/// A loop of two rounds in a loop of one, and an arrow after it.
+const LOOPS: &[u8] =
+    b"sequenceDiagram\nloop outer\nloop inner\nA->>B: one\nend\nA->>B: two\nend\nA->>B: three\n";
+
+/// The rounds of the events on a line of it.
+const ROUNDS: [&[usize]; 4] = [&[1, 1], &[1, 2], &[1], &[]];
+
+#[test]
+fn events_have_the_rounds_of_their_loops(rt: HostRuntime) {
+    let importing = Importing {
+        language: Language::Any,
+        fence: None,
+        cross: None,
+        manner: Manner {
+            own: Own::Action,
+            par: Par::Refused,
+        },
+        choices: Some(&[1, 2]),
+        name: b"t",
+    };
+    let Ok(found) = import(rt.alloc(), importing, LOOPS) else {
+        panic!(rt; "a scenario of two loops");
+    };
+    let events = found.spans.events.as_slice();
+    assert_eq!(rt; events.len(), 2 * ROUNDS.len());
+    for (i, rounds) in ROUNDS.iter().enumerate() {
+        assert_eq!(rt; events[i].rounds.as_slice(), *rounds, "{i}");
+        assert_eq!(rt; events[i + ROUNDS.len()].rounds.as_slice(), *rounds, "{i}");
     }
 }

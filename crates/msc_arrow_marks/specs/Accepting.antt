@@ -14,21 +14,22 @@ use Rattle.msc_arrow_marks.specs.declared.marks.ArrowMark.{ArrowMark}
 use Rattle.msc_arrow_marks.specs.declared.other.OtherArrow.{OtherArrow}
 use Rattle.msc_arrow_marks.specs.declared.other.OtherArrow.TheVariants.{Label, Number}
 use Rattle.msc_arrow_marks.specs.declared.reading.MarkText.{MarkText}
-use Rattle.msc_arrow_marks.specs.Marks.{is_same}
+use Rattle.msc_arrow_marks.specs.Marks.{bytes_at, is_same}
 
 -- a label as people read it
 abbrev pub spoken_bytes : List ℕ → List ℕ
 spoken_bytes label = encode_utf8_all (spoken_text label)
 
--- a statement, as names of arrows are compared with it
-abbrev pub spoken_of : ℕ → Statement → SpokenArrow
-spoken_of number (Declares ident shown) = record { is = false; digits = []; label = [] }
-spoken_of number (Says arrow) = record { is = true; digits = decimal number; label = spoken_bytes arrow.label }
-spoken_of number (Begins kind) = record { is = false; digits = []; label = [] }
-spoken_of number (Closes closer) = record { is = false; digits = []; label = [] }
+-- a statement with this number and this label, as names of arrows are compared with it
+abbrev pub spoken_of : List ℕ → ℕ → Statement → SpokenArrow
+spoken_of label number (Declares ident shown) = record { is = false; digits = []; label = [] }
+spoken_of label number (Says arrow) = record { is = true; digits = decimal number; label = spoken_bytes label }
+spoken_of label number (Begins kind) = record { is = false; digits = []; label = [] }
+spoken_of label number (Closes closer) = record { is = false; digits = []; label = [] }
 
-abbrev pub spoken_arrow : Placed → SpokenArrow
-spoken_arrow placed = spoken_of placed.number placed.statement
+-- the label is that of the text, whose entities people read
+abbrev pub spoken_arrow : List ℕ → Placed → SpokenArrow
+spoken_arrow text placed = spoken_of (bytes_at text placed.shown) placed.number placed.statement
 
 -- a name of an arrow, with the label as people read it
 abbrev pub spoken_other : OtherArrow → OtherArrow
@@ -76,18 +77,19 @@ pub record AreRows (marks : List ArrowMark) (arrows : List SpokenArrow) (usual :
   pub size : length rows ≡ length arrows
   pub each : (i : ℕ) → i < length arrows → get_or rows i [] ≡ row_at marks arrows usual i
 
--- the marks of a diagram with these statements, under an architecture of a usual kind
+-- the marks of a diagram of this text and with these statements, under an architecture of a usual kind
 pub record Acceptance : Type 0 where
+  pub text : List ℕ
   pub marks : List ArrowMark
   pub statements : List Placed
   pub usual : LinkKind
 
-abbrev pub acceptance : List ArrowMark → List Placed → LinkKind → Acceptance
-acceptance marks statements usual = record { marks = marks; statements = statements; usual = usual }
+abbrev pub acceptance : List ℕ → List ArrowMark → List Placed → LinkKind → Acceptance
+acceptance text marks statements usual = record { text = text; marks = marks; statements = statements; usual = usual }
 
 -- the mark of statement i accepts races with statement j
 abbrev pub accepts_from : Acceptance → ℕ → ℕ → Bool
-accepts_from a i j = get_or (row_at a.marks (map spoken_arrow a.statements) a.usual i) j false
+accepts_from a i j = get_or (row_at a.marks (map (spoken_arrow a.text) a.statements) a.usual i) j false
 
 -- a race of both is accepted: by the mark of either
 abbrev pub accepts : Acceptance → ℕ → ℕ → Bool

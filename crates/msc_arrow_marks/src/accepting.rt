@@ -8,7 +8,7 @@ ghost use Rattle.msc_arrow_marks.specs.Accepting.{is_kind, is_mark_of, is_named,
 ghost use Rattle.msc_arrow_marks.specs.Accepting.{significant, spoken_arrow, spoken_bytes};
 ghost use Rattle.msc_arrow_marks.specs.Accepting.{spoken_other};
 
-use crate::finding::is_same;
+use crate::finding::{bytes_at, is_same};
 use crate::marks::{ArrowMark, DiagramMarks};
 use crate::other::OtherArrow;
 use crate::reading::MarkText;
@@ -23,7 +23,7 @@ use std::marker::Model;
 /// A statement, as the names of arrows are compared with it: its number in decimal digits, and its
 /// label as people read it, if it is an arrow.
 #[derive(Drop)]
-struct SpokenArrow {
+pub struct SpokenArrow {
     is: bool,
     digits: Listed<u8>,
     label: Listed<u8>,
@@ -45,14 +45,14 @@ fn digits_of(alloc: Global, number: usize) -> Result<Vec<u8>, AllocError>
     Vec::from_slice(alloc, buffer.format(number).as_bytes())
 }
 
-/// A statement, as the names of arrows are compared with it.
-fn spoken_arrow(alloc: Global, placed: &Placed) -> Result<SpokenArrow, AllocError>
-    ensures { IfOk result (λ arrow. arrow ≡ spoken_arrow placed.now) }
+/// A statement of a text, as the names of arrows are compared with it.
+fn spoken_arrow(alloc: Global, text: &[u8], placed: &Placed) -> Result<SpokenArrow, AllocError>
+    ensures { IfOk result (λ arrow. arrow ≡ spoken_arrow text.now placed.now) }
 {
     match &placed.statement {
-        Statement::Says(arrow) => {
+        Statement::Says(_) => {
             let digits = digits_of(alloc, placed.number)?;
-            let label = spoken_bytes(alloc, arrow.label.as_slice())?;
+            let label = spoken_bytes(alloc, bytes_at(text, placed.shown))?;
             Ok(SpokenArrow {
                 is: true,
                 digits: Listed::from_vec(digits),
@@ -67,19 +67,25 @@ fn spoken_arrow(alloc: Global, placed: &Placed) -> Result<SpokenArrow, AllocErro
     }
 }
 
-/// The statements, as the names of arrows are compared with them.
-fn spoken_arrows(alloc: Global, statements: &[Placed]) -> Result<Vec<SpokenArrow>, AllocError>
-    ensures { IfOk result (λ arrows. arrows.items ≡ map spoken_arrow statements.now) }
+/// The statements of a text, as the names of arrows are compared with them. An error is a growth of
+/// memory that was refused.
+pub fn spoken_arrows(
+    alloc: Global,
+    text: &[u8],
+    statements: &[Placed],
+) -> Result<Vec<SpokenArrow>, AllocError>
+    ensures { IfOk result (λ arrows. arrows.items ≡ map (spoken_arrow text.now) statements.now) }
 {
     let mut arrows = Vec::with_capacity(alloc, statements.len())?;
     for placed in statements {
-        arrows.push(spoken_arrow(alloc, placed)?)?;
+        arrows.push(spoken_arrow(alloc, text, placed)?)?;
     }
     Ok(arrows)
 }
 
-/// A name of an arrow with the label as people read it.
-fn spoken_other(alloc: Global, other: &OtherArrow) -> Result<OtherArrow, AllocError>
+/// A name of an arrow with the label as people read it. An error is a growth of memory that was
+/// refused.
+pub fn spoken_other(alloc: Global, other: &OtherArrow) -> Result<OtherArrow, AllocError>
     ensures { IfOk result (λ spoken. spoken ≡ spoken_other other.now) }
 {
     match other {
@@ -120,8 +126,8 @@ fn significant(digits: &[u8]) -> &[u8]
     &digits[zeros(digits)..]
 }
 
-/// Whether an arrow has this name.
-fn is_named(name: &OtherArrow, arrow: &SpokenArrow) -> bool
+/// Whether an arrow has this name, of which the label is as people read it. It takes no memory.
+pub fn is_named(name: &OtherArrow, arrow: &SpokenArrow) -> bool
     ensures { result ≡ is_named arrow.now name.now }
 {
     match name {
@@ -221,9 +227,10 @@ fn rows_of(
 }
 
 /// The arrows of a diagram whose races its marks accept, under an architecture. Contracts see the
-/// marks, the statements and the usual kind.
+/// text, the marks, the statements and the usual kind.
 #[derive(Drop)]
 pub struct AcceptedArrows<'m> {
+    text: &'m [u8],
     marks: &'m [ArrowMark],
     statements: &'m [Placed],
     usual: LinkKind,
@@ -237,33 +244,56 @@ impl<'m> Model for AcceptedArrows<'m> {
 
     ghost Value = { Acceptance };
 
-    ghost view = { λ a. acceptance a.marks.now a.statements.now a.usual };
+    ghost view = { λ a. acceptance a.text.now a.marks.now a.statements.now a.usual };
 
     ghost invariant = { λ a.
-        AreRows a.marks.now (map spoken_arrow a.statements.now) a.usual a.rows.items };
+        AreRows a.marks.now (map (spoken_arrow a.text.now) a.statements.now) a.usual a.rows.items };
 }
 
 impl<'m> AcceptedArrows<'m> {
-    /// The arrows of a diagram whose races its marks accept, under an architecture of this usual
-    /// kind. An error is a growth of memory that was refused.
+    /// The arrows of a diagram of this text whose races its marks accept, under an architecture of
+    /// this usual kind. An error is a growth of memory that was refused.
     pub fn of(
         alloc: Global,
+        text: &'m [u8],
         marks: &'m DiagramMarks,
         diagram: &'m Diagram,
         usual: LinkKind,
     ) -> Result<AcceptedArrows<'m>, AllocError>
         ensures { IfOk result (λ accepted. accepted
-            ≡ acceptance marks.now.marks diagram.now.statements usual) }
+            ≡ acceptance text.entry.now marks.entry.now.marks diagram.entry.now.statements usual) }
     {
         let (marks, statements) = (marks.marks.as_slice(), diagram.statements.as_slice());
-        let arrows = spoken_arrows(alloc, statements)?;
+        let arrows = spoken_arrows(alloc, text, statements)?;
         let rows = rows_of(alloc, marks, arrows.as_slice(), usual)?;
         Ok(AcceptedArrows {
+            text,
             marks,
             statements,
             usual,
             rows,
         })
+    }
+
+    /// The marks of the diagram.
+    pub fn marks(&self) -> &'m [ArrowMark]
+        ensures { result.now ≡ self.now.marks }
+    {
+        self.marks
+    }
+
+    /// The number of its statements. It takes no memory.
+    pub fn statements(&self) -> usize
+        ensures { result ≡ length self.now.statements }
+    {
+        self.statements.len()
+    }
+
+    /// Whether a mark is for the architecture. It takes no memory.
+    pub fn is_for(&self, mark: &ArrowMark) -> bool
+        ensures { result ≡ is_for self.now.usual mark.now.said }
+    {
+        is_for(&mark.said, self.usual)
     }
 
     /// Whether the mark of statement `i` accepts races with statement `j`: it is for the

@@ -15,7 +15,7 @@ use msc_mermaid::{Diagram, Placed, Span, Statement, trimmed};
 use std::alloc::{AllocError, Global};
 
 /// The bytes of a text in a span, or none if the text is shorter.
-fn bytes_at(text: &[u8], span: Span) -> &[u8]
+pub(crate) fn bytes_at(text: &[u8], span: Span) -> &[u8]
     ensures { result.now ≡ bytes_at text.now span }
 {
     if span.first <= span.past && span.past <= text.len() {

@@ -33,7 +33,7 @@ mod reading;
 #[cfg(test)]
 mod tests;
 
-pub use accepting::AcceptedArrows;
+pub use accepting::{AcceptedArrows, SpokenArrow, is_named, spoken_arrows, spoken_other};
 pub use fault::{FaultyMark, Slip};
 pub use marks::{ArrowMark, DiagramMarks};
 pub use other::OtherArrow;

@@ -1,6 +1,6 @@
 -- What was answered of a chart is answered of its text, and a flush keeps it.
 use Rattle.std.proofs.lemmas.Bool.{false≢true}
-use Rattle.std.proofs.Common.{◌≡◌, ◌≢◌, ◌<◌, ℕ, Bool, true, false, List, [], is_some, length, Bor, Option, Some, None, option_map, Result, Ok, Err, inl, inr, refl, sym, subst, ◌∙◌}
+use Rattle.std.proofs.Common.{◌≡◌, ◌<◌, ℕ, Bool, true, false, List, [], is_some, length, Bor, Option, Some, None, option_map, Result, Ok, Err, inl, inr, refl, sym, subst, ◌∙◌}
 use Rattle.std.specs.Io.KnownBytes.{Appends, Keeps}
 use Rattle.msc_chart.specs.declared.queue.LinkKind.{LinkKind}
 use Rattle.msc_chart.specs.declared.queue.Queues.{Queues}
@@ -18,15 +18,9 @@ use Rattle.msc_mark.specs.declared.fault.MarkFault.{MarkFault}
 use Rattle.msc_mark.specs.declared.fault.MarkFault.TheVariants as marking
 use Rattle.msc_mark.specs.declared.mark.Mark.{Mark}
 use Rattle.msc_report.specs.declared.fault.Fault.TheVariants.{Parse, Chart, NotStarted, Memory, Device}
-use Rattle.msc_report.specs.Refusals.{of_reading, of_run, of_source, of_writing}
-use Rattle.msc_source.specs.Reading as reading
-use Rattle.msc_source.specs.Texts.{IsChartOf, source_text, SourceText}
+use Rattle.msc_report.specs.Refusals.{of_reading, of_run, of_writing}
 use Rattle.msc_source.specs.declared.fault.ReadFault.{ReadFault}
 use Rattle.msc_source.specs.declared.fault.ReadFault.TheVariants as readings
-use Rattle.msc_source.specs.declared.fault.SourceFault.{SourceFault}
-use Rattle.msc_source.specs.declared.fault.SourceFault.TheVariants as sources
-use Rattle.msc_source.specs.declared.language.Language.{Language}
-use Rattle.msc_source.specs.declared.language.Language.TheVariants.{MscPr}
 use Rattle.msc_reason.specs.declared.kinds.KindSet.{KindSet}
 use Rattle.msc_text.specs.Judging.{AreItsRounds, JudgesChart, Passes}
 use Rattle.msc_text.specs.declared.judging.ChartFormat.{ChartFormat}
@@ -38,8 +32,8 @@ use Rattle.msc_command.specs.declared.tasks.ChartCommand.TheVariants as chart_co
 use Rattle.msc_command.specs.declared.tasks.CheckArgs.{CheckArgs}
 use Rattle.msc_command.specs.declared.tasks.LinkWords.{LinkWords}
 use Rattle.msc_command.specs.declared.tasks.Task.{Task}
-use Rattle.msc_command.specs.declared.tasks.Task.TheVariants as tasks
-use Rattle.msc_command.specs.Answering.{Answers, AnswersOf, AnswersWith, Delivers, Does, EndsAs, IsPut, Performs, Prints, PrintsLinked, PrintsOf, Refuses, RefusesLinked, RefusesOf, TellsQuietly}
+use Rattle.msc_command.specs.Answering.{Answers, AnswersOf, AnswersWith, Delivers, Does, EndsAs, IsPut, Performs, PrintsLinked, PrintsOf, RefusesLinked, RefusesOf, TellsQuietly}
+use Rattle.msc_command.specs.Charted.{ChartedText}
 use Rattle.msc_command.specs.Ending.{ended_by, of_marks, of_rounds}
 use Rattle.msc_command.specs.Formats.{IsFormat, IsReadyFormat}
 use Rattle.msc_command.specs.Linked.{under, usual_in, AreLinked, IsLinked}
@@ -61,13 +55,13 @@ kept (Some xs) (Some ys) None bytes wrote keeps = absurd keeps
 kept (Some xs) (Some ys) (Some zs) bytes wrote keeps = keeps ∙ wrote
 
 -- how marks that can't be read end what is told by the status alone
-pub quietly_marked : (x : QuietArgs) (s : SourceText) (f : MarkFault) → ReadsMarks x.accept s.text (Err f) → TellsQuietly x s (Err (of_marks f))
+pub quietly_marked : (x : QuietArgs) (s : ChartedText) (f : MarkFault) → ReadsMarks x.accept s.text (Err f) → TellsQuietly x s (Err (of_marks f))
 quietly_marked x s (marking.Part at) faulty = faulty
 quietly_marked x s (marking.Reason at) faulty = faulty
 quietly_marked x s marking.Memory said = tt
 
 -- and how rounds that are no chart do
-pub quietly_long : (x : QuietArgs) (s : SourceText) (f : UnrollFault) → GivesRounds x.again s.chart (Err f) → TellsQuietly x s (Err (of_rounds f))
+pub quietly_long : (x : QuietArgs) (s : ChartedText) (f : UnrollFault) → GivesRounds x.again s.chart (Err f) → TellsQuietly x s (Err (of_rounds f))
 quietly_long x s two_rounds.TooManyMessages long = long
 quietly_long x s two_rounds.TooManyActions long = long
 quietly_long x s two_rounds.Memory said = tt
@@ -153,7 +147,7 @@ module _ {W : Type 0} (contents : W → Option (List ℕ)) where
   print_so prints refuses bytes status says (Ok s) old new (same, wrote) = (bytes, subst (λ (s : Status). prints s bytes) (sym same) says, wrote)
   print_so prints refuses bytes status says (Err r) old new is = rw is tt
 
-  module _ (c : CheckArgs) (file : List ℕ) (chart_format : ChartFormat) (s : SourceText) (marks : Option (List Mark))
+  module _ (c : CheckArgs) (file : List ℕ) (chart_format : ChartFormat) (s : ChartedText) (marks : Option (List Mark))
       (its : IsFormat c file s marks chart_format) (are : AreMarked c.accept s.text marks) (room : HasRoom c.again s.chart) where
     -- what is judged of a chart, with rounds of it where they are asked for
     judges : (again : Bool) → again ≡ c.again → (passed : Bool) (printed : List ℕ) → JudgesChart s.chart c.queues c.options marks again chart_format passed printed
@@ -176,7 +170,7 @@ module _ {W : Type 0} (contents : W → Option (List ℕ)) where
         inr (printed, (ended_by passed, judges again asked passed printed says), begun)
     not_judged again asked writing.Device old new said = tt
 
-  module _ (x : ReadyArgs) (file : List ℕ) (s : SourceText) (only : Option (List Bool)) (are : AreReady s.chart (names_of x) only)
+  module _ (x : ReadyArgs) (file : List ℕ) (s : ChartedText) (only : Option (List Bool)) (are : AreReady s.chart (names_of x) only)
       (format : StickFormat) (its : IsReadyFormat x file s format) (room : HasRoom x.again s.chart) where
     -- what is told of ready instances, with rounds of the chart where they are asked for
     readies : (again : Bool) → again ≡ x.again → (passed : Bool) (printed : List ℕ) → PrintsReady s.chart x.queues only again x.show format passed printed
@@ -200,28 +194,28 @@ module _ {W : Type 0} (contents : W → Option (List ℕ)) where
     not_readied again asked writing.Device old new said = tt
 
   -- marks that can't be read are answered so
-  pub not_marked : (c : CheckArgs) (file : List ℕ) (s : SourceText) (f : MarkFault) (now : W) → ReadsMarks c.accept s.text (Err f)
+  pub not_marked : (c : CheckArgs) (file : List ℕ) (s : ChartedText) (f : MarkFault) (now : W) → ReadsMarks c.accept s.text (Err f)
       → AnswersOf contents (chart_commands.Check c) file s (Err (of_marks f)) now now
   not_marked c file s (marking.Part at) now faulty = (faulty, refl)
   not_marked c file s (marking.Reason at) now faulty = (faulty, refl)
   not_marked c file s marking.Memory now said = inl refl
 
   -- so are rounds that are no chart, of races
-  pub too_long : (c : CheckArgs) (file : List ℕ) (s : SourceText) (f : UnrollFault) (now : W) → GivesRounds c.again s.chart (Err f)
+  pub too_long : (c : CheckArgs) (file : List ℕ) (s : ChartedText) (f : UnrollFault) (now : W) → GivesRounds c.again s.chart (Err f)
       → AnswersOf contents (chart_commands.Check c) file s (Err (of_rounds f)) now now
   too_long c file s two_rounds.TooManyMessages now long = (long, refl)
   too_long c file s two_rounds.TooManyActions now long = (long, refl)
   too_long c file s two_rounds.Memory now said = inl refl
 
   -- and of ready instances
-  pub too_long_ready : (x : ReadyArgs) (file : List ℕ) (s : SourceText) (f : UnrollFault) (now : W) → GivesRounds x.again s.chart (Err f)
+  pub too_long_ready : (x : ReadyArgs) (file : List ℕ) (s : ChartedText) (f : UnrollFault) (now : W) → GivesRounds x.again s.chart (Err f)
       → AnswersOf contents (chart_commands.Ready x) file s (Err (of_rounds f)) now now
   too_long_ready x file s two_rounds.TooManyMessages now long = (long, refl)
   too_long_ready x file s two_rounds.TooManyActions now long = (long, refl)
   too_long_ready x file s two_rounds.Memory now said = inl refl
 
   -- and so is what is told by the status alone
-  pub told_quietly : (x : QuietArgs) (file : List ℕ) (s : SourceText) (answer : Result Status Refusal) (now : W)
+  pub told_quietly : (x : QuietArgs) (file : List ℕ) (s : ChartedText) (answer : Result Status Refusal) (now : W)
       → TellsQuietly x s answer → AnswersOf contents (chart_commands.Quiet x) file s answer now now
   told_quietly x file s (Ok status) now says = ([], says, nothing_more _)
   told_quietly x file s (Err (refusals.Fault (Parse f))) now says = absurd says
@@ -237,70 +231,13 @@ module _ {W : Type 0} (contents : W → Option (List ℕ)) where
   told_quietly x file s (Err (refusals.Import e)) now says = absurd says
 
   -- a chart that was not run is answered so
-  pub not_run : (queues : Queues) (patience : ℕ) (file : List ℕ) (s : SourceText) (f : RunFault) (now : W)
+  pub not_run : (queues : Queues) (patience : ℕ) (file : List ℕ) (s : ChartedText) (f : RunFault) (now : W)
       → ((i : ℕ) → f ≡ runs.NotStarted i → i < length s.chart.instances)
       → AnswersOf contents (chart_commands.Run queues patience) file s (Err (refusals.Fault (of_run f))) now now
   not_run queues patience file s (runs.NotStarted i) now known = (known i refl, refl)
   not_run queues patience file s runs.Memory now known = inl refl
 
-  module _ (file text : List ℕ) where
-    -- a text without a draft is refused
-    pub no_draft : (f : SourceFault) (now : W) → reading.RefusesDraft MscPr text f
-        → Does contents tasks.Read file text (Err (refusals.Fault (of_source f))) now now
-    no_draft (sources.Parse f) now has = (has, refl)
-    no_draft (sources.Chart f) now never = absurd never
-    no_draft sources.Memory now said = inl refl
-
-    -- and one without a chart
-    pub no_chart : (ask : ChartCommand) (words : LinkWords) (f : SourceFault) (now : W) → reading.Refuses MscPr text f
-        → Does contents (tasks.Chart ask words) file text (Err (refusals.Fault (of_source f))) now now
-    no_chart ask words (sources.Parse f) now has = (has, refl)
-    no_chart ask words (sources.Chart f) now has = (has, refl)
-    no_chart ask words sources.Memory now said = inl refl
-
-    -- a draft that was not written to its end is answered so
-    pub not_written : (f : WriteFault) (old new : W) → (f ≢ writing.Device → new ≡ old)
-        → Does contents tasks.Read file text (Err (refusals.Fault (of_writing f))) old new
-    not_written writing.Memory old new same = inl (same (λ e. cc))
-    not_written writing.Device old new same = tt
-
-    -- what is refused of a chart is refused of its text
-    refuses_so : (d : Drawing) → IsChartOf text d → (ask : ChartCommand) (words : LinkWords) (r : Refusal)
-        → RefusesLinked ask words (source_text MscPr text d) r → Refuses (tasks.Chart ask words) text r
-    refuses_so d of_text ask words (refusals.Fault (Parse f)) fails = absurd fails.2
-    refuses_so d of_text ask words (refusals.Fault (Chart f)) fails = absurd fails.2
-    refuses_so d of_text ask words (refusals.Fault (NotStarted i)) fails = (d, of_text, fails)
-    refuses_so d of_text ask words (refusals.Fault Memory) fails = absurd fails.2
-    refuses_so d of_text ask words (refusals.Fault Device) fails = absurd fails.2
-    refuses_so d of_text ask words (refusals.Pair f) fails = (d, of_text, fails)
-    refuses_so d of_text ask words (refusals.Mark f) fails = (d, of_text, fails)
-    refuses_so d of_text ask words (refusals.Instance name) fails = (d, of_text, fails)
-    refuses_so d of_text ask words (refusals.Link fault) fails = (d, of_text, fails)
-    refuses_so d of_text ask words (refusals.Rounds f) fails = (d, of_text, fails)
-    refuses_so d of_text ask words (refusals.Import e) fails = absurd fails.2
-
-    -- what was answered of a chart was answered of its text
-    charted_at : (d : Drawing) → IsChartOf text d → (ask : ChartCommand) (words : LinkWords) (answer : Result Status Refusal) (old new : W)
-        → Answers contents (PrintsLinked ask words file (source_text MscPr text d)) (RefusesLinked ask words (source_text MscPr text d)) answer old new
-        → Does contents (tasks.Chart ask words) file text answer old new
-    charted_at d of_text ask words answer old new said =
-        answers_so (PrintsLinked ask words file (source_text MscPr text d)) (Prints (tasks.Chart ask words) file text)
-        (RefusesLinked ask words (source_text MscPr text d)) (Refuses (tasks.Chart ask words) text)
-        (λ status printed says. (d, of_text, says)) (refuses_so d of_text ask words) answer old new said
-
-    -- the same of a source of the text
-    pub charted : (s : SourceText) → s.language ≡ MscPr → s.text ≡ text → IsChartOf text s.chart
-        → (ask : ChartCommand) (words : LinkWords) (answer : Result Status Refusal) (old new : W)
-        → Answers contents (PrintsLinked ask words file s) (RefusesLinked ask words s) answer old new
-        → Does contents (tasks.Chart ask words) file text answer old new
-    charted s language_is text_is of_text ask words answer old new said =
-        let same : s ≡ source_text MscPr text s.chart =
-        subst (λ (l : Language). s ≡ source_text l text s.chart) language_is
-        (subst (λ (t : List ℕ). s ≡ source_text s.language t s.chart) text_is refl) in
-        charted_at s.chart of_text ask words answer old new
-        (subst (λ (s' : SourceText). Answers contents (PrintsLinked ask words file s') (RefusesLinked ask words s') answer old new) same said)
-
-  module _ (ask : ChartCommand) (words : LinkWords) (file : List ℕ) (s : SourceText) where
+  module _ (ask : ChartCommand) (words : LinkWords) (file : List ℕ) (s : ChartedText) where
     -- words that give no queues are answered so
     pub not_linked : (r : Refusal) (now : W) → IsLinked (usual_in ask) words s (Err r)
         → Answers contents (PrintsLinked ask words file s) (RefusesLinked ask words s) (Err r) now now

@@ -49,15 +49,15 @@ diagram_refused (Some f) x file text printed is says = (x, file, text, f, is, sa
 
 -- so of what is printed for a task only several diagrams are
 printed_refused : (task : Task) (file text printed : List ℕ) → Prints task file text Refused printed → RefusesOne printed
-printed_refused tasks.Read file text printed (draft, has, same, is) = absurd cc
-printed_refused (tasks.Chart (chart_commands.Check c) links) file text printed (d, of_text, (under, linked, (chart_format, its, marks, are, room, passed, same, says))) = absurd (never_ended passed same)
-printed_refused (tasks.Chart (chart_commands.Quiet x) links) file text printed (d, of_text, (under, linked, (marks, are, room, passed, same, says, none))) = absurd (never_ended passed same)
-printed_refused (tasks.Chart (chart_commands.Explain x) links) file text printed (d, of_text, (under, linked, (e, f, two, style, its, enforced, same, says))) = absurd (never_ended enforced same)
-printed_refused (tasks.Chart (chart_commands.Follow x) links) file text printed (d, of_text, (under, linked, (style, its, follows, same, says))) = absurd (never_ended follows same)
-printed_refused (tasks.Chart (chart_commands.Run queues patience) links) file text printed (d, of_text, (under, linked, (finished, same, says))) = absurd (never_finished finished same)
-printed_refused (tasks.Chart (chart_commands.List placed) links) file text printed (d, of_text, (under, linked, (event_positions, are, same, is))) = absurd cc
-printed_refused (tasks.Chart (chart_commands.Ready x) links) file text printed (d, of_text, (under, linked, (only, are, style, its, room, passed, same, says))) = absurd (never_ended passed same)
-printed_refused (tasks.Draw drawn words) file text printed (d, is, (queues, linked, (same, says))) = absurd cc
+printed_refused (tasks.Read chosen) file text printed (draft, has, same, is) = absurd cc
+printed_refused (tasks.Chart (chart_commands.Check c) links) file text printed (d, s, of_text, (under, linked, (chart_format, its, marks, are, room, passed, same, says))) = absurd (never_ended passed same)
+printed_refused (tasks.Chart (chart_commands.Quiet x) links) file text printed (d, s, of_text, (under, linked, (marks, are, room, passed, same, says, none))) = absurd (never_ended passed same)
+printed_refused (tasks.Chart (chart_commands.Explain x) links) file text printed (d, s, of_text, (under, linked, (e, f, two, style, its, enforced, same, says))) = absurd (never_ended enforced same)
+printed_refused (tasks.Chart (chart_commands.Follow x) links) file text printed (d, s, of_text, (under, linked, (style, its, follows, same, says))) = absurd (never_ended follows same)
+printed_refused (tasks.Chart (chart_commands.Run queues patience) links) file text printed (d, s, of_text, (under, linked, (finished, same, says))) = absurd (never_finished finished same)
+printed_refused (tasks.Chart (chart_commands.List placed) links) file text printed (d, s, of_text, (under, linked, (event_positions, are, same, is))) = absurd cc
+printed_refused (tasks.Chart (chart_commands.Ready x) links) file text printed (d, s, of_text, (under, linked, (only, are, style, its, room, passed, same, says))) = absurd (never_ended passed same)
+printed_refused (tasks.Draw drawn words) file text printed (d, s, is, (queues, linked, (same, says))) = absurd cc
 printed_refused (tasks.Import x) file text printed (same, says) = absurd cc
 printed_refused (tasks.Scenarios x) file text printed says = diagram_refused (many_in x text) x file text printed refl says
 

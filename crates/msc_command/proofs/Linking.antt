@@ -3,14 +3,17 @@ use Rattle.std.proofs.Common.{◌≡◌, ℕ, List, [], ◌∷◌, Option, None,
 use Rattle.std.specs.Prelude.{slice_get}
 use Rattle.msc_chart.specs.declared.queue.LinkKind.{LinkKind}
 use Rattle.msc_chart.specs.declared.queue.Queues.{Queues}
+use Rattle.msc_chart.specs.Drawings.{Drawing}
 use Rattle.msc_chart.specs.Faults.{IsFaultless}
+use Rattle.msc_import.specs.declared.importing.Imported.{Imported}
 use Rattle.msc_import.specs.declared.drawings.Scenario.{Scenario as Drawn}
 use Rattle.msc_report.specs.declared.fault.Fault.TheVariants.{Parse, Chart, NotStarted, Memory, Device}
+use Rattle.msc_command.specs.Charted.{ChartedText}
 use Rattle.msc_command.specs.Charting.{AreCharts}
 use Rattle.msc_links.specs.Comments.{own_text}
 use Rattle.msc_links.specs.declared.line.LineNames.{LineNames}
-use Rattle.msc_command.specs.Linked.{IsLinkedAt, IsLinkedBy, IsLinkedIn, IsRuledBy, IsRuledWith, IsRuledWithout}
-use Rattle.msc_command.specs.Own.{OwnSaid, silent, named, IsOwnBy}
+use Rattle.msc_command.specs.Linked.{AreNamesIn, AreNamesOf, IsLinked, IsLinkedAt, IsLinkedBy, IsLinkedIn, IsRuledBy, IsRuledWith, IsRuledWithout}
+use Rattle.msc_command.specs.Own.{OwnSaid, silent, named, said_in, IsOwnBy, SaysIf, SaysInChart, ShowsInChart, ShowsInDiagram}
 use Rattle.msc_command.specs.declared.own.LinkRefusal.TheVariants.{Given, Text, Unclear}
 use Rattle.msc_command.specs.declared.own.OwnComment.{OwnComment}
 use Rattle.msc_command.specs.declared.own.OwnPlace.{OwnPlace}
@@ -84,6 +87,20 @@ module _ (says : OwnSaid → Type 0) (shows : ℕ → OwnPlace → Type 0) (are_
   not_linked_by (refusals.Link (Unclear place)) said = said
   not_linked_by (refusals.Rounds f) said = absurd said
   not_linked_by (refusals.Import e) said = absurd said
+
+-- ---- a text with its chart
+
+module _ (usual : LinkKind) (words : LinkWords) (s : ChartedText) (text : List ℕ) (d : Drawing) (text_is : text ≡ s.text) (chart_is : d ≡ s.chart) where
+  -- a text that draws its chart
+  pub linked_in_text : s.imported ≡ None → (answer : Result Queues Refusal)
+      → IsLinkedBy (SaysIf words.own (SaysInChart text)) (ShowsInChart text) (AreNamesIn d) usual words answer → IsLinked usual words s answer
+  linked_in_text none answer said = rw (none, ← text_is, ← chart_is) said
+
+  -- and a diagram
+  pub linked_in_diagram : (is : Imported) → s.imported ≡ Some is → (answer : Result Queues Refusal)
+      → IsLinkedBy (SaysIf words.own (λ (said : OwnSaid). said ≡ said_in text is.spans.comments)) (ShowsInDiagram text) (AreNamesOf text is.spans d) usual words answer
+      → IsLinked usual words s answer
+  linked_in_diagram is some answer said = rw (some, ← text_is, ← chart_is) said
 
 -- ---- the first scenario
 

@@ -2,7 +2,8 @@
 use Rattle.std.proofs.Common.{◌≡◌, ℕ, Bool, true, false, not, ◌&&◌, List, [], get_or, Option, Result, Ok, Err, is_ok, inl, inr, map, refl, sym, ap, subst, ◌∙◌}
 use Rattle.std.proofs.lemmas.Option.{slice_get-get_or}
 use Rattle.msc_import.specs.Drafting.{chart_name}
-use Rattle.msc_import.specs.Importing.{answered, diagram_from, found_as, told_of}
+use Rattle.msc_import.specs.Importing.{answered, diagram_from, found_as, seen, told_of}
+use Rattle.msc_import.specs.Laws.{ReadingComesFirst}
 use Rattle.msc_import.specs.Whole.{WantedAll, all_of, all_scenarios, draws_branches, imported_all, imported_all_from, may_draw, refusing}
 use Rattle.msc_import.specs.declared.drawings.Scenario.{Scenario as Drawn}
 use Rattle.msc_import.specs.declared.whole.Scenarios.{Scenarios}
@@ -31,7 +32,7 @@ use Rattle.msc_command.specs.Linked.{AreLinkedIn}
 use Rattle.msc_chart.specs.declared.queue.Queues.{Queues}
 use Rattle.msc_chart.specs.Architectures.{usual_of}
 use Rattle.msc_diagram.specs.Scenarios.{diagram_top, first_chart}
-use Rattle.msc_command.specs.Scenarios.{BeginsAll, IsCharted, IsFormatOf, IsImportOfAll, IsLinkedArgs, OfScenarios, PrintsCounted, RefusesScenarios, checked_under, wanted_of}
+use Rattle.msc_command.specs.Scenarios.{BeginsAll, IsCharted, IsDiagramOf, IsFormatOf, IsImportOfAll, IsLinkedArgs, OfScenarios, PrintsCounted, RefusesScenarios, checked_under, wanted_of, with_fence}
 use Rattle.msc_command.specs.Scenarios as of_words
 use Rattle.msc_command.specs.declared.ending.Refusal.{Refusal}
 use Rattle.msc_command.specs.declared.ending.Refusal.TheVariants as refusals
@@ -168,3 +169,22 @@ module _ {W : Type 0} (contents : W → Option (List ℕ)) (c : CheckArgs) (file
   not_told format its top top_is quiet is writing.Memory old new (inr (printed, says, begun)) =
       inr (printed, rw is (format, its, subst (λ (t : List ℕ). BeginsOf t ss c.queues c.options format printed) top_is says), begun)
   not_told format its top top_is quiet is writing.Device old new said = tt
+
+-- a text whose diagram is refused has no scenarios
+pub none_read : ReadingComesFirst → (x : ScenarioArgs) (text : List ℕ) (r : Refusal) → IsDiagramOf x text (Err r) → IsImportOfAll x text (Err r)
+none_read law x text (refusals.Fault Memory) said = tt
+none_read law x text (refusals.Fault (Chart f)) said = absurd said
+none_read law x text (refusals.Fault Device) said = absurd said
+none_read law x text (refusals.Fault (Parse f)) said = absurd said
+none_read law x text (refusals.Fault (NotStarted i)) said = absurd said
+none_read law x text (refusals.Import e) said = law.refused (wanted_of x) text (seen e) said
+none_read law x text (refusals.Pair f) said = absurd said
+none_read law x text (refusals.Mark f) said = absurd said
+none_read law x text (refusals.Instance name) said = absurd said
+none_read law x text (refusals.Link fault) said = absurd said
+none_read law x text (refusals.Rounds f) said = absurd said
+
+-- scenarios do not depend on the number of their diagram
+pub any_fence : (fence : Option ℕ) (x : ScenarioArgs) (d : Diagram) → all_of (wanted_of x) d ≡ all_of (wanted_of (with_fence fence x)) d
+unfolding all_of all_scenarios
+any_fence fence x d = refl

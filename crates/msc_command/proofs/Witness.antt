@@ -1,7 +1,7 @@
--- Which texts are checked diagram by diagram, and what is imported of one of them.
+-- Which texts are checked diagram by diagram, and the diagram of one of them.
 use Rattle.std.proofs.Common.{◌≡◌, ℕ, Bool, true, false, cond, nat_lt, List, length, Option, Some, None, Result, Ok, Err, refl, sym, ap, subst}
-use Rattle.msc_import.specs.Importing.{found_as}
-use Rattle.msc_import.specs.Whole.{WantedAll, imported_all, imported_all_from}
+use Rattle.msc_import.specs.Importing.{found_as, read, read_from}
+use Rattle.msc_import.specs.declared.importing.DiagramReading.{DiagramReading}
 use Rattle.msc_lexer.specs.declared.TheConstants.{TEXT_LIMIT}
 use Rattle.msc_markdown.specs.Markdowns.{Found, found_in, markdown}
 use Rattle.msc_mermaid.specs.declared.fault.ImportFault.{ImportFault}
@@ -41,10 +41,10 @@ pub many_known : (x : ScenarioArgs) (text : List ℕ) (g : Found) → Some g ≡
 many_known x text g is =
     subst (λ (t : List ℕ). markdown t ≡ Ok g) (sym (many_text x text g is)) (many_is x.diagram.fence (markdown text) g (sym is))
 
--- what is imported of a text is imported of what it holds
-pub from_found : (w : WantedAll) (f : Found) → markdown f.text ≡ Ok f → imported_all_from w f ≡ imported_all w f.text
+-- the diagram of a text is that of what it holds
+pub read_found : (x : DiagramReading) (f : Found) → markdown f.text ≡ Ok f → read_from x f ≡ read x f.text
 unfolding found_as
-from_found w f is = rw is refl
+read_found x f is = rw is refl
 
 -- what was answered of the diagrams of a text was answered for the task
 pub diagrams_so : {W : Type 0} (contents : W → Option (List ℕ)) (x : ScenarioArgs) (file text : List ℕ) (many : Option Found) → many ≡ many_in x text

@@ -1,25 +1,20 @@
 -- What is answered for a task.
-use Rattle.std.specs.Prelude.{◌≡◌, ◌<◌, ◌⊎◌, ◌++◌, ℕ, Bool, true, List, [], length, Option, None, Some, Result, Ok, Err}
+use Rattle.std.specs.Prelude.{◌≡◌, ◌<◌, ◌⊎◌, ◌++◌, ℕ, Bool, true, List, [], length, Option, None, Some, Result, Ok, Err, ◌||◌, is_some}
 use Rattle.std.specs.Io.KnownBytes.{Appends}
 use Rattle.msc_chart.specs.declared.queue.Queues.{Queues}
 use Rattle.msc_chart.specs.Drawings.{Drawing}
-use Rattle.msc_chart.specs.Faults.{IsFirstFault}
 use Rattle.msc_chart.specs.declared.fault.UnrollFault.{UnrollFault}
 use Rattle.msc_parser.specs.Canonical.{canonical}
 use Rattle.msc_parser.specs.Grammar.{Tree}
-use Rattle.msc_parser.specs.Parsing.{HasDraft, HasParseFault}
 use Rattle.msc_print.specs.Pages.{WritesBeginning}
 use Rattle.msc_mark.specs.declared.fault.MarkFault.{MarkFault}
 use Rattle.msc_mark.specs.declared.mark.Mark.{Mark}
 use Rattle.msc_markdown.specs.Markdowns.{Found}
-use Rattle.msc_report.specs.declared.fault.Fault.TheVariants.{Parse, NotStarted, Memory, Device}
-use Rattle.msc_report.specs.declared.fault.Fault.TheVariants as faults
+use Rattle.msc_report.specs.declared.fault.Fault.TheVariants.{NotStarted, Memory, Device}
 use Rattle.msc_place.specs.EventPositions.{EventPositionsIn}
 use Rattle.msc_report.specs.Lists.{listed_text}
 use Rattle.msc_report.specs.declared.pair.NamedFault.{NamedFault}
 use Rattle.msc_report.specs.declared.style.Style.{Style}
-use Rattle.msc_source.specs.Texts.{IsChartOf, source_text, SourceText}
-use Rattle.msc_source.specs.declared.language.Language.TheVariants.{MscPr}
 use Rattle.msc_text.specs.Explaining.{PrintsReason}
 use Rattle.msc_text.specs.Following.{PrintsFollowed}
 use Rattle.msc_text.specs.Judging.{JudgesChart, Passes}
@@ -27,6 +22,8 @@ use Rattle.msc_text.specs.Readying.{PrintsReady}
 use Rattle.msc_text.specs.declared.judging.ChartFormat.{ChartFormat}
 use Rattle.msc_text.specs.declared.stick_format.StickFormat.{StickFormat}
 use Rattle.msc_tool.specs.Running.{PrintsExecution}
+use Rattle.msc_command.specs.Charted.{ChartedText}
+use Rattle.msc_command.specs.Drafted.{IsReadBy, IsUnreadBy, PrintsBy, RefusesBy}
 use Rattle.msc_command.specs.Drawing.{PrintsLinkedPage, RefusesLinkedPage}
 use Rattle.msc_command.specs.Ending.{ended_by, ends_as, finished_by}
 use Rattle.msc_command.specs.Formats.{IsFormat, IsReadyFormat}
@@ -54,7 +51,7 @@ use Rattle.msc_command.specs.declared.tasks.Task.TheVariants.{Read, Chart, Draw,
 
 -- What is printed of the chart of a text, of the file of this name, for what is asked of it, and
 -- how the run ends. A chart is run with a gate that is known to be open.
-abbrev pub PrintsOf : ChartCommand → List ℕ → SourceText → Status → List ℕ → Type 0
+abbrev pub PrintsOf : ChartCommand → List ℕ → ChartedText → Status → List ℕ → Type 0
 PrintsOf (Check c) file s status printed =
     (marks : Option (List Mark)) × AreMarked c.accept s.text marks
     × (chart_format : ChartFormat) × IsFormat c file s marks chart_format × HasRoom c.again s.chart
@@ -63,26 +60,26 @@ PrintsOf (Quiet x) file s status printed =
     (marks : Option (List Mark)) × AreMarked x.accept s.text marks × HasRoom x.again s.chart
     × (passed : Bool) × (status ≡ ended_by passed) × Passes s.chart x.queues x.allowed marks x.again passed × (printed ≡ [])
 PrintsOf (Explain x) file s status printed =
-    (e f : ℕ) × AreTwoNamed s x.first x.second e f × (style : Style) × IsStyle x.event_style file s.text style
+    (e f : ℕ) × AreTwoNamed s x.first x.second e f × (style : Style) × IsStyle x.event_style file s style
     × (enforced : Bool) × (status ≡ ended_by enforced) × PrintsReason s.chart x.queues e f x.short style enforced printed
 PrintsOf (Follow x) file s status printed =
-    (style : Style) × IsStyle x.event_style file s.text style
+    (style : Style) × IsStyle x.event_style file s style
     × (follows : Bool) × (status ≡ ended_by follows) × PrintsFollowed s.chart x.queues style follows printed
 PrintsOf (Run queues patience) file s status printed =
     (finished : Bool) × (status ≡ finished_by finished) × PrintsExecution s.chart queues true patience finished printed
 PrintsOf (Listing placed) file s status printed =
-    (event_positions : Option EventPositionsIn) × AreSited placed file s.text event_positions × (status ≡ Done) × (printed ≡ listed_text s.chart event_positions)
+    (event_positions : Option EventPositionsIn) × AreSited (placed || is_some s.imported) file s event_positions × (status ≡ Done) × (printed ≡ listed_text s.chart event_positions)
 PrintsOf (Ready x) file s status printed =
     (only : Option (List Bool)) × AreReady s.chart (names_of x) only × (stick_format : StickFormat) × IsReadyFormat x file s stick_format
     × HasRoom x.again s.chart × (passed : Bool) × (status ≡ ended_by passed) × PrintsReady s.chart x.queues only x.again x.show stick_format passed printed
 
 -- the names of a pair that is asked for are those of no two events of the chart
-abbrev pub RefusesPair : ChartCommand → SourceText → NamedFault → Type 0
+abbrev pub RefusesPair : ChartCommand → ChartedText → NamedFault → Type 0
 RefusesPair (Explain x) s fault = IsNamedFault s x.first x.second fault
 RefusesPair ask s fault = ⊥
 
 -- the marks of the text are asked, and this is the first faulty one
-abbrev pub RefusesMark : ChartCommand → SourceText → MarkFault → Type 0
+abbrev pub RefusesMark : ChartCommand → ChartedText → MarkFault → Type 0
 RefusesMark (Check c) s fault = HasFaultyMark c.accept s.text fault
 RefusesMark (Quiet x) s fault = HasFaultyMark x.accept s.text fault
 RefusesMark ask s fault = ⊥
@@ -105,7 +102,7 @@ FailsToStart (Run queues patience) d i = i < length d.instances
 FailsToStart ask d i = ⊥
 
 -- why there is nothing to print of a chart for what is asked of it
-abbrev pub RefusesOf : ChartCommand → SourceText → Refusal → Type 0
+abbrev pub RefusesOf : ChartCommand → ChartedText → Refusal → Type 0
 RefusesOf ask s (refusals.Pair fault) = RefusesPair ask s fault
 RefusesOf ask s (refusals.Mark fault) = RefusesMark ask s fault
 RefusesOf ask s (refusals.Instance name) = RefusesInstance ask s.chart name.now
@@ -114,12 +111,12 @@ RefusesOf ask s (refusals.Fault (NotStarted i)) = FailsToStart ask s.chart i
 RefusesOf ask s refusal = ⊥
 
 -- what is printed of a chart for a command, under the queues that the rules and the text give
-abbrev pub PrintsLinked : ChartCommand → LinkWords → List ℕ → SourceText → Status → List ℕ → Type 0
+abbrev pub PrintsLinked : ChartCommand → LinkWords → List ℕ → ChartedText → Status → List ℕ → Type 0
 PrintsLinked ask words file s status printed =
     (queues : Queues) × AreLinked (usual_in ask) words s queues × PrintsOf (under queues ask) file s status printed
 
 -- why there is nothing to print: there are no queues, or the command is refused under them
-abbrev pub RefusesLinked : ChartCommand → LinkWords → SourceText → Refusal → Type 0
+abbrev pub RefusesLinked : ChartCommand → LinkWords → ChartedText → Refusal → Type 0
 RefusesLinked ask words s (refusals.Link fault) = HasLinkFault words s fault
 RefusesLinked ask words s refusal =
     (queues : Queues) × AreLinked (usual_in ask) words s queues × RefusesOf (under queues ask) s refusal
@@ -144,26 +141,23 @@ RefusesDiagrams (Some f) x text refusal = ⊥
 -- what is printed of the text of a file for a task: its draft's canonical text, or what is asked of
 -- its chart
 abbrev pub Prints : Task → List ℕ → List ℕ → Status → List ℕ → Type 0
-Prints Read file text status printed =
-    (draft : Tree) × HasDraft text draft × (status ≡ Done) × (printed ≡ canonical draft)
+Prints (Read chosen) file text status printed =
+    (draft : Tree) × IsReadBy chosen text draft × (status ≡ Done) × (printed ≡ canonical draft)
 Prints (Chart ask words) file text status printed =
-    (d : Drawing) × IsChartOf text d × PrintsLinked ask words file (source_text MscPr text d) status printed
+    PrintsBy words.diagram text (λ draft s. PrintsLinked ask words.links file s) status printed
 Prints (Draw drawn words) file text status printed =
-    (d : Drawing) × (is : IsChartOf text d) × PrintsLinkedPage drawn words is.draft (source_text MscPr text d) status printed
+    PrintsBy words.diagram text (PrintsLinkedPage drawn words.links) status printed
 Prints (Import x) file text status printed = PrintsImportPage x file text status printed
 Prints (Scenarios x) file text status printed = PrintsDiagrams (many_in x text) x file text status printed
 
 -- why a text is refused for a task, with its first fault: it has no draft, or its draft is no
--- chart, or of its chart that is not to be had which is asked; nothing is imported of it
+-- chart, or nothing is imported of it, or of its chart that is not to be had which is asked
 abbrev pub Refuses : Task → List ℕ → Refusal → Type 0
-Refuses (Import x) text refusal = RefusesImport x text refusal
+Refuses (Read chosen) text refusal = IsUnreadBy chosen text refusal
+Refuses (Chart ask words) text refusal = RefusesBy words.diagram text (RefusesLinked ask words.links) refusal
+Refuses (Draw drawn words) text refusal = RefusesBy words.diagram text (RefusesLinkedPage drawn words.links) refusal
+Refuses (Import x) text refusal = RefusesImport x.chosen text refusal
 Refuses (Scenarios x) text refusal = RefusesDiagrams (many_in x text) x text refusal
-Refuses task text (refusals.Fault (Parse f)) = HasParseFault text f
-Refuses (Chart ask words) text (refusals.Fault (faults.Chart f)) = (draft : Tree) × HasDraft text draft × IsFirstFault draft f
-Refuses (Chart ask words) text refusal = (d : Drawing) × IsChartOf text d × RefusesLinked ask words (source_text MscPr text d) refusal
-Refuses (Draw drawn words) text (refusals.Fault (faults.Chart f)) = (draft : Tree) × HasDraft text draft × IsFirstFault draft f
-Refuses (Draw drawn words) text refusal = (d : Drawing) × IsChartOf text d × RefusesLinkedPage drawn words (source_text MscPr text d) refusal
-Refuses Read text refusal = ⊥
 
 -- A task was done, where it is known what is right to print, with how the run ends then, what
 -- begins it, and when it is refused: such a text went behind the known bytes of a writer; or memory
@@ -184,11 +178,11 @@ abbrev pub Answers : {W : Type 0} → (W → Option (List ℕ)) → (Status → 
 Answers contents prints refuses = AnswersWith contents prints (λ printed. (status : Status) × prints status printed) refuses
 
 -- what is asked of a chart was answered
-abbrev pub AnswersOf : {W : Type 0} → (W → Option (List ℕ)) → ChartCommand → List ℕ → SourceText → Result Status Refusal → W → W → Type 0
+abbrev pub AnswersOf : {W : Type 0} → (W → Option (List ℕ)) → ChartCommand → List ℕ → ChartedText → Result Status Refusal → W → W → Type 0
 AnswersOf contents ask file s = Answers contents (PrintsOf ask file s) (RefusesOf ask s)
 
 -- how a run ends that tells whether no race counts, without a text
-abbrev pub TellsQuietly : QuietArgs → SourceText → Result Status Refusal → Type 0
+abbrev pub TellsQuietly : QuietArgs → ChartedText → Result Status Refusal → Type 0
 TellsQuietly x s (Ok status) = PrintsOf (Quiet x) [] s status []
 TellsQuietly x s (Err (refusals.Fault Memory)) = Unit {0}
 TellsQuietly x s (Err (refusals.Mark fault)) = HasFaultyMark x.accept s.text fault

@@ -35,6 +35,8 @@ use Rattle.msc_command.specs.declared.tasks.ExplainArgs.{ExplainArgs}
 use Rattle.msc_command.specs.declared.tasks.FollowArgs.{FollowArgs}
 use Rattle.msc_command.specs.declared.tasks.DiagramArgs.{DiagramArgs}
 use Rattle.msc_command.specs.declared.tasks.ImportArgs.{ImportArgs}
+use Rattle.msc_command.specs.declared.tasks.ChosenArgs.{ChosenArgs}
+use Rattle.msc_command.specs.declared.tasks.TextArgs.{TextArgs}
 use Rattle.msc_command.specs.declared.tasks.EventStyle.{EventStyle}
 use Rattle.msc_command.specs.declared.tasks.QuietArgs.{QuietArgs}
 use Rattle.msc_command.specs.declared.tasks.ReadyArgs.{ReadyArgs}
@@ -228,16 +230,16 @@ pub record AreQuietArgs (found : Found) (x : QuietArgs) : Type 0 where
   pub accept : IsFlag found (arg_word words.Accept) x.accept
   pub again : IsFlag found (arg_word words.Again) x.again
 
--- the words of `check` are of a diagram
+-- the words are of a diagram
 abbrev pub is_of_scenarios : Found → Bool
 is_of_scenarios found = stands found words.ScenariosFrom
 
--- words of diagrams stand behind `check`, without the word for one
+-- words of diagrams are given, without the word for one
 abbrev pub lacks_from : Found → Bool
 lacks_from found =
     not (is_of_scenarios found)
     && ((stands found words.Rounds || stands found words.Limit)
-    || ((stands found words.Fence || stands found words.Name)
+    || ((stands found words.Fence || (stands found words.Name || stands found words.Choose))
     || (stands found words.Own || (stands found words.Cross || stands found words.Par))))
 
 -- a word for numbers of rounds gives none
@@ -335,11 +337,15 @@ pub record IsDiagram (found : Found) (x : DiagramArgs) : Type 0 where
   pub par : x.manner.par ≡ par_named (first_value found (arg_word words.Par))
   pub name : x.name.now ≡ chart_named found
 
--- what the words of `import` ask for
-pub record IsImporting (found : Found) (x : ImportArgs) : Type 0 where
+-- what the words say of a scenario of a diagram
+pub record AreChosen (found : Found) (x : ChosenArgs) : Type 0 where
   pub diagram : IsDiagram found x.diagram
   pub choose : option_map (λ c. c.now) x.choose ≡ first_value found (arg_word words.Choose)
   pub gives : lacks_choices (first_value found (arg_word words.Choose)) ≡ false
+
+-- what the words of `import` ask for
+pub record IsImporting (found : Found) (x : ImportArgs) : Type 0 where
+  pub chosen : AreChosen found x.chosen
   pub list : IsFlag found (arg_word words.Listed) x.list
 
 -- how many races of a diagram are shown by runs, if no word gives a number: all if the words ask
@@ -370,27 +376,43 @@ pub record IsSurvey (found : Found) (x : ScenarioArgs) : Type 0 where
 abbrev pub IsOfChart : Found → Type 0
 IsOfChart found = (is_of_scenarios found ≡ false) × (lacks_from found ≡ false)
 
+-- the scenario of a diagram that the words are for, if they are for one
+abbrev pub IsOrigin : Found → Option ChosenArgs → Type 0
+IsOrigin found None = IsOfChart found
+IsOrigin found (Some x) = (is_of_scenarios found ≡ true) × (lacks_from found ≡ false) × AreChosen found x
+
+-- what the words say of the text besides the command
+pub record AreTextArgs (found : Found) (x : TextArgs) : Type 0 where
+  pub diagram : IsOrigin found x.diagram
+  pub links : AreLinkWords found x.links
+
+-- the words of `ready` ask for findings on a diagram as people read them
+abbrev pub is_full_of_diagram : Found → Bool
+is_full_of_diagram found = is_of_scenarios found && is_full (format_of_sticks found)
+
 -- What the words behind a command ask for. What is to be quiet is told by the status alone.
 abbrev pub AsksFor : CommandName → Found → Task → Type 0
-AsksFor command_names.Read found Read = Unit {0}
-AsksFor command_names.Check found (Chart (Check c) links) =
-    IsOfChart found × IsFlag found (arg_word words.Quiet) false × AreCheckArgs found (runs_in (format found)) c × AreLinkWords found links
-AsksFor command_names.Check found (Chart (Quiet x) links) =
-    IsOfChart found × IsFlag found (arg_word words.Quiet) true × AreQuietArgs found x × AreLinkWords found links
+AsksFor command_names.Read found (Read chosen) = IsOrigin found chosen
+AsksFor command_names.Check found (Chart (Check c) text) =
+    IsOfChart found × IsFlag found (arg_word words.Quiet) false × AreCheckArgs found (runs_in (format found)) c
+    × (text.diagram ≡ None) × AreLinkWords found text.links
+AsksFor command_names.Check found (Chart (Quiet x) text) =
+    IsOfChart found × IsFlag found (arg_word words.Quiet) true × AreQuietArgs found x × (text.diagram ≡ None) × AreLinkWords found text.links
 AsksFor command_names.Check found (Scenarios x) = (is_of_scenarios found ≡ true) × IsSurvey found x
-AsksFor command_names.Explain found (Chart (Explain x) links) = AreExplainArgs found x × AreLinkWords found links
-AsksFor command_names.Follow found (Chart (Follow x) links) = AreFollowArgs found x × AreLinkWords found links
-AsksFor command_names.Run found (Chart (Run queues patience) links) =
+AsksFor command_names.Explain found (Chart (Explain x) text) = AreExplainArgs found x × AreTextArgs found text
+AsksFor command_names.Follow found (Chart (Follow x) text) = AreFollowArgs found x × AreTextArgs found text
+AsksFor command_names.Run found (Chart (Run queues patience) text) =
     IsOptionNumber found (arg_word words.Patience) default_patience patience
-    × (architecture found ≡ Some queues) × AreLinkWords found links
-AsksFor command_names.List found (Chart (Listing placed) links) =
-    IsFlag found (arg_word words.Places) placed × HasNoLinks links
-AsksFor command_names.Draw found (Draw (drawn.Chart queues format) links) =
-    (queues ≡ architecture found) × IsDrawnFormat found format × AreLinkWords found links × (lacks_queues found ≡ false)
-AsksFor command_names.Reverse found (Draw (drawn.Run r) links) = AreReverseArgs found r × AreLinkWords found links
-AsksFor command_names.Report found (Draw (drawn.Report queues) links) =
-    (architecture found ≡ Some queues) × AreLinkWords found links
-AsksFor command_names.Ready found (Chart (Ready x) links) = AreReadyArgs found x × AreLinkWords found links
+    × (architecture found ≡ Some queues) × AreTextArgs found text
+AsksFor command_names.List found (Chart (Listing placed) text) =
+    IsFlag found (arg_word words.Places) placed × IsOrigin found text.diagram × HasNoLinks text.links
+AsksFor command_names.Draw found (Draw (drawn.Chart queues format) text) =
+    (queues ≡ architecture found) × IsDrawnFormat found format × AreTextArgs found text × (lacks_queues found ≡ false)
+AsksFor command_names.Reverse found (Draw (drawn.Run r) text) = AreReverseArgs found r × AreTextArgs found text
+AsksFor command_names.Report found (Draw (drawn.Report queues) text) =
+    (architecture found ≡ Some queues) × AreTextArgs found text
+AsksFor command_names.Ready found (Chart (Ready x) text) =
+    AreReadyArgs found x × AreTextArgs found text × (is_full_of_diagram found ≡ false)
 AsksFor command_names.Import found (Import x) = IsImporting found x
 AsksFor command_name found task = ⊥
 

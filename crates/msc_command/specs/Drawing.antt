@@ -10,7 +10,7 @@ use Rattle.msc_print.specs.declared.page.Page.{Page}
 use Rattle.msc_parser.specs.Grammar.{Tree}
 use Rattle.msc_report.specs.declared.fault.Fault.TheVariants.{Memory}
 use Rattle.msc_report.specs.declared.pair.NamedFault.TheVariants.{NoRace}
-use Rattle.msc_source.specs.Texts.{SourceText}
+use Rattle.msc_command.specs.Charted.{ChartedText}
 use Rattle.msc_command.specs.Linked.{AreLinked, HasLinkFault}
 use Rattle.msc_command.specs.Naming.{AreTwoNamed, IsNamedFault}
 use Rattle.msc_command.specs.declared.ending.Refusal.{Refusal}
@@ -41,43 +41,43 @@ abbrev pub version : List ℕ
 version = codes "0.2.0"
 
 -- what is drawn of the chart of a draft
-abbrev pub PrintsDrawn : Drawn → Tree → SourceText → List ℕ → Type 0
+abbrev pub PrintsDrawn : Drawn → Tree → ChartedText → List ℕ → Type 0
 PrintsDrawn (Chart queues format) draft s printed = PrintsPicture draft s.chart queues format printed
 PrintsDrawn (Run r) draft s printed =
     (e f : ℕ) × AreTwoNamed s r.first r.second e f × PrintsReversal draft s.chart r.queues r.format e f printed
 PrintsDrawn (Report queues) draft s printed = PrintsReport draft s.chart queues version printed
 
 -- the two events that are named are no race
-abbrev pub AreNoRace : ReverseArgs → SourceText → Type 0
+abbrev pub AreNoRace : ReverseArgs → ChartedText → Type 0
 AreNoRace r s = (e f : ℕ) × AreTwoNamed s r.first r.second e f × IsNoRace s.chart r.queues e f
 
 -- why a run can't be drawn: the names are those of no two events, or these are no race
-abbrev pub RefusesReversal : ReverseArgs → SourceText → Refusal → Type 0
+abbrev pub RefusesReversal : ReverseArgs → ChartedText → Refusal → Type 0
 RefusesReversal r s (refusals.Pair (NoRace a b)) = (a ≡ r.first) × (b ≡ r.second) × AreNoRace r s
 RefusesReversal r s (refusals.Pair fault) = IsNamedFault s r.first r.second fault
 RefusesReversal r s refusal = ⊥
 
-abbrev pub RefusesDrawn : Drawn → SourceText → Refusal → Type 0
+abbrev pub RefusesDrawn : Drawn → ChartedText → Refusal → Type 0
 RefusesDrawn (Run r) s refusal = RefusesReversal r s refusal
 RefusesDrawn drawn s refusal = ⊥
 
 -- the page with what is drawn, or why there is none
-abbrev pub IsDrawnOn : Drawn → Tree → SourceText → Result Page Refusal → Type 0
+abbrev pub IsDrawnOn : Drawn → Tree → ChartedText → Result Page Refusal → Type 0
 IsDrawnOn drawn draft s (Ok page) = PrintsDrawn drawn draft s page.bytes.items
 IsDrawnOn drawn draft s (Err (refusals.Fault Memory)) = Unit {0}
 IsDrawnOn drawn draft s (Err refusal) = RefusesDrawn drawn s refusal
 
 -- what is printed of it, and how the run ends
-abbrev pub PrintsPage : Drawn → Tree → SourceText → Status → List ℕ → Type 0
+abbrev pub PrintsPage : Drawn → Tree → ChartedText → Status → List ℕ → Type 0
 PrintsPage drawn draft s status printed = (status ≡ Done) × PrintsDrawn drawn draft s printed
 
 -- what is printed under the queues that the rules and the text give
-abbrev pub PrintsLinkedPage : Drawn → LinkWords → Tree → SourceText → Status → List ℕ → Type 0
+abbrev pub PrintsLinkedPage : Drawn → LinkWords → Tree → ChartedText → Status → List ℕ → Type 0
 PrintsLinkedPage drawn words draft s status printed =
     (queues : Queues) × AreLinked (usual_drawn drawn) words s queues × PrintsPage (drawn_under queues drawn) draft s status printed
 
 -- why nothing is printed: there are no queues, or nothing is drawn under them
-abbrev pub RefusesLinkedPage : Drawn → LinkWords → SourceText → Refusal → Type 0
+abbrev pub RefusesLinkedPage : Drawn → LinkWords → ChartedText → Refusal → Type 0
 RefusesLinkedPage drawn words s (refusals.Link fault) = HasLinkFault words s fault
 RefusesLinkedPage drawn words s refusal =
     (queues : Queues) × AreLinked (usual_drawn drawn) words s queues × RefusesDrawn (drawn_under queues drawn) s refusal

@@ -7,9 +7,13 @@ use Rattle.std.specs.Str.{bytes_eq}
 use Rattle.msc_chart.specs.Drawings.{Drawing, chart_of}
 use Rattle.msc_chart.specs.Faults.{IsFaultless, IsFirstFault}
 use Rattle.msc_scenarios.specs.declared.TheConstants.{ROUND_LIMIT}
+use Rattle.msc_import.specs.declared.importing.DiagramReading.{DiagramReading}
 use Rattle.msc_import.specs.declared.importing.Imported.{Imported}
 use Rattle.msc_import.specs.Drafting.{IsReadAgain}
-use Rattle.msc_import.specs.Importing.{Refusal as Said, Wanted, imported, seen}
+use Rattle.msc_import.specs.Importing.{Refusal as Said, Wanted, imported, read, reading_of as reading_of_wanted, seen}
+use Rattle.msc_import_marks.specs.Marked.{IsMarkedText}
+use Rattle.msc_import_marks.specs.declared.marked.DrawnScenario.{DrawnScenario}
+use Rattle.msc_mermaid.specs.declared.statement.Diagram.{Diagram}
 use Rattle.msc_print.specs.declared.page.Page.{Page}
 use Rattle.msc_links.specs.Comments.{Reading, says_nothing, unreadable, says, own_text, reading_of}
 use Rattle.msc_links.specs.Said.{HasFault, SaysOwn}
@@ -29,6 +33,7 @@ use Rattle.msc_command.specs.declared.ending.Refusal.{Refusal}
 use Rattle.msc_command.specs.declared.ending.Refusal.TheVariants as refusals
 use Rattle.msc_command.specs.declared.ending.Status.{Status}
 use Rattle.msc_command.specs.declared.ending.Status.TheVariants.{Done}
+use Rattle.msc_command.specs.declared.tasks.ChosenArgs.{ChosenArgs}
 use Rattle.msc_command.specs.declared.tasks.DiagramArgs.{DiagramArgs}
 use Rattle.msc_command.specs.declared.tasks.ImportArgs.{ImportArgs}
 
@@ -136,9 +141,21 @@ wanted_with x choices = record {
   name = x.name.now;
 }
 
+-- which diagram of a text is read, by the words
+abbrev pub reading_in : DiagramArgs → DiagramReading
+reading_in x = record { language = x.language; fence = x.fence; cross = x.cross }
+
+-- the choices of the words, if some are given
+abbrev pub choices_of : ChosenArgs → Option (List ℕ)
+choices_of x = option_map (λ c. choices_in c.now) x.choose
+
 -- what is wanted of a text
-abbrev pub wanted_of : ImportArgs → Wanted
-wanted_of x = wanted_with x.diagram (option_map (λ c. choices_in c.now) x.choose)
+abbrev pub wanted_of : ChosenArgs → Wanted
+wanted_of x = wanted_with x.diagram (choices_of x)
+
+-- the given choices; without one, all are the main ones
+abbrev pub choices_or_main : Wanted → List ℕ
+choices_or_main x = unwrap_or x.choices []
 
 -- what a comment line says of queues; servers may be named in it
 abbrev pub line_reading : List ℕ → Span → Reading
@@ -182,13 +199,24 @@ IsCommentOf text is (Err (refusals.Fault Memory)) = Unit {0}
 IsCommentOf text is (Err (refusals.Fault (Chart f))) = IsFirstFault is.draft f
 IsCommentOf text is (Err refusal) = ⊥
 
--- What is printed of what was imported of a text: its canonical text, with the queues that the
--- diagram names itself; or of its chart the list of its events, with the places of their arrows in
--- the file.
-abbrev pub PrintsImported : Bool → List ℕ → List ℕ → Imported → List ℕ → Type 0
-PrintsImported false file text is printed =
-    (comment : Option (List ℕ)) × IsCommentIn text is comment × (printed ≡ canonical_with comment is.draft)
-PrintsImported true file text is printed =
+-- the scenario that is wanted of this diagram, whose events stand there
+abbrev pub IsScenarioFor : Wanted → Diagram → Imported → DrawnScenario → Type 0
+IsScenarioFor x d is s =
+    (s.diagram.now ≡ d) × (s.choices.now ≡ choices_or_main x) × (s.own ≡ x.manner.own) × (s.events.now ≡ is.spans.events)
+
+-- The text of what was imported of a text: its canonical text, with the queues that the diagram names
+-- itself, and with its marks as comments of events.
+abbrev pub IsImportedText : Wanted → List ℕ → Imported → List ℕ → Type 0
+IsImportedText x text is printed =
+    (d : Diagram) × (read (reading_of_wanted x) text ≡ Ok d)
+    × (comment : Option (List ℕ)) × IsCommentIn text is comment
+    × (s : DrawnScenario) × IsScenarioFor x d is s × IsMarkedText text s (canonical_with comment is.draft) printed
+
+-- What is printed of what was imported of a text: its text; or of its chart the list of its events,
+-- with the places of their arrows in the file.
+abbrev pub PrintsImported : Wanted → Bool → List ℕ → List ℕ → Imported → List ℕ → Type 0
+PrintsImported x false file text is printed = IsImportedText x text is printed
+PrintsImported x true file text is printed =
     IsFaultless is.draft × (printed ≡ listed_text (chart_of is.draft) (Some (event_positions_in file is.places)))
 
 -- the chart of a draft, or its first fault, or memory ran out
@@ -199,11 +227,19 @@ IsChartOrFault draft (Err sources.Memory) = Unit {0}
 IsChartOrFault draft (Err fault) = ⊥
 
 -- the page with that, or why there is none: memory ran out, or the draft is no chart
-abbrev pub IsPageOf : Bool → List ℕ → List ℕ → Imported → Result Page Refusal → Type 0
-IsPageOf list file text is (Ok page) = PrintsImported list file text is page.bytes.items
-IsPageOf list file text is (Err (refusals.Fault Memory)) = Unit {0}
-IsPageOf list file text is (Err (refusals.Fault (Chart f))) = IsFirstFault is.draft f
-IsPageOf list file text is (Err refusal) = ⊥
+abbrev pub IsPageOf : Wanted → Bool → List ℕ → List ℕ → Imported → Result Page Refusal → Type 0
+IsPageOf x list file text is (Ok page) = PrintsImported x list file text is page.bytes.items
+IsPageOf x list file text is (Err (refusals.Fault Memory)) = Unit {0}
+IsPageOf x list file text is (Err (refusals.Fault (Chart f))) = IsFirstFault is.draft f
+IsPageOf x list file text is (Err refusal) = ⊥
+
+-- the canonical text with the queues that a diagram names itself, or why there is none
+abbrev pub IsTextOf : List ℕ → Imported → Result (Vec ℕ) Refusal → Type 0
+IsTextOf text is (Ok bytes) =
+    (comment : Option (List ℕ)) × IsCommentIn text is comment × (bytes.items ≡ canonical_with comment is.draft)
+IsTextOf text is (Err (refusals.Fault Memory)) = Unit {0}
+IsTextOf text is (Err (refusals.Fault (Chart f))) = IsFirstFault is.draft f
+IsTextOf text is (Err refusal) = ⊥
 
 -- why nothing is imported: as this says, or memory ran out
 abbrev pub IsNotImported : {A : Type 0} → Result A Said → Refusal → Type 0
@@ -216,17 +252,33 @@ abbrev pub IsImportAs : Wanted → List ℕ → Result Imported Refusal → Type
 IsImportAs x text (Ok is) = (imported x text ≡ Ok is) × IsReadAgain is.draft
 IsImportAs x text (Err refusal) = IsNotImported (imported x text) refusal
 
-abbrev pub IsImport : ImportArgs → List ℕ → Result Imported Refusal → Type 0
+abbrev pub IsImport : ChosenArgs → List ℕ → Result Imported Refusal → Type 0
 IsImport x text answer = IsImportAs (wanted_of x) text answer
+
+-- the diagram of a text, or why there is none
+abbrev pub IsReadFor : Wanted → List ℕ → Result Diagram Refusal → Type 0
+IsReadFor x text (Ok d) = read (reading_of_wanted x) text ≡ Ok d
+IsReadFor x text (Err refusal) = IsNotImported (read (reading_of_wanted x) text) refusal
+
+-- this is imported of a text: a chart, whose text is read again as its draft
+pub record IsChosen (x : ChosenArgs) (text : List ℕ) (is : Imported) : Type 0 where
+  pub of_text : imported (wanted_of x) text ≡ Ok is
+  pub again : IsReadAgain is.draft
+  pub faultless : IsFaultless is.draft
+
+-- this, or why nothing is imported
+abbrev pub IsChartImport : ChosenArgs → List ℕ → Result Imported Refusal → Type 0
+IsChartImport x text (Ok is) = IsChosen x text is
+IsChartImport x text (Err refusal) = IsNotImported (imported (wanted_of x) text) refusal
 
 -- what is printed of the text of a file: what is imported of it, whose text is read again as that
 -- draft
 abbrev pub PrintsImport : ImportArgs → List ℕ → List ℕ → List ℕ → Type 0
 PrintsImport x file text printed =
-    (is : Imported) × (imported (wanted_of x) text ≡ Ok is) × IsReadAgain is.draft × PrintsImported x.list file text is printed
+    (is : Imported) × (imported (wanted_of x.chosen) text ≡ Ok is) × IsReadAgain is.draft × PrintsImported (wanted_of x.chosen) x.list file text is printed
 
 -- why nothing is printed: nothing is imported. What is imported is a chart
-abbrev pub RefusesImport : ImportArgs → List ℕ → Refusal → Type 0
+abbrev pub RefusesImport : ChosenArgs → List ℕ → Refusal → Type 0
 RefusesImport x text (refusals.Import e) = imported (wanted_of x) text ≡ Err (seen e)
 RefusesImport x text refusal = ⊥
 
@@ -234,7 +286,7 @@ RefusesImport x text refusal = ⊥
 abbrev pub IsImportedOn : ImportArgs → List ℕ → List ℕ → Result Page Refusal → Type 0
 IsImportedOn x file text (Ok page) = PrintsImport x file text page.bytes.items
 IsImportedOn x file text (Err (refusals.Fault Memory)) = Unit {0}
-IsImportedOn x file text (Err refusal) = RefusesImport x text refusal
+IsImportedOn x file text (Err refusal) = RefusesImport x.chosen text refusal
 
 -- what is printed, and how the run ends
 abbrev pub PrintsImportPage : ImportArgs → List ℕ → List ℕ → Status → List ℕ → Type 0

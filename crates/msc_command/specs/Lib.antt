@@ -4,6 +4,7 @@ pub mod Grammar
 pub mod Importing
 pub mod Asking
 pub mod Misuses
+pub mod Charted
 pub mod Sited
 pub mod Naming
 pub mod Readied
@@ -18,6 +19,7 @@ pub mod Charting
 pub mod Spans
 pub mod Own
 pub mod Linked
+pub mod Drafted
 pub mod Scenarios
 pub mod Surveys
 pub mod Answering

@@ -7,6 +7,7 @@ use Rattle.msc_chart.specs.declared.queue.Queues.{Queues}
 use Rattle.msc_chart.specs.declared.queue.Queues.TheVariants.{Uniform}
 use Rattle.msc_chart.specs.Architectures.{usual_of}
 use Rattle.msc_chart.specs.Drawings.{Drawing, chart_of}
+use Rattle.msc_import.specs.declared.importing.Imported.{Imported}
 use Rattle.msc_import.specs.declared.drawings.Scenario.{Scenario as Drawn}
 use Rattle.msc_import.specs.declared.spanning.TextSpans.{TextSpans}
 use Rattle.msc_links.specs.declared.fault.LinkFault.{LinkFault}
@@ -18,7 +19,7 @@ use Rattle.msc_links.specs.Comments.{OwnText, own_text, plain_rules}
 use Rattle.msc_links.specs.Rules.{AreRuled, IsRulesFault}
 use Rattle.msc_mermaid.specs.declared.statement.Span.{Span}
 use Rattle.msc_report.specs.declared.fault.Fault.TheVariants.{Memory}
-use Rattle.msc_source.specs.Texts.{SourceText}
+use Rattle.msc_command.specs.Charted.{ChartedText}
 use Rattle.msc_command.specs.Own.{OwnSaid, silent, unclear, named, said_in, SaysIf, SaysInChart, ShowsInChart, ShowsInDiagram}
 use Rattle.msc_command.specs.Spans.{bytes_at, bytes_if}
 use Rattle.msc_command.specs.declared.own.LinkRefusal.{LinkRefusal}
@@ -168,22 +169,38 @@ IsLinkedBy says shows are_names usual words (Err (refusals.Link fault)) = HasFau
 IsLinkedBy says shows are_names usual words (Err (refusals.Fault Memory)) = Unit {0}
 IsLinkedBy says shows are_names usual words (Err refusal) = ⊥
 
--- what a text says that has this chart, if it is asked
-abbrev pub ChartSays : LinkWords → SourceText → OwnSaid → Type 0
-ChartSays words s = SaysIf words.own (SaysInChart s.text)
+-- what a text says of its queues: in the comment of its chart, or in the comment lines of its diagram
+abbrev pub SaysIn : Option Imported → List ℕ → OwnSaid → Type 0
+SaysIn None text = SaysInChart text
+SaysIn (Some is) text = λ said. said ≡ said_in text is.spans.comments
 
--- the queues of a chart: links that no rule names are of the usual kind
-abbrev pub AreLinked : LinkKind → LinkWords → SourceText → Queues → Type 0
-AreLinked usual words s queues = AreLinkedBy (ChartSays words s) (AreNamesIn s.chart) usual words queues
+-- the same if it is asked
+abbrev pub TextSays : LinkWords → ChartedText → OwnSaid → Type 0
+TextSays words s = SaysIf words.own (SaysIn s.imported s.text)
 
--- why a chart has no queues
-abbrev pub HasLinkFault : LinkWords → SourceText → LinkRefusal → Type 0
-HasLinkFault words s fault = HasFaultBy (ChartSays words s) (ShowsInChart s.text) (AreNamesIn s.chart) words fault
+-- how a refusal shows a place in a text
+abbrev pub ShowsIn : Option Imported → List ℕ → ℕ → OwnPlace → Type 0
+ShowsIn None text = ShowsInChart text
+ShowsIn (Some is) text = ShowsInDiagram text
 
--- the queues of a chart, or why there are none
-abbrev pub IsLinked : LinkKind → LinkWords → SourceText → Result Queues Refusal → Type 0
+-- the names of the lines of a text: those of the instances, and of a diagram those of the text too
+abbrev pub AreNamesBy : Option Imported → List ℕ → Drawing → List LineNames → Type 0
+AreNamesBy None text d = AreNamesIn d
+AreNamesBy (Some is) text d = AreNamesOf text is.spans d
+
+-- the queues of the chart of a text: links that no rule names are of the usual kind
+abbrev pub AreLinked : LinkKind → LinkWords → ChartedText → Queues → Type 0
+AreLinked usual words s queues = AreLinkedBy (TextSays words s) (AreNamesBy s.imported s.text s.chart) usual words queues
+
+-- why it has no queues
+abbrev pub HasLinkFault : LinkWords → ChartedText → LinkRefusal → Type 0
+HasLinkFault words s fault =
+    HasFaultBy (TextSays words s) (ShowsIn s.imported s.text) (AreNamesBy s.imported s.text s.chart) words fault
+
+-- the queues, or why there are none
+abbrev pub IsLinked : LinkKind → LinkWords → ChartedText → Result Queues Refusal → Type 0
 IsLinked usual words s result =
-    IsLinkedBy (ChartSays words s) (ShowsInChart s.text) (AreNamesIn s.chart) usual words result
+    IsLinkedBy (TextSays words s) (ShowsIn s.imported s.text) (AreNamesBy s.imported s.text s.chart) usual words result
 
 -- what the text of a diagram says by one of its scenarios, if it is asked
 abbrev pub DiagramSays : LinkWords → List ℕ → Drawn → OwnSaid → Type 0

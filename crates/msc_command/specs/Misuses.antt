@@ -1,14 +1,15 @@
 -- Why words that `clap` took are no command.
-use Rattle.std.specs.Prelude.{◌≡◌, ◌⊎◌, ℕ, true, false, List, None, Some}
+use Rattle.std.specs.Prelude.{◌≡◌, ◌⊎◌, ℕ, true, false, List, Option, None, Some}
 use Rattle.std.specs.Borrow.{Bor}
 use Rattle.clap.specs.Matches.{first_value}
 use Rattle.clap.specs.declared.parser.matches.Found.{Found}
 use Rattle.msc_report.specs.declared.pair.EventName.{EventName}
-use Rattle.msc_command.specs.Asking.{architecture, default_limit, format, is_full, is_limit, is_of_scenarios, lacks_from, lacks_queues, lacks_rounds, IsEventWord, IsFlag, IsNoName, IsOptionNumber, IsTwofold}
+use Rattle.msc_command.specs.Asking.{architecture, default_limit, format, is_full, is_full_of_diagram, is_limit, is_of_scenarios, lacks_from, lacks_queues, lacks_rounds, IsEventWord, IsFlag, IsNoName, IsOptionNumber, IsOrigin, IsTwofold}
 use Rattle.msc_command.specs.Importing.{gives_choices, gives_rounds}
 use Rattle.msc_command.specs.Words.{arg_word}
 use Rattle.msc_command.specs.declared.misuse.Misuse.{Misuse}
 use Rattle.msc_command.specs.declared.misuse.Misuse.TheVariants.{Excluded, NoQueues, LacksEvent, NoEvent, NoChoices, NoDiagram, NotOfDiagrams, FullOfDiagrams, NoRounds, NoLimit}
+use Rattle.msc_command.specs.declared.tasks.ChosenArgs.{ChosenArgs}
 use Rattle.msc_command.specs.declared.words.CommandName.{CommandName}
 use Rattle.msc_command.specs.declared.words.CommandName.TheVariants as command_names
 use Rattle.msc_command.specs.declared.words.ArgName.{ArgName}
@@ -93,16 +94,39 @@ pub record IsImportMisuse (found : Found) (misuse : Misuse) : Type 0 where
   pub given : first_value found (arg_word words.Choose) ≡ Some text.now
   pub none : gives_choices text.now ≡ false
 
+-- options of diagrams are given without `--from`, or the word for choices gives none
+abbrev pub IsOriginMisuse : Found → Misuse → Type 0
+IsOriginMisuse found misuse =
+    ((misuse ≡ NoDiagram) × (lacks_from found ≡ true))
+    ⊎ ((lacks_from found ≡ false) × (is_of_scenarios found ≡ true) × IsImportMisuse found misuse)
+
+-- the same, or then of a word for an event
+abbrev pub IsPairedMisuse : Found → Misuse → Type 0
+IsPairedMisuse found misuse =
+    IsOriginMisuse found misuse ⊎ (((chosen : Option ChosenArgs) × IsOrigin found chosen) × IsPairMisuse found misuse)
+
+-- rules for links are given without an architecture, or then this is wrong with the words of a diagram
+abbrev pub IsDrawMisuse : Found → Misuse → Type 0
+IsDrawMisuse found misuse =
+    ((misuse ≡ NoQueues) × (lacks_queues found ≡ true)) ⊎ ((lacks_queues found ≡ false) × IsOriginMisuse found misuse)
+
+-- findings on a diagram as people read them cannot be requested of `ready`
+abbrev pub IsReadyMisuse : Found → Misuse → Type 0
+IsReadyMisuse found misuse =
+    IsOriginMisuse found misuse
+    ⊎ (((chosen : Option ChosenArgs) × IsOrigin found chosen) × (misuse ≡ FullOfDiagrams) × (is_full_of_diagram found ≡ true))
+
 -- the first thing that is wrong with the words behind a command, where none exclude each other
 abbrev pub IsWordMisuse : CommandName → Found → Misuse → Type 0
-IsWordMisuse command_names.Read found misuse = ⊥
-IsWordMisuse command_names.List found misuse = ⊥
-IsWordMisuse command_names.Draw found misuse = (misuse ≡ NoQueues) × (lacks_queues found ≡ true)
+IsWordMisuse command_names.Read found misuse = IsOriginMisuse found misuse
+IsWordMisuse command_names.List found misuse = IsOriginMisuse found misuse
+IsWordMisuse command_names.Draw found misuse = IsDrawMisuse found misuse
 IsWordMisuse command_names.Import found misuse = IsImportMisuse found misuse
 IsWordMisuse command_names.Check found misuse = IsQueuesMisuse found misuse ⊎ IsCheckMisuse found misuse
-IsWordMisuse command_names.Explain found misuse = IsQueuesMisuse found misuse ⊎ IsPairMisuse found misuse
-IsWordMisuse command_names.Reverse found misuse = IsQueuesMisuse found misuse ⊎ IsPairMisuse found misuse
-IsWordMisuse command_name found misuse = IsQueuesMisuse found misuse
+IsWordMisuse command_names.Explain found misuse = IsQueuesMisuse found misuse ⊎ IsPairedMisuse found misuse
+IsWordMisuse command_names.Reverse found misuse = IsQueuesMisuse found misuse ⊎ IsPairedMisuse found misuse
+IsWordMisuse command_names.Ready found misuse = IsQueuesMisuse found misuse ⊎ IsReadyMisuse found misuse
+IsWordMisuse command_name found misuse = IsQueuesMisuse found misuse ⊎ IsOriginMisuse found misuse
 
 -- the words behind a command are none for this reason, the first one: they exclude each other, or
 -- lack or mistake what the command needs

@@ -1,5 +1,5 @@
 -- What is asked of the races of all scenarios of a diagram.
-use Rattle.std.specs.Prelude.{◌≡◌, ℕ, Bool, true, false, ◌&&◌, not, List, [], map, option_map, Result, Ok, Err, is_ok, nat_eq}
+use Rattle.std.specs.Prelude.{◌≡◌, ℕ, Bool, true, false, ◌&&◌, not, List, [], map, Option, option_map, Result, Ok, Err, is_ok, nat_eq}
 use Rattle.msc_chart.specs.declared.queue.Queues.{Queues}
 use Rattle.msc_chart.specs.Architectures.{usual_of}
 use Rattle.msc_chart.specs.Faults.{IsFaultless, IsFirstFault}
@@ -8,10 +8,11 @@ use Rattle.msc_diagram.specs.Scenarios.{diagram_top, first_chart}
 use Rattle.msc_diagram.specs.declared.judging.DiagramFormat.{DiagramFormat as DiagramFormat}
 use Rattle.msc_diagram.specs.declared.judging.DiagramFormat.TheVariants as diagrams
 use Rattle.msc_diagram.specs.declared.scenario.Scenario.{Scenario}
-use Rattle.msc_import.specs.Importing.{seen}
-use Rattle.msc_import.specs.Whole.{WantedAll, imported_all, may_draw, refusing}
+use Rattle.msc_import.specs.Importing.{read, seen}
+use Rattle.msc_import.specs.Whole.{WantedAll, imported_all, may_draw, reading_of_all, refusing}
 use Rattle.msc_import.specs.declared.drawings.Scenario.{Scenario as Drawn}
 use Rattle.msc_import.specs.declared.whole.Scenarios.{Scenarios}
+use Rattle.msc_mermaid.specs.declared.statement.Diagram.{Diagram}
 use Rattle.msc_report.specs.declared.fault.Fault.TheVariants.{Chart, Memory}
 use Rattle.msc_command.specs.Charting.{with_chart, AreCharts}
 use Rattle.msc_command.specs.Ending.{ended_by}
@@ -37,6 +38,15 @@ wanted_of x = record {
   limit = x.limit;
   name = x.diagram.name.now;
 }
+
+-- the same words for the diagram of a number of a text, if one is given
+abbrev pub with_fence : Option ℕ → ScenarioArgs → ScenarioArgs
+with_fence fence x = record x { diagram = record x.diagram { fence = fence } }
+
+-- the diagram of a text, or why there is none
+abbrev pub IsDiagramOf : ScenarioArgs → List ℕ → Result Diagram Refusal → Type 0
+IsDiagramOf x text (Ok d) = read (reading_of_all (wanted_of x)) text ≡ Ok d
+IsDiagramOf x text (Err refusal) = IsNotImported (read (reading_of_all (wanted_of x)) text) refusal
 
 -- all scenarios of the diagram of a text, or why there are none
 abbrev pub IsImportOfAll : ScenarioArgs → List ℕ → Result Scenarios Refusal → Type 0

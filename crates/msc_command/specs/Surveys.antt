@@ -10,7 +10,7 @@ use Rattle.msc_place.specs.Texts.{shown_byte}
 use Rattle.msc_report.specs.Texts.{text_line}
 use Rattle.msc_command.specs.Ending.{status_code}
 use Rattle.msc_command.specs.Refused.{form_of, AreTold}
-use Rattle.msc_command.specs.Scenarios.{draws_branches, BeginsAll, OfScenarios, PrintsCounted, RefusesScenarios}
+use Rattle.msc_command.specs.Scenarios.{draws_branches, with_fence, BeginsAll, OfScenarios, PrintsCounted, RefusesScenarios}
 use Rattle.msc_command.specs.declared.ending.Refusal.{Refusal}
 use Rattle.msc_command.specs.declared.ending.Status.{Status}
 use Rattle.msc_command.specs.declared.ending.Status.TheVariants.{Refused}
@@ -36,7 +36,7 @@ many_in x text = many_found x.diagram.fence (markdown text)
 
 -- the words for the diagram of this number
 abbrev pub at_block : ScenarioArgs → ℕ → ScenarioArgs
-at_block x n = record x { diagram = record x.diagram { fence = Some n } }
+at_block x n = with_fence (Some n) x
 
 -- the words for the diagrams that follow so many listed races: `--most` and `--show` count over all
 -- diagrams

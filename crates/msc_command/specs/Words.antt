@@ -8,7 +8,7 @@ use Rattle.msc_command.specs.declared.words.ValueKind.TheVariants as value_kind
 use Rattle.msc_command.specs.declared.words.CommandName.{CommandName}
 use Rattle.msc_command.specs.declared.words.CommandName.TheVariants.{Read, Check, Explain, Follow, Run, List as Listing, Draw, Reverse, Report, Ready, Import}
 use Rattle.msc_command.specs.declared.words.ArgName.{ArgName}
-use Rattle.msc_command.specs.declared.words.ArgName.TheVariants.{File, Queues, QueuesIfAny, Pair, Mailbox, Single, Closest, Why, Most, Show, ShowSticks, Only, Allow, ChartFormat, FormatSticks, Color, Quiet, Words, Short, Accept, Again, Patience, Places, Plain, Svg, FirstEvent, SecondEvent, From, Choose, Listed, Name, Own, Cross, Par, ScenariosFrom, Rounds, Limit, Fence}
+use Rattle.msc_command.specs.declared.words.ArgName.TheVariants.{File, Queues, QueuesIfAny, Pair, Mailbox, Single, Closest, Why, Most, Show, ShowSticks, Only, Allow, ChartFormat, FormatSticks, Color, Quiet, Words, Short, Accept, Again, Patience, Places, Plain, Svg, FirstEvent, SecondEvent, From, ScenarioFrom, Choose, Listed, Name, Own, Cross, Par, ScenariosFrom, Rounds, Limit, Fence}
 
 -- the name of a word behind a command
 abbrev pub arg_word : ArgName → List ℕ
@@ -38,6 +38,7 @@ arg_word Places = codes "places"
 arg_word Plain = codes "plain"
 arg_word Svg = codes "svg"
 arg_word From = codes "from"
+arg_word ScenarioFrom = codes "from"
 arg_word Choose = codes "choose"
 arg_word Listed = codes "list"
 arg_word Name = codes "name"
@@ -79,6 +80,7 @@ value_kind_of Places = value_kind.Nothing
 value_kind_of Plain = value_kind.Nothing
 value_kind_of Svg = value_kind.Nothing
 value_kind_of From = value_kind.Language
+value_kind_of ScenarioFrom = value_kind.Language
 value_kind_of Choose = value_kind.Choices
 value_kind_of Listed = value_kind.Nothing
 value_kind_of Name = value_kind.Name
@@ -116,19 +118,19 @@ command_of_word name = find (λ command_name. bytes_eq name (command_word comman
 
 -- the words behind a command
 abbrev pub args_of : CommandName → List ArgName
-args_of Read = Places ∷ Plain ∷ File ∷ []
+args_of Read = ScenarioFrom ∷ Choose ∷ Fence ∷ Name ∷ Own ∷ Cross ∷ Par ∷ Places ∷ Plain ∷ File ∷ []
 args_of Check =
     Queues ∷ Pair ∷ Mailbox ∷ Single ∷ Closest ∷ Why ∷ Most ∷ Show ∷ Allow ∷ Accept ∷ Again ∷ ChartFormat ∷ Color ∷ Quiet ∷ Words ∷ Short
     ∷ ScenariosFrom ∷ Rounds ∷ Limit ∷ Fence ∷ Name ∷ Own ∷ Cross ∷ Par ∷ Places ∷ Plain ∷ File ∷ []
-args_of Explain = Queues ∷ Pair ∷ Mailbox ∷ Single ∷ Words ∷ Short ∷ Places ∷ Plain ∷ File ∷ FirstEvent ∷ SecondEvent ∷ []
-args_of Follow = Queues ∷ Pair ∷ Mailbox ∷ Single ∷ Words ∷ Places ∷ Plain ∷ File ∷ []
-args_of Run = Queues ∷ Pair ∷ Mailbox ∷ Single ∷ Patience ∷ Places ∷ Plain ∷ File ∷ []
-args_of Listing = Places ∷ Plain ∷ File ∷ []
-args_of Draw = QueuesIfAny ∷ Pair ∷ Mailbox ∷ Single ∷ Svg ∷ Places ∷ Plain ∷ File ∷ []
-args_of Reverse = Queues ∷ Pair ∷ Mailbox ∷ Single ∷ Svg ∷ Places ∷ Plain ∷ File ∷ FirstEvent ∷ SecondEvent ∷ []
-args_of Report = Queues ∷ Pair ∷ Mailbox ∷ Single ∷ Places ∷ Plain ∷ File ∷ []
+args_of Explain = Queues ∷ Pair ∷ Mailbox ∷ Single ∷ Words ∷ Short ∷ ScenarioFrom ∷ Choose ∷ Fence ∷ Name ∷ Own ∷ Cross ∷ Par ∷ Places ∷ Plain ∷ File ∷ FirstEvent ∷ SecondEvent ∷ []
+args_of Follow = Queues ∷ Pair ∷ Mailbox ∷ Single ∷ Words ∷ ScenarioFrom ∷ Choose ∷ Fence ∷ Name ∷ Own ∷ Cross ∷ Par ∷ Places ∷ Plain ∷ File ∷ []
+args_of Run = Queues ∷ Pair ∷ Mailbox ∷ Single ∷ Patience ∷ ScenarioFrom ∷ Choose ∷ Fence ∷ Name ∷ Own ∷ Cross ∷ Par ∷ Places ∷ Plain ∷ File ∷ []
+args_of Listing = ScenarioFrom ∷ Choose ∷ Fence ∷ Name ∷ Own ∷ Cross ∷ Par ∷ Places ∷ Plain ∷ File ∷ []
+args_of Draw = QueuesIfAny ∷ Pair ∷ Mailbox ∷ Single ∷ Svg ∷ ScenarioFrom ∷ Choose ∷ Fence ∷ Name ∷ Own ∷ Cross ∷ Par ∷ Places ∷ Plain ∷ File ∷ []
+args_of Reverse = Queues ∷ Pair ∷ Mailbox ∷ Single ∷ Svg ∷ ScenarioFrom ∷ Choose ∷ Fence ∷ Name ∷ Own ∷ Cross ∷ Par ∷ Places ∷ Plain ∷ File ∷ FirstEvent ∷ SecondEvent ∷ []
+args_of Report = Queues ∷ Pair ∷ Mailbox ∷ Single ∷ ScenarioFrom ∷ Choose ∷ Fence ∷ Name ∷ Own ∷ Cross ∷ Par ∷ Places ∷ Plain ∷ File ∷ []
 args_of Ready =
-    Queues ∷ Pair ∷ Mailbox ∷ Single ∷ Only ∷ ShowSticks ∷ Again ∷ FormatSticks ∷ Color ∷ Words ∷ Places ∷ Plain ∷ File ∷ []
+    Queues ∷ Pair ∷ Mailbox ∷ Single ∷ Only ∷ ShowSticks ∷ Again ∷ FormatSticks ∷ Color ∷ Words ∷ ScenarioFrom ∷ Choose ∷ Fence ∷ Name ∷ Own ∷ Cross ∷ Par ∷ Places ∷ Plain ∷ File ∷ []
 args_of Import =
     From ∷ Fence ∷ Choose ∷ Listed ∷ Name ∷ Own ∷ Cross ∷ Par ∷ Places ∷ Plain ∷ File ∷ []
 

@@ -1,12 +1,14 @@
 //! The answers to tasks: each reads the text once, makes its chart, and prints the answer.
 
-ghost use Rattle.std.specs.Prelude.{◌≡◌, ℕ, List, length, map, None, option_map, IfErr, Ok, OnOk};
+ghost use Rattle.std.specs.Prelude.{◌≡◌, ℕ, List, length, map, None, Some, option_map, IfErr, Ok};
+ghost use Rattle.std.specs.Prelude.{◌||◌, OnOk, is_some};
 ghost use Rattle.std.specs.Io.KnownBytes.{Keeps};
 ghost use Rattle.std.specs.Option.{option_copied};
 ghost use Rattle.msc_chart.specs.Drawings.{chart_of};
 ghost use Rattle.msc_command.specs.Answering.{Answers, AnswersOf, AnswersWith, Delivers, Does};
 ghost use Rattle.msc_command.specs.Answering.{EndsAs, IsPut, PrintsLinked, RefusesLinked};
 ghost use Rattle.msc_command.specs.Answering.{TellsBlock, TellsQuietly};
+ghost use Rattle.msc_command.specs.Drafted.{of_chart, of_scenario};
 ghost use Rattle.msc_command.specs.Drawing.{PrintsLinkedPage, PrintsPage, RefusesDrawn};
 ghost use Rattle.msc_command.specs.Drawing.{RefusesLinkedPage};
 ghost use Rattle.msc_command.specs.Ending.{ends_as};
@@ -28,7 +30,7 @@ use crate::drawing::page_of;
 use crate::ending::{
     Refusal, Status, end_refused, end_unread, ended_by, ends_as, finished_by, is_spent,
 };
-use crate::importing::import_page;
+use crate::importing::{import_chosen, import_page};
 use crate::links::queues_in;
 use crate::marked::marks_of;
 use crate::naming::pair_named;
@@ -39,18 +41,18 @@ use crate::refused::refusal_lines;
 use crate::refused_words::{has_words, refusal_words, unread_words};
 use crate::rounds::rounds_of;
 use crate::scenarios::{Surveyed, check_scenarios};
-use crate::sited::{event_positions_of, style_of};
+use crate::sited::{event_positions_of, positions_of, style_of};
 use crate::surveying::{behind, blocks_of, check_block, of_block, refused_page, worse};
 use crate::tasks::{
-    ChartCommand, CheckArgs, Drawn, ExplainArgs, FollowArgs, Format, ImportArgs, LinkWords,
-    QuietArgs, ReadyArgs, RefusalForm, Request, ScenarioArgs, Task, form_of,
+    ChartCommand, CheckArgs, ChosenArgs, Drawn, ExplainArgs, FollowArgs, Format, ImportArgs,
+    LinkWords, QuietArgs, ReadyArgs, RefusalForm, Request, ScenarioArgs, Task, TextArgs, form_of,
 };
+use crate::text_chart::TextChart;
 use msc_chart::Unrolled;
 use msc_instance::AlwaysOpen;
 use msc_mark::Marks;
 use msc_markdown::Markdown;
 use msc_parser::Draft;
-use msc_place::EventPositions;
 use msc_place::writing::write_file;
 use msc_print::Page;
 use msc_report::{Fault, ReadyFormat};
@@ -95,7 +97,7 @@ fn check_in<O: Write>(
     marks: Option<&Marks>,
     rounds: Option<&Unrolled<'_>>,
     chart_format: ChartFormat<'_, '_>,
-    source: &Source,
+    source: &TextChart<'_, '_>,
     output: &mut O,
 ) -> Result<Status, Refusal<'static>>
     requires marks { AreMarked check_args.accept source.now.text (option_map (λ m. m.now) marks) }
@@ -118,7 +120,7 @@ fn check_with<'x, O: Write>(
     marks: Option<&Marks>,
     rounds: Option<&Unrolled<'_>>,
     words: &'x ChartWords,
-    source: &'x Source<'x>,
+    source: &'x TextChart<'x, '_>,
     output: &mut O,
 ) -> Result<Status, Refusal<'static>>
     requires format { check_args.format ≡ Format.Full }
@@ -152,7 +154,7 @@ fn check_full<O: Write>(
     marks: Option<&Marks>,
     rounds: Option<&Unrolled<'_>>,
     file: &str,
-    source: &Source,
+    source: &TextChart<'_, '_>,
     output: &mut O,
 ) -> Result<Status, Refusal<'static>>
     requires format { check_args.format ≡ Format.Full }
@@ -172,7 +174,7 @@ fn check<O: Write>(
     alloc: Global,
     check_args: CheckArgs,
     file: &str,
-    source: &Source,
+    source: &TextChart<'_, '_>,
     output: &mut O,
 ) -> Result<Status, Refusal<'static>>
     ensures { AnswersOf O.contents (ChartCommand.Check check_args) file.now source.now result
@@ -184,12 +186,7 @@ fn check<O: Write>(
     match check_args.format {
         Format::Text => {
             let event_style = check_args.event_style;
-            let event_positions = event_positions_of(
-                alloc,
-                event_style.places,
-                file,
-                source.text(),
-            )?;
+            let event_positions = event_positions_of(alloc, event_style.places, file, source)?;
             let style = style_of(event_style, event_positions.as_ref());
             let chart_format = ChartFormat::Lines(style);
             check_in(
@@ -215,7 +212,7 @@ fn check<O: Write>(
             )
         }
         Format::Lines => {
-            let event_positions = EventPositions::of(alloc, file.as_bytes(), source.text())?;
+            let event_positions = positions_of(alloc, file, source)?;
             let chart_format = ChartFormat::Editor(&event_positions);
             check_in(
                 alloc,
@@ -233,7 +230,11 @@ fn check<O: Write>(
 
 /// Whether no race of a text's chart counts, none is between its rounds if these are included, and
 /// each mark accepts a race.
-fn quiet(alloc: Global, quieting: QuietArgs, source: &Source) -> Result<Status, Refusal<'static>>
+fn quiet(
+    alloc: Global,
+    quieting: QuietArgs,
+    source: &TextChart<'_, '_>,
+) -> Result<Status, Refusal<'static>>
     ensures { TellsQuietly quieting source.now result }
 {
     let chart = source.chart();
@@ -250,7 +251,7 @@ fn explain<O: Write>(
     alloc: Global,
     explaining: ExplainArgs,
     file: &str,
-    source: &Source,
+    source: &TextChart<'_, '_>,
     output: &mut O,
 ) -> Result<Status, Refusal<'static>>
     ensures { AnswersOf O.contents (ChartCommand.Explain explaining) file.now source.now result
@@ -260,12 +261,7 @@ fn explain<O: Write>(
         Ok(pair) => pair,
         Err(fault) => return Err(Refusal::Pair(fault)),
     };
-    let event_positions = event_positions_of(
-        alloc,
-        explaining.event_style.places,
-        file,
-        source.text(),
-    )?;
+    let event_positions = event_positions_of(alloc, explaining.event_style.places, file, source)?;
     let style = style_of(explaining.event_style, event_positions.as_ref());
     let (queues, short) = (explaining.queues, explaining.short);
     let (page, enforced) = explain_pair(alloc, source.chart(), queues, e, f, short, style)?;
@@ -278,21 +274,24 @@ fn follow<O: Write>(
     alloc: Global,
     following: FollowArgs,
     file: &str,
-    source: &Source,
+    source: &TextChart<'_, '_>,
     output: &mut O,
 ) -> Result<Status, Refusal<'static>>
     ensures { AnswersOf O.contents (ChartCommand.Follow following) file.now source.now result
         output.old output.new }
 {
-    let event_positions = event_positions_of(
-        alloc,
-        following.event_style.places,
-        file,
-        source.text(),
-    )?;
+    let event_positions = event_positions_of(alloc, following.event_style.places, file, source)?;
     let style = style_of(following.event_style, event_positions.as_ref());
     let (page, follows) = follow_drawing(alloc, source.chart(), following.queues, style)?;
     put(output, &page, ended_by(follows))
+}
+
+/// Whether the places of events are listed: if they are requested, and those of the arrows of a
+/// diagram always.
+fn shows_places(placed: bool, source: &TextChart<'_, '_>) -> bool
+    ensures { result ≡ (placed || is_some source.now.imported) }
+{
+    placed || source.imported().is_some()
 }
 
 /// Writes the events of the chart of a text in the file of this name, with their places if
@@ -301,13 +300,14 @@ fn list<O: Write>(
     alloc: Global,
     placed: bool,
     file: &str,
-    source: &Source,
+    source: &TextChart<'_, '_>,
     output: &mut O,
 ) -> Result<Status, Refusal<'static>>
     ensures { AnswersOf O.contents (ChartCommand.List placed) file.now source.now result
         output.old output.new }
 {
-    let event_positions = event_positions_of(alloc, placed, file, source.text())?;
+    let placed = shows_places(placed, source);
+    let event_positions = event_positions_of(alloc, placed, file, source)?;
     let page = list_chart(alloc, source.chart(), event_positions.as_ref())?;
     put(output, &page, Status::Done)
 }
@@ -320,7 +320,7 @@ fn ready_in<'w, O: Write>(
     only: Option<&[bool]>,
     rounds: Option<&Unrolled<'_>>,
     stick_format: StickFormat<'_, '_>,
-    source: &Source,
+    source: &TextChart<'_, '_>,
     output: &mut O,
 ) -> Result<Status, Refusal<'w>>
     requires only { AreReady source.now.chart (names_of readying) (option_copied only) }
@@ -343,7 +343,7 @@ fn ready_with<'w, 'x, O: Write>(
     only: Option<&[bool]>,
     rounds: Option<&Unrolled<'_>>,
     words: &'x ChartWords,
-    source: &'x Source<'x>,
+    source: &'x TextChart<'x, '_>,
     output: &mut O,
 ) -> Result<Status, Refusal<'w>>
     requires format { readying.format ≡ Format.Full }
@@ -370,7 +370,7 @@ fn ready_full<'w, O: Write>(
     only: Option<&[bool]>,
     rounds: Option<&Unrolled<'_>>,
     file: &str,
-    source: &Source,
+    source: &TextChart<'_, '_>,
     output: &mut O,
 ) -> Result<Status, Refusal<'w>>
     requires format { readying.format ≡ Format.Full }
@@ -392,7 +392,7 @@ fn print_ready<'w, O: Write>(
     only: Option<&[bool]>,
     rounds: Option<&Unrolled<'_>>,
     file: &str,
-    source: &Source,
+    source: &TextChart<'_, '_>,
     output: &mut O,
 ) -> Result<Status, Refusal<'w>>
     requires only { AreReady source.now.chart (names_of readying) (option_copied only) }
@@ -403,12 +403,7 @@ fn print_ready<'w, O: Write>(
     match readying.format {
         Format::Text => {
             let event_style = readying.event_style;
-            let event_positions = event_positions_of(
-                alloc,
-                event_style.places,
-                file,
-                source.text(),
-            )?;
+            let event_positions = event_positions_of(alloc, event_style.places, file, source)?;
             let style = style_of(event_style, event_positions.as_ref());
             let stick_format = StickFormat::Plain(ReadyFormat::Lines(style));
             ready_in(alloc, readying, only, rounds, stick_format, source, output)
@@ -418,7 +413,7 @@ fn print_ready<'w, O: Write>(
             ready_in(alloc, readying, only, rounds, stick_format, source, output)
         }
         Format::Lines => {
-            let event_positions = EventPositions::of(alloc, file.as_bytes(), source.text())?;
+            let event_positions = positions_of(alloc, file, source)?;
             let stick_format = StickFormat::Plain(ReadyFormat::Editor(&event_positions));
             ready_in(alloc, readying, only, rounds, stick_format, source, output)
         }
@@ -432,7 +427,7 @@ fn ready<'w, O: Write>(
     alloc: Global,
     readying: ReadyArgs<'w>,
     file: &str,
-    source: &Source,
+    source: &TextChart<'_, '_>,
     output: &mut O,
 ) -> Result<Status, Refusal<'w>>
     ensures { AnswersOf O.contents (ChartCommand.Ready readying.entry) file.now source.now result
@@ -455,7 +450,7 @@ fn answer_chart<'w, R: Threads + Wait + Sync, O: Write>(
     alloc: Global,
     ask: ChartCommand<'w>,
     file: &str,
-    source: &Source,
+    source: &TextChart<'_, '_>,
     output: &mut O,
 ) -> Result<Status, Refusal<'w>>
     ensures { AnswersOf O.contents ask.entry file.now source.now result output.old output.new }
@@ -490,7 +485,7 @@ fn answer_linked<'w, R: Threads + Wait + Sync, O: Write>(
     ask: ChartCommand<'w>,
     words: LinkWords<'w>,
     file: &str,
-    source: &Source<'w>,
+    source: &TextChart<'w, '_>,
     output: &mut O,
 ) -> Result<Status, Refusal<'w>>
     ensures { Answers O.contents (PrintsLinked ask.entry words.entry file.now source.now)
@@ -505,7 +500,7 @@ fn draw<O: Write>(
     alloc: Global,
     drawn: Drawn,
     draft: &Draft,
-    source: &Source,
+    source: &TextChart<'_, '_>,
     output: &mut O,
 ) -> Result<Status, Refusal<'static>>
     requires { source.now.chart ≡ chart_of draft.now }
@@ -523,7 +518,7 @@ fn draw_linked<'w, O: Write>(
     drawn: Drawn,
     words: LinkWords<'w>,
     draft: &Draft,
-    source: &Source<'w>,
+    source: &TextChart<'w, '_>,
     output: &mut O,
 ) -> Result<Status, Refusal<'w>>
     requires { source.now.chart ≡ chart_of draft.now }
@@ -543,7 +538,7 @@ fn import<O: Write>(
     output: &mut O,
 ) -> Result<Status, Refusal<'static>>
     ensures { Answers O.contents (PrintsImportPage words.entry file.now text.now)
-        (RefusesImport words.entry text.now) result output.old output.new }
+        (RefusesImport words.entry.chosen text.now) result output.old output.new }
 {
     let page = import_page(alloc, words, file, text)?;
     put(output, &page, Status::Done)
@@ -852,6 +847,159 @@ fn check_diagrams<'w, O: TellsFailure, E: Write>(
     }
 }
 
+/// Writes the canonical text of the chart that a text draws.
+fn read_text<O: Write>(
+    alloc: Global,
+    text: &[u8],
+    output: &mut O,
+) -> Result<Status, Refusal<'static>>
+    ensures { (file : List ℕ) → Does O.contents (Task.Read None) file text.now result
+        output.old output.new }
+{
+    let read = Reading::of(alloc, Language::MscPr, text)?;
+    write_reading(alloc, &read, output)?;
+    Ok(Status::Done)
+}
+
+/// Writes the canonical text of a scenario of the diagram of a text.
+fn read_diagram<'w, O: Write>(
+    alloc: Global,
+    chosen: ChosenArgs<'w>,
+    text: &[u8],
+    output: &mut O,
+) -> Result<Status, Refusal<'static>>
+    ensures { (file : List ℕ) → Does O.contents (Task.Read (Some chosen.entry)) file text.now result
+        output.old output.new }
+{
+    let imported = import_chosen(alloc, chosen, text)?;
+    let bytes = imported.draft.write(alloc)?;
+    put(output, &Page { bytes }, Status::Done)
+}
+
+/// Writes the canonical text of the chart that a text draws, or of a scenario of its diagram.
+fn read<'w, O: Write>(
+    alloc: Global,
+    chosen: Option<ChosenArgs<'w>>,
+    text: &[u8],
+    output: &mut O,
+) -> Result<Status, Refusal<'static>>
+    ensures { (file : List ℕ) → Does O.contents (Task.Read chosen.entry) file text.now result
+        output.old output.new }
+{
+    match chosen {
+        None => read_text(alloc, text, output),
+        Some(chosen) => read_diagram(alloc, chosen, text, output),
+    }
+}
+
+/// Prints the answer to a command on the chart that a text draws.
+fn answer_text<'w, R: Threads + Wait + Sync, O: Write>(
+    rt: &R,
+    alloc: Global,
+    ask: ChartCommand<'w>,
+    links: LinkWords<'w>,
+    file: &str,
+    text: &'w [u8],
+    output: &mut O,
+) -> Result<Status, Refusal<'w>>
+    ensures { Does O.contents (Task.Chart ask.entry (of_chart links.entry)) file.now text.entry.now
+        result output.old output.new }
+{
+    let source = Source::of(alloc, Language::MscPr, text)?;
+    let chart = TextChart::of_source(source);
+    answer_linked(rt, alloc, ask, links, file, &chart, output)
+}
+
+/// Prints the answer to a command on a scenario of the diagram of a text.
+fn answer_diagram<'w, R: Threads + Wait + Sync, O: Write>(
+    rt: &R,
+    alloc: Global,
+    ask: ChartCommand<'w>,
+    chosen: ChosenArgs<'w>,
+    links: LinkWords<'w>,
+    file: &str,
+    text: &'w [u8],
+    output: &mut O,
+) -> Result<Status, Refusal<'w>>
+    ensures { Does O.contents (Task.Chart ask.entry (of_scenario chosen.entry links.entry)) file.now
+        text.entry.now result output.old output.new }
+{
+    let imported = import_chosen(alloc, chosen, text)?;
+    let chart = TextChart::of_import(alloc, text, &imported)?;
+    answer_linked(rt, alloc, ask, links, file, &chart, output)
+}
+
+/// Prints the answer to a command on the chart of a text, or on a scenario of its diagram.
+fn answer_command<'w, R: Threads + Wait + Sync, O: Write>(
+    rt: &R,
+    alloc: Global,
+    ask: ChartCommand<'w>,
+    words: TextArgs<'w>,
+    file: &str,
+    text: &'w [u8],
+    output: &mut O,
+) -> Result<Status, Refusal<'w>>
+    ensures { Does O.contents (Task.Chart ask.entry words.entry) file.now text.entry.now result
+        output.old output.new }
+{
+    match words.diagram {
+        None => answer_text(rt, alloc, ask, words.links, file, text, output),
+        Some(chosen) => answer_diagram(rt, alloc, ask, chosen, words.links, file, text, output),
+    }
+}
+
+/// Writes a picture of the chart that a text draws, or its report.
+fn draw_text<'w, O: Write>(
+    alloc: Global,
+    drawn: Drawn,
+    links: LinkWords<'w>,
+    text: &'w [u8],
+    output: &mut O,
+) -> Result<Status, Refusal<'w>>
+    ensures { (file : List ℕ) → Does O.contents (Task.Draw drawn (of_chart links.entry)) file
+        text.entry.now result
+        output.old output.new }
+{
+    let read = Reading::of(alloc, Language::MscPr, text)?;
+    let source = Source::of_reading(alloc, &read)?;
+    let chart = TextChart::of_source(source);
+    draw_linked(alloc, drawn, links, read.draft(), &chart, output)
+}
+
+/// Writes a picture of a scenario of the diagram of a text, or its report.
+fn draw_diagram<'w, O: Write>(
+    alloc: Global,
+    drawn: Drawn,
+    chosen: ChosenArgs<'w>,
+    links: LinkWords<'w>,
+    text: &'w [u8],
+    output: &mut O,
+) -> Result<Status, Refusal<'w>>
+    ensures { (file : List ℕ) → Does O.contents (Task.Draw drawn (of_scenario chosen.entry links.entry)) file
+        text.entry.now result output.old output.new }
+{
+    let imported = import_chosen(alloc, chosen, text)?;
+    let chart = TextChart::of_import(alloc, text, &imported)?;
+    draw_linked(alloc, drawn, links, &imported.draft, &chart, output)
+}
+
+/// Writes a picture of the chart of a text, or of a scenario of its diagram, or a report.
+fn draw_command<'w, O: Write>(
+    alloc: Global,
+    drawn: Drawn,
+    words: TextArgs<'w>,
+    text: &'w [u8],
+    output: &mut O,
+) -> Result<Status, Refusal<'w>>
+    ensures { (file : List ℕ) → Does O.contents (Task.Draw drawn words.entry) file text.entry.now
+        result output.old output.new }
+{
+    match words.diagram {
+        None => draw_text(alloc, drawn, words.links, text, output),
+        Some(chosen) => draw_diagram(alloc, drawn, chosen, words.links, text, output),
+    }
+}
+
 /// Writes the answer to a request on a text.
 fn answer<'w, R: Threads + Wait + Sync, O: TellsFailure, E: Write>(
     rt: &R,
@@ -866,20 +1014,9 @@ fn answer<'w, R: Threads + Wait + Sync, O: TellsFailure, E: Write>(
 {
     let file = request.file;
     match request.task {
-        Task::Read => {
-            let read = Reading::of(alloc, Language::MscPr, text)?;
-            write_reading(alloc, &read, output)?;
-            Ok(Status::Done)
-        }
-        Task::Chart(ask, words) => {
-            let source = Source::of(alloc, Language::MscPr, text)?;
-            answer_linked(rt, alloc, ask, words, file, &source, output)
-        }
-        Task::Draw(drawn, words) => {
-            let read = Reading::of(alloc, Language::MscPr, text)?;
-            let source = Source::of_reading(alloc, &read)?;
-            draw_linked(alloc, drawn, words, read.draft(), &source, output)
-        }
+        Task::Read(chosen) => read(alloc, chosen, text, output),
+        Task::Chart(ask, words) => answer_command(rt, alloc, ask, words, file, text, output),
+        Task::Draw(drawn, words) => draw_command(alloc, drawn, words, text, output),
         Task::Import(words) => import(alloc, words, file, text, output),
         Task::Scenarios(words) => check_diagrams(alloc, request, words, text, output, faults),
     }

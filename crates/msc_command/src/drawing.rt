@@ -8,19 +8,19 @@ use crate::ending::Refusal;
 use crate::grammar::VERSION;
 use crate::naming::pair_named;
 use crate::tasks::{Drawn, ReverseArgs};
+use crate::text_chart::TextChart;
 use msc_draw::{draw_chart, draw_reversal};
 use msc_html::report_chart;
 use msc_parser::Draft;
 use msc_print::Page;
 use msc_report::NamedFault;
-use msc_source::Source;
 use std::alloc::Global;
 
 /// The picture of a run that reverses a race of a draft's chart.
 fn reversal(
     alloc: Global,
     draft: &Draft,
-    source: &Source,
+    source: &TextChart<'_, '_>,
     reversing: ReverseArgs,
 ) -> Result<Page, Refusal<'static>>
     requires { source.now.chart ≡ chart_of draft.now }
@@ -43,7 +43,7 @@ pub(crate) fn page_of(
     alloc: Global,
     drawn: Drawn,
     draft: &Draft,
-    source: &Source,
+    source: &TextChart<'_, '_>,
 ) -> Result<Page, Refusal<'static>>
     requires { source.now.chart ≡ chart_of draft.now }
     ensures { IsDrawnOn drawn draft.now source.now result }

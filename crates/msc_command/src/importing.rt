@@ -1,21 +1,26 @@
 //! Imports, as pages: the canonical text of a scenario of a diagram, with the queues that the diagram
-//! names itself, or the list of its events with the places of their arrows.
+//! names itself and its marks, or the list of its events with the places of their arrows.
 
-ghost use Rattle.std.specs.Prelude.{◌≡◌, ℕ, List, [], IfOk, false, option_map, true};
-ghost use Rattle.msc_command.specs.Importing.{IsChartOrFault, IsImport, IsImportedOn, IsPageOf};
+ghost use Rattle.std.specs.Prelude.{◌≡◌, ℕ, List, [], IfOk, Ok, Option, false, option_map, true, unwrap_or};
+ghost use Rattle.msc_import.specs.Importing.{read, reading_of, Wanted};
+ghost use Rattle.msc_command.specs.Importing.{IsChartOrFault, IsImportedOn, IsPageOf, IsTextOf};
 ghost use Rattle.msc_command.specs.Importing.{IsCommentOf, IsFirstOwn, IsImportAs, first_reading};
-ghost use Rattle.msc_command.specs.Importing.{wanted_with};
+ghost use Rattle.msc_command.specs.Importing.{choices_of, wanted_of, wanted_with};
+ghost use Rattle.msc_command.specs.Importing.{IsChartImport, IsImport, IsReadFor};
 
 use crate::choices::choices_in;
 use crate::ending::Refusal;
 use crate::links::names_of;
 use crate::own::{after_signs, bytes_at};
-use crate::tasks::{DiagramArgs, ImportArgs};
+use crate::scenarios::reading_of;
+use crate::tasks::{ChosenArgs, DiagramArgs, ImportArgs};
 use msc_chart::Chart;
-use msc_import::{Imported, Importing, import};
+use msc_import::laws::reading_comes_first;
+use msc_import::{Imported, Importing, draw_chosen, read};
 use msc_import_laws::laws::imports_are_charts;
+use msc_import_marks::{DrawnScenario, with_marks};
 use msc_links::{OwnFault, OwnQueues, own_queues, own_said};
-use msc_mermaid::Span;
+use msc_mermaid::{Diagram, Span};
 use msc_parser::Draft;
 use msc_place::EventPositions;
 use msc_print::Page;
@@ -42,7 +47,7 @@ pub(crate) fn chart_of(alloc: Global, draft: &Draft) -> Result<Chart, SourceFaul
 
 /// The events of an import of the text of a file of this name, on a page.
 fn list_page(alloc: Global, file: &str, imported: Imported) -> Result<Page, Refusal<'static>>
-    ensures { (text : List ℕ) → IsPageOf true file.now text imported result }
+    ensures { (x : Wanted) (text : List ℕ) → IsPageOf x true file.now text imported result }
 {
     let chart = chart_of(alloc, &imported.draft)?;
     let event_positions = EventPositions::at(file.as_bytes(), imported.places.into_vec());
@@ -88,35 +93,90 @@ fn comment_of(
     Ok(comment)
 }
 
-/// The text of an import, on a page.
-fn text_page(alloc: Global, text: &[u8], imported: Imported) -> Result<Page, Refusal<'static>>
-    ensures { IsPageOf false [] text.now imported result }
+/// The canonical text of an import, with the queues that the diagram names itself.
+fn text_of(alloc: Global, text: &[u8], imported: &Imported) -> Result<Vec<u8>, Refusal<'static>>
+    ensures { IsTextOf text.now imported.now result }
 {
-    let comment = comment_of(alloc, text, &imported)?;
+    let comment = comment_of(alloc, text, imported)?;
     let bytes = match &comment {
         None => imported.draft.write_with(alloc, None)?,
         Some(comment) => imported.draft.write_with(alloc, Some(comment.as_slice()))?,
     };
+    Ok(bytes)
+}
+
+/// The text of an import with the marks of the diagram, on a page. `choices` are those of the
+/// scenario.
+fn text_page(
+    alloc: Global,
+    words: DiagramArgs<'_>,
+    choices: &[usize],
+    text: &[u8],
+    diagram: &Diagram,
+    imported: &Imported,
+) -> Result<Page, Refusal<'static>>
+    ensures { (given : Option (List ℕ)) → choices.now ≡ unwrap_or given []
+        → read (reading_of (wanted_with words.entry given)) text.now ≡ Ok diagram.now
+        → IsPageOf (wanted_with words.entry given) false [] text.now imported.now result }
+{
+    let chart = text_of(alloc, text, imported)?;
+    let drawn = DrawnScenario {
+        diagram,
+        choices,
+        own: words.manner.own,
+        events: imported.spans.events.as_slice(),
+    };
+    let bytes = with_marks(alloc, text, drawn, chart)?;
     Ok(Page { bytes })
 }
 
-/// The page of an import of a text of the file of this name.
-fn page_of(
+/// The diagram of a text.
+fn diagram_of(
     alloc: Global,
-    list: bool,
-    file: &str,
+    words: DiagramArgs<'_>,
     text: &[u8],
-    imported: Imported,
-) -> Result<Page, Refusal<'static>>
-    ensures { IsPageOf list file.now text.now imported result }
+) -> Result<Diagram, Refusal<'static>>
+    ensures { (choices : Option (List ℕ)) → IsReadFor (wanted_with words.entry choices) text.now result }
 {
-    if list {
-        return list_page(alloc, file, imported);
-    }
-    text_page(alloc, text, imported)
+    let diagram = read(alloc, reading_of(words), text)?;
+    Ok(diagram)
 }
 
-/// The import of a text, with these choices.
+/// The scenario of a diagram with these choices.
+fn drawn_of(
+    alloc: Global,
+    words: DiagramArgs<'_>,
+    choices: Option<&[usize]>,
+    diagram: &Diagram,
+) -> Result<Imported, Refusal<'static>>
+    ensures { (text : List ℕ)
+        → read (reading_of (wanted_with words.entry (option_map (λ c. c.now) choices.entry))) text ≡ Ok diagram.now
+        → IsImportAs (wanted_with words.entry (option_map (λ c. c.now) choices.entry)) text result }
+{
+    reading_comes_first();
+    let importing = Importing {
+        language: words.language,
+        fence: fence_of(words.fence),
+        cross: words.cross,
+        manner: words.manner,
+        choices,
+        name: words.name,
+    };
+    let imported = draw_chosen(alloc, importing, diagram)?;
+    Ok(imported)
+}
+
+/// The choices of the words, if some are given.
+fn given_choices(alloc: Global, words: ChosenArgs<'_>) -> Result<Option<Vec<usize>>, AllocError>
+    ensures { IfOk result (λ given. option_map (λ v. v.items) given ≡ choices_of words.entry) }
+{
+    match words.choose {
+        None => Ok(None),
+        Some(word) => Ok(Some(choices_in(alloc, word)?)),
+    }
+}
+
+/// The import of a text with these choices.
 fn import_with(
     alloc: Global,
     words: DiagramArgs<'_>,
@@ -126,33 +186,84 @@ fn import_with(
     ensures { IsImportAs (wanted_with words.entry (option_map (λ c. c.now) choices.entry))
         text.now result }
 {
-    let importing = Importing {
-        language: words.language,
-        fence: fence_of(words.fence),
-        cross: words.cross,
-        manner: words.manner,
-        choices,
-        name: words.name,
-    };
-    let imported = import(alloc, importing, text)?;
-    Ok(imported)
+    reading_comes_first();
+    let diagram = diagram_of(alloc, words, text)?;
+    drawn_of(alloc, words, choices, &diagram)
 }
 
 /// The import of a text, with the choices of the words.
 fn import_by(
     alloc: Global,
-    words: ImportArgs<'_>,
+    words: ChosenArgs<'_>,
     text: &[u8],
 ) -> Result<Imported, Refusal<'static>>
     ensures { IsImport words.entry text.now result }
 {
-    match words.choose {
+    match given_choices(alloc, words)? {
         None => import_with(alloc, words.diagram, None, text),
-        Some(word) => {
-            let choices = choices_in(alloc, word)?;
-            import_with(alloc, words.diagram, Some(choices.as_slice()), text)
-        }
+        Some(choices) => import_with(alloc, words.diagram, Some(choices.as_slice()), text),
     }
+}
+
+/// The import of a text, with the choices of the words. It is a chart.
+pub(crate) fn import_chosen(
+    alloc: Global,
+    words: ChosenArgs<'_>,
+    text: &[u8],
+) -> Result<Imported, Refusal<'static>>
+    ensures { IsChartImport words.entry text.now result }
+{
+    imports_are_charts();
+    import_by(alloc, words, text)
+}
+
+/// The given choices; without one, all are the main ones.
+fn given_or_main(choices: Option<&[usize]>) -> &[usize]
+    ensures { result.now ≡ unwrap_or (option_map (λ c. c.now) choices.entry) [] }
+{
+    match choices {
+        Some(choices) => choices,
+        None => &[],
+    }
+}
+
+/// The page of an import of a text of the file of this name, with these choices.
+fn page_of(
+    alloc: Global,
+    words: ImportArgs<'_>,
+    choices: Option<&[usize]>,
+    file: &str,
+    text: &[u8],
+    diagram: &Diagram,
+    imported: Imported,
+) -> Result<Page, Refusal<'static>>
+    requires read { read (reading_of (wanted_of words.chosen)) text.now ≡ Ok diagram.now }
+    requires choices { option_map (λ c. c.now) choices ≡ choices_of words.chosen }
+    ensures { IsPageOf (wanted_of words.entry.chosen) words.entry.list file.now text.now imported result }
+{
+    if words.list {
+        return list_page(alloc, file, imported);
+    }
+    let given = given_or_main(choices);
+    text_page(alloc, words.chosen.diagram, given, text, diagram, &imported)
+}
+
+/// The page of an import with these choices of the text of a file of this name.
+fn page_with(
+    alloc: Global,
+    words: ImportArgs<'_>,
+    choices: Option<&[usize]>,
+    file: &str,
+    text: &[u8],
+) -> Result<Page, Refusal<'static>>
+    requires { option_map (λ c. c.now) choices ≡ choices_of words.chosen }
+    ensures { IsImportedOn words.entry file.now text.now result }
+{
+    imports_are_charts();
+    reading_comes_first();
+    let diagram = diagram_of(alloc, words.chosen.diagram, text)?;
+    let imported = drawn_of(alloc, words.chosen.diagram, choices, &diagram)?;
+    page_of(alloc, words, choices, file, text, &diagram, imported)
 }
 
 /// The page with the import of the text of a file of this name.
@@ -164,7 +275,8 @@ pub(crate) fn import_page(
 ) -> Result<Page, Refusal<'static>>
     ensures { IsImportedOn words.entry file.now text.now result }
 {
-    imports_are_charts();
-    let imported = import_by(alloc, words, text)?;
-    page_of(alloc, words.list, file, text, imported)
+    match given_choices(alloc, words.chosen)? {
+        None => page_with(alloc, words, None, file, text),
+        Some(choices) => page_with(alloc, words, Some(choices.as_slice()), file, text),
+    }
 }

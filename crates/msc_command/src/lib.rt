@@ -51,6 +51,7 @@ mod shown;
 mod sited;
 mod surveying;
 mod tasks;
+mod text_chart;
 mod words;
 
 pub use program::{command, refuse_words};

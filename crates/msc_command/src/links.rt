@@ -20,11 +20,11 @@ use crate::tasks::{
     ChartCommand, CheckArgs, Drawn, ExplainArgs, FollowArgs, LinkWords, QuietArgs, ReadyArgs,
     ReverseArgs,
 };
+use crate::text_chart::TextChart;
 use msc_chart::{Chart, INSTANCE_LIMIT, LinkKind, Queues};
 use msc_import::{Drawings, Scenario, TextSpans};
 use msc_links::{LineNames, Rule, RulesFault, queues_of};
 use msc_mermaid::Span;
-use msc_source::Source;
 use std::alloc::{AllocError, Global};
 
 /// Appends a rule of this kind for each of these links.
@@ -158,18 +158,6 @@ fn queues_of_chart<'w>(
     queues_by(alloc, usual, own, words, names.as_slice())
 }
 
-/// The queues of a chart: links that no rule names are of the usual kind.
-pub(crate) fn queues_in<'w>(
-    alloc: Global,
-    usual: LinkKind,
-    words: LinkWords<'w>,
-    source: &Source<'w>,
-) -> Result<Queues, Refusal<'w>>
-    ensures { IsLinked usual words.entry source.now result }
-{
-    queues_of_chart(alloc, usual, words, source.text(), source.chart())
-}
-
 /// The name by which a text calls line `i`.
 fn own_name<'t>(text: &'t [u8], names: &[Span], i: usize) -> &'t [u8]
     ensures { result.now ≡ own_name text.entry.now names.now i }
@@ -230,6 +218,22 @@ fn queues_at<'w>(
     let own = own_of_diagram(alloc, words.own, text, spans)?;
     let names = names_of(alloc, text, spans, chart)?;
     queues_by(alloc, usual, own, words, names.as_slice())
+}
+
+/// The queues of the chart of a text: links that no rule names are of the usual kind.
+pub(crate) fn queues_in<'w>(
+    alloc: Global,
+    usual: LinkKind,
+    words: LinkWords<'w>,
+    source: &TextChart<'w, '_>,
+) -> Result<Queues, Refusal<'w>>
+    ensures { IsLinked usual words.entry source.now result }
+{
+    let (text, chart) = (source.text(), source.chart());
+    match source.imported() {
+        None => queues_of_chart(alloc, usual, words, text, chart),
+        Some(imported) => queues_at(alloc, usual, words, text, &imported.spans, chart),
+    }
 }
 
 /// The queues of a diagram of which this is a scenario.

@@ -14,7 +14,7 @@ use crate::ending::Refusal;
 use crate::importing::fence_of;
 use crate::own::LinkRefusal;
 use crate::refused::mark_place;
-use crate::tasks::{ChartCommand, Request, Task};
+use crate::tasks::{ChartCommand, DiagramArgs, Request, Task};
 use listed::Listed;
 use msc_chart::ChartFault;
 use msc_import::Refused;
@@ -142,6 +142,16 @@ fn write_line_notes<E: Write>(
     write_place_notes(alloc, faults, file, plain.as_slice(), Some(before.len()))
 }
 
+/// The diagram of a task, if its text is one.
+fn diagram_in<'w>(task: Task<'w>) -> Option<DiagramArgs<'w>> {
+    match task {
+        Task::Read(chosen) => Some(chosen?.diagram),
+        Task::Chart(_, words) | Task::Draw(_, words) => Some(words.diagram?.diagram),
+        Task::Import(words) => Some(words.chosen.diagram),
+        Task::Scenarios(words) => Some(words.diagram),
+    }
+}
+
 /// Writes the place of why there are no queues, if it has one.
 fn write_link_notes<E: Write>(
     alloc: Global,
@@ -154,19 +164,15 @@ fn write_link_notes<E: Write>(
         LinkRefusal::Given(_) => return Ok(()),
         LinkRefusal::Text(_, place) | LinkRefusal::Unclear(place) => place.at,
     };
-    match request.task {
-        Task::Scenarios(_) => write_line_notes(alloc, faults, request.file, text, at),
-        _ => write_place_notes(alloc, faults, request.file, text, Some(at)),
+    match diagram_in(request.task) {
+        Some(_) => write_line_notes(alloc, faults, request.file, text, at),
+        None => write_place_notes(alloc, faults, request.file, text, Some(at)),
     }
 }
 
 /// The number of the diagram that a task takes from Markdown, if it is given.
 fn fence_in(task: Task<'_>) -> Option<usize> {
-    match task {
-        Task::Import(words) => fence_of(words.diagram.fence),
-        Task::Scenarios(words) => fence_of(words.diagram.fence),
-        _ => None,
-    }
+    fence_of(diagram_in(task)?.fence)
 }
 
 /// The diagrams of a text, unless it is too long.

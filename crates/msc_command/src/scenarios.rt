@@ -1,10 +1,14 @@
 //! Checks of all scenarios of a diagram.
 
-ghost use Rattle.std.specs.Prelude.{◌≡◌, ◌++◌, ◌∷◌, [], map, option_map, IfOk, OnOk};
+ghost use Rattle.std.specs.Prelude.{◌≡◌, ◌++◌, ◌∷◌, [], map, option_map, IfOk, List, Ok, OnOk, Option, ℕ};
+ghost use Rattle.msc_import.specs.Importing.{read};
+ghost use Rattle.msc_import.specs.Whole.{reading_of_all};
 ghost use Rattle.msc_diagram.specs.Scenarios.{diagram_top, first_chart};
 ghost use Rattle.msc_command.specs.Answering.{AnswersWith};
+ghost use Rattle.msc_command.specs.Importing.{reading_in};
 ghost use Rattle.msc_command.specs.Charting.{with_chart, AreCharts};
 ghost use Rattle.msc_command.specs.Scenarios.{BeginsScenarios, IsCharted, IsFormatOf};
+ghost use Rattle.msc_command.specs.Scenarios.{wanted_of, with_fence, IsDiagramOf};
 ghost use Rattle.msc_command.specs.Scenarios.{IsImportOfAll, PrintsScenarios, RefusesScenarios};
 ghost use Rattle.msc_command.specs.Scenarios.{BeginsAll, IsLinkedArgs, PrintsAll};
 ghost use Rattle.msc_command.specs.Scenarios.{PrintsCounted};
@@ -13,14 +17,18 @@ use crate::choices::rounds_of;
 use crate::ending::{Refusal, Status, ended_by};
 use crate::importing::{chart_of, fence_of};
 use crate::links::queues_of_diagram;
-use crate::tasks::{CheckArgs, Format, ScenarioArgs};
+use crate::tasks::{CheckArgs, DiagramArgs, Format, ScenarioArgs};
 use msc_chart::{Chart, Queues};
 use msc_diagram::{
     DiagramFormat, DiagramStyle, Lent, Scenario, Source, judge_scenarios, scenarios_pass,
     write_diagram_top,
 };
-use msc_import::{Drawings, ImportingAll, Scenario as Drawn, Scenarios, import_all};
+use msc_import::laws::reading_comes_first;
+use msc_import::{
+    DiagramReading, Drawings, ImportingAll, Scenario as Drawn, Scenarios, draw_all, read,
+};
 use msc_import_laws::laws::imports_are_charts;
+use msc_mermaid::Diagram;
 use msc_place::EventPositions;
 use msc_print::Page;
 use std::alloc::{AllocError, Global};
@@ -34,14 +42,40 @@ pub(crate) struct Surveyed {
     pub listed: u32,
 }
 
-/// All scenarios of the diagram of a text.
-fn import_of_all<'w>(
+/// Which diagram of a text is read, and how.
+pub(crate) fn reading_of(words: DiagramArgs<'_>) -> DiagramReading
+    ensures { result ≡ reading_in words.entry }
+{
+    DiagramReading {
+        language: words.language,
+        fence: fence_of(words.fence),
+        cross: words.cross,
+    }
+}
+
+/// The diagram of a text.
+fn diagram_of(
+    alloc: Global,
+    words: ScenarioArgs<'_>,
+    text: &[u8],
+) -> Result<Diagram, Refusal<'static>>
+    ensures { IsDiagramOf words.entry text.now result }
+{
+    let diagram = read(alloc, reading_of(words.diagram), text)?;
+    Ok(diagram)
+}
+
+/// All scenarios of a diagram.
+pub(crate) fn scenarios_of<'w>(
     alloc: Global,
     words: ScenarioArgs<'w>,
-    text: &[u8],
+    diagram: &'w Diagram,
 ) -> Result<Scenarios<'w>, Refusal<'static>>
-    ensures { IsImportOfAll words.entry text.now result }
+    ensures { (text : List ℕ) (fence : Option ℕ)
+        → read (reading_of_all (wanted_of (with_fence fence words.entry))) text ≡ Ok diagram.entry.now
+        → IsImportOfAll (with_fence fence words.entry) text result }
 {
+    reading_comes_first();
     let rounds = rounds_of(alloc, words.rounds)?;
     let importing = ImportingAll {
         language: words.diagram.language,
@@ -52,7 +86,7 @@ fn import_of_all<'w>(
         limit: words.limit as usize,
         name: words.diagram.name,
     };
-    let all = import_all(alloc, importing, text)?;
+    let all = draw_all(alloc, importing, diagram)?;
     Ok(all)
 }
 
@@ -302,7 +336,9 @@ pub(crate) fn check_scenarios<'w, O: Write>(
         (RefusesScenarios words.entry text.entry.now) result output.old output.new }
 {
     imports_are_charts();
-    let all = import_of_all(alloc, words, text)?;
+    reading_comes_first();
+    let diagram = diagram_of(alloc, words, text)?;
+    let all = scenarios_of(alloc, words, &diagram)?;
     let linked = linked(alloc, words, text, &all.list)?;
     let charts = Charts::of(alloc, file, all.list)?;
     let name = all.name.as_slice();

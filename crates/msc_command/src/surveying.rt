@@ -6,20 +6,20 @@ ghost use Rattle.msc_markdown.specs.Markdowns.{markdown};
 ghost use Rattle.msc_place.specs.Texts.{shown_byte};
 ghost use Rattle.msc_report.specs.Texts.{text_line};
 ghost use Rattle.msc_command.specs.Answering.{AnswersWith};
-ghost use Rattle.msc_command.specs.Scenarios.{IsImportOfAll, RefusesScenarios};
+ghost use Rattle.msc_command.specs.Scenarios.{IsDiagramOf, RefusesScenarios};
 ghost use Rattle.msc_command.specs.Surveys.{at_block, behind, many_in, many_of, numbered};
 ghost use Rattle.msc_command.specs.Surveys.{options_after};
 ghost use Rattle.msc_command.specs.Surveys.{refused_text, worse, BeginsBlock, PrintsBlock};
 
-use crate::choices::rounds_of;
 use crate::ending::{Refusal, Status};
-use crate::scenarios::{Charts, Surveyed, linked, tell};
+use crate::scenarios::{Charts, Surveyed, linked, reading_of, scenarios_of, tell};
 use crate::tasks::{CheckArgs, DiagramArgs, Format, ScenarioArgs};
-use msc_import::{ImportingAll, Scenarios, chart_name, import_all_from};
+use msc_import::laws::reading_comes_first;
+use msc_import::{DiagramReading, chart_name, read_from};
 use msc_import_laws::laws::imports_are_charts;
 use msc_judge::CheckOptions;
 use msc_markdown::Markdown;
-use msc_mermaid::ImportFault;
+use msc_mermaid::{Diagram, ImportFault};
 use msc_place::writing::write_file;
 use msc_print::Page;
 use std::alloc::{AllocError, Global};
@@ -114,28 +114,22 @@ pub(crate) fn blocks_of<'t>(
     }
 }
 
-/// All scenarios of the diagram with this number.
-fn import_of_block<'w>(
+/// The diagram with this number.
+fn diagram_at(
     alloc: Global,
-    words: ScenarioArgs<'w>,
+    words: ScenarioArgs<'_>,
     found: &Markdown<'_>,
     number: usize,
-) -> Result<Scenarios<'w>, Refusal<'static>>
+) -> Result<Diagram, Refusal<'static>>
     requires { markdown found.now.text ≡ Ok found.now }
-    ensures { IsImportOfAll (at_block words.entry number) found.now.text result }
+    ensures { IsDiagramOf (at_block words.entry number) found.now.text result }
 {
-    let rounds = rounds_of(alloc, words.rounds)?;
-    let importing = ImportingAll {
-        language: words.diagram.language,
+    let reading = DiagramReading {
         fence: Some(number),
-        cross: words.diagram.cross,
-        manner: words.diagram.manner,
-        rounds: rounds.as_slice(),
-        limit: words.limit as usize,
-        name: words.diagram.name,
+        ..reading_of(words.diagram)
     };
-    let all = import_all_from(alloc, importing, found)?;
-    Ok(all)
+    let diagram = read_from(alloc, reading, found)?;
+    Ok(diagram)
 }
 
 /// Appends the number of a diagram to its name.
@@ -176,7 +170,9 @@ pub(crate) fn check_block<'w, O: Write>(
         result output.old output.new }
 {
     imports_are_charts();
-    let all = import_of_block(alloc, words, found, number)?;
+    reading_comes_first();
+    let diagram = diagram_at(alloc, words, found, number)?;
+    let all = scenarios_of(alloc, words, &diagram)?;
     let linked = linked(alloc, words, found.text(), &all.list)?;
     let charts = Charts::of(alloc, file, all.list)?;
     let name = numbered(alloc, all.name.as_slice(), number)?;

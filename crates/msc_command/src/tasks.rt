@@ -1,7 +1,7 @@
 //! The task of a command line, by the words that `clap` took.
 
-ghost use Rattle.std.specs.Prelude.{◌≡◌, ◌||◌, IfErr, IfOk, MatchOption, OnOk, Some, cond, false};
-ghost use Rattle.std.specs.Prelude.{map, option_map, true};
+ghost use Rattle.std.specs.Prelude.{◌≡◌, ◌||◌, IfErr, IfOk, MatchOption, None, OnOk, Some, cond};
+ghost use Rattle.std.specs.Prelude.{false, map, option_map, true};
 ghost use Rattle.clap.specs.Matches.{first_value, found_of};
 ghost use Rattle.msc_command.specs.Asking.{architecture, file_of, format, names_kind, AreAllowed};
 ghost use Rattle.msc_command.specs.Asking.{AsksFor, IsDrawnFormat, IsEventWord, IsFlag};
@@ -9,7 +9,9 @@ ghost use Rattle.msc_command.specs.Asking.{colours_by, format_named, format_of_s
 ghost use Rattle.msc_command.specs.Asking.{runs_in, IsEventStyle};
 ghost use Rattle.msc_command.specs.Asking.{chart_named, cross_named, lacks_choices, language_named};
 ghost use Rattle.msc_command.specs.Asking.{own_named, par_named, AreCheckArgs, IsDiagram};
-ghost use Rattle.msc_command.specs.Asking.{AreLinkWords, AreQuietArgs};
+ghost use Rattle.msc_command.specs.Asking.{AreExplainArgs, AreLinkWords, AreQuietArgs};
+ghost use Rattle.msc_command.specs.Asking.{AreReadyArgs, AreReverseArgs, AreTextArgs, IsOrigin};
+ghost use Rattle.msc_command.specs.Asking.{is_full_of_diagram};
 ghost use Rattle.msc_command.specs.Asking.{default_limit, is_limit, is_of_scenarios, lacks_from};
 ghost use Rattle.msc_command.specs.Asking.{lacks_rounds, stands, IsNumberGiven, IsOfChart};
 ghost use Rattle.msc_command.specs.Asking.{tells_notes, unlimited, AreRunsShown, IsTwofold};
@@ -17,7 +19,9 @@ ghost use Rattle.msc_command.specs.Asking.{IsNameText, IsNoName, IsNoNumber, IsN
 ghost use Rattle.msc_command.specs.Asking.{asks_own, has_rule, is_own_word, lacks_queues, usual_by};
 ghost use Rattle.msc_command.specs.Asking.{args_of, IsOptionNumber, AreCheckOptions, WantsNotes};
 ghost use Rattle.msc_command.specs.Misuses.{IsCheckMisuse, IsDiagramMisuse, IsEventMisuse};
-ghost use Rattle.msc_command.specs.Misuses.{IsImportMisuse, IsLimitMisuse, IsMisuse, IsPairMisuse};
+ghost use Rattle.msc_command.specs.Misuses.{IsDrawMisuse, IsImportMisuse, IsLimitMisuse, IsMisuse};
+ghost use Rattle.msc_command.specs.Misuses.{IsOriginMisuse, IsPairMisuse, IsPairedMisuse};
+ghost use Rattle.msc_command.specs.Misuses.{IsReadyMisuse};
 ghost use Rattle.msc_command.specs.Misuses.{IsQueuesMisuse, IsRoundsMisuse, IsWordMisuse};
 ghost use Rattle.msc_command.specs.Refused.{form_in, form_of};
 ghost use Rattle.msc_command.specs.Words.{format_of_word, format_word, arg_word};
@@ -208,14 +212,29 @@ pub(crate) struct DiagramArgs<'w> {
     pub name: &'w [u8],
 }
 
-/// An import of a text, and the format of its answer, in words of the command line.
+/// A scenario of a diagram, in words of the command line.
 #[derive(Clone, Copy)]
-pub(crate) struct ImportArgs<'w> {
+pub(crate) struct ChosenArgs<'w> {
     pub diagram: DiagramArgs<'w>,
     /// The word of `--choose`.
     pub choose: Option<&'w str>,
+}
+
+/// An import of a text, and the format of its answer, in words of the command line.
+#[derive(Clone, Copy)]
+pub(crate) struct ImportArgs<'w> {
+    pub chosen: ChosenArgs<'w>,
     /// Whether the events are listed, with the places of their arrows.
     pub list: bool,
+}
+
+/// What a command line says of the text besides the command.
+#[derive(Clone, Copy)]
+pub(crate) struct TextArgs<'w> {
+    /// The scenario of its diagram, if the text is one.
+    pub diagram: Option<ChosenArgs<'w>>,
+    /// The rules for links.
+    pub links: LinkWords<'w>,
 }
 
 /// A check of all scenarios of a diagram, in words of the command line.
@@ -238,12 +257,12 @@ pub(crate) struct ScenarioArgs<'w> {
 /// A command on a text.
 #[derive(Clone, Copy)]
 pub(crate) enum Task<'w> {
-    /// The canonical text.
-    Read,
-    /// A command on its chart, and the rules for links.
-    Chart(ChartCommand<'w>, LinkWords<'w>),
-    /// A picture of its chart, or a report, and the rules for links.
-    Draw(Drawn, LinkWords<'w>),
+    /// The canonical text of its chart, or of a scenario of its diagram.
+    Read(Option<ChosenArgs<'w>>),
+    /// A command on its chart, or on a scenario of its diagram.
+    Chart(ChartCommand<'w>, TextArgs<'w>),
+    /// A picture of such a chart, or a report.
+    Draw(Drawn, TextArgs<'w>),
     /// The chart of a scenario of its diagram.
     Import(ImportArgs<'w>),
     /// The races of all scenarios of its diagram.
@@ -286,7 +305,7 @@ pub(crate) fn form_of(task: Task<'_>) -> RefusalForm
         Task::Scenarios(words) if !words.quiet => {
             form_in(words.check_args.format, words.check_args.colours)
         }
-        Task::Read | Task::Chart(..) | Task::Draw(..) => RefusalForm::Nothing,
+        Task::Read(_) | Task::Chart(..) | Task::Draw(..) => RefusalForm::Nothing,
         Task::Import(_) | Task::Scenarios(_) => RefusalForm::Nothing,
     }
 }
@@ -589,6 +608,17 @@ fn link_words_of<'w>(words: &'w ArgMatches) -> LinkWords<'w>
     }
 }
 
+/// What the words of `msc check` say of the text of a chart.
+fn chart_text_of<'w>(words: &'w ArgMatches) -> TextArgs<'w>
+    ensures diagram { result.diagram ≡ None }
+    ensures links { AreLinkWords (found_of words.entry.now) result.links }
+{
+    TextArgs {
+        diagram: None,
+        links: link_words_of(words),
+    }
+}
+
 /// The check of races under an architecture by the words of `msc check`; without `--show`, `shown`
 /// races have runs, and `auto` says whether there are colours without `--color`.
 fn check_args_of(queues: Queues, words: &ArgMatches, shown: u32, auto: bool) -> CheckArgs
@@ -627,26 +657,28 @@ fn chart_check_of<'w>(queues: Queues, words: &'w ArgMatches, auto: bool) -> Task
 {
     if is_given(words, ArgName::Quiet) {
         let quiet_args = quiet_args_of(queues, words);
-        return Task::Chart(ChartCommand::Quiet(quiet_args), link_words_of(words));
+        return Task::Chart(ChartCommand::Quiet(quiet_args), chart_text_of(words));
     }
     let shown = runs_in(format_asked(words));
     let check_args = check_args_of(queues, words, shown, auto);
-    Task::Chart(ChartCommand::Check(check_args), link_words_of(words))
+    Task::Chart(ChartCommand::Check(check_args), chart_text_of(words))
 }
 
-/// Whether the words of `msc check` are for a diagram.
+/// Whether the words are for a diagram.
 fn is_of_scenarios(words: &ArgMatches) -> bool
     ensures { result ≡ is_of_scenarios (found_of words.now) }
 {
     stands(words, ArgName::ScenariosFrom)
 }
 
-/// Whether the words of `msc check` have options of diagrams, without `--from`.
+/// Whether the words have options of diagrams, without `--from`.
 fn lacks_from(words: &ArgMatches) -> bool
     ensures { result ≡ lacks_from (found_of words.now) }
 {
     let limits = stands(words, ArgName::Rounds) || stands(words, ArgName::Limit);
-    let which = stands(words, ArgName::Fence) || stands(words, ArgName::Name);
+    let which = stands(words, ArgName::Fence)
+        || stands(words, ArgName::Name)
+        || stands(words, ArgName::Choose);
     let arrows = stands(words, ArgName::Own)
         || stands(words, ArgName::Cross)
         || stands(words, ArgName::Par);
@@ -764,51 +796,104 @@ fn check_of<'w>(queues: Queues, words: &'w ArgMatches, auto: bool) -> Result<Tas
     Ok(chart_check_of(queues, words, auto))
 }
 
+/// The scenario of a diagram by the words, if they are for one.
+fn chosen_of<'w>(words: &'w ArgMatches) -> Result<Option<ChosenArgs<'w>>, Misuse<'w>>
+    ensures chosen { IfOk result (IsOrigin (found_of words.entry.now)) }
+    ensures misuse { IfErr result (IsOriginMisuse (found_of words.entry.now)) }
+{
+    if lacks_from(words) {
+        return Err(Misuse::NoDiagram);
+    }
+    if !is_of_scenarios(words) {
+        return Ok(None);
+    }
+    Ok(Some(ChosenArgs {
+        diagram: diagram_of(words),
+        choose: choices_word(words)?,
+    }))
+}
+
+/// What the words say of the text besides the command.
+fn text_args_of<'w>(words: &'w ArgMatches) -> Result<TextArgs<'w>, Misuse<'w>>
+    ensures text { IfOk result (AreTextArgs (found_of words.entry.now)) }
+    ensures misuse { IfErr result (IsOriginMisuse (found_of words.entry.now)) }
+{
+    Ok(TextArgs {
+        diagram: chosen_of(words)?,
+        links: link_words_of(words),
+    })
+}
+
+/// The task of `msc read`.
+fn read_of<'w>(words: &'w ArgMatches) -> Result<Task<'w>, Misuse<'w>>
+    ensures task { IfOk result (AsksFor CommandName.Read (found_of words.entry.now)) }
+    ensures misuse { IfErr result (IsOriginMisuse (found_of words.entry.now)) }
+{
+    Ok(Task::Read(chosen_of(words)?))
+}
+
 /// The task of `msc run`.
-fn run_of<'w>(queues: Queues, words: &'w ArgMatches) -> Task<'w>
-    ensures { architecture (found_of words.entry.now) ≡ Some queues
-        → AsksFor CommandName.Run (found_of words.entry.now) result }
+fn run_of<'w>(queues: Queues, words: &'w ArgMatches) -> Result<Task<'w>, Misuse<'w>>
+    ensures task { architecture (found_of words.entry.now) ≡ Some queues
+        → IfOk result (AsksFor CommandName.Run (found_of words.entry.now)) }
+    ensures misuse { IfErr result (IsOriginMisuse (found_of words.entry.now)) }
 {
     let patience = number_of(words, ArgName::Patience, DEFAULT_PATIENCE);
-    Task::Chart(ChartCommand::Run(queues, patience), link_words_of(words))
+    Ok(Task::Chart(ChartCommand::Run(queues, patience), text_args_of(words)?))
+}
+
+/// Two events under an architecture by the words of `msc explain`.
+fn explain_args_of<'w>(queues: Queues, words: &'w ArgMatches) -> Result<ExplainArgs, Misuse<'w>>
+    ensures args { architecture (found_of words.entry.now) ≡ Some queues
+        → IfOk result (AreExplainArgs (found_of words.entry.now)) }
+    ensures misuse { IfErr result (IsPairMisuse (found_of words.entry.now)) }
+{
+    Ok(ExplainArgs {
+        queues,
+        first: event_of(words, ArgName::FirstEvent)?,
+        second: event_of(words, ArgName::SecondEvent)?,
+        short: is_given(words, ArgName::Short),
+        event_style: event_style_of(words),
+    })
 }
 
 /// The task of `msc explain`.
 fn explain_of<'w>(queues: Queues, words: &'w ArgMatches) -> Result<Task<'w>, Misuse<'w>>
     ensures task { architecture (found_of words.entry.now) ≡ Some queues
         → IfOk result (AsksFor CommandName.Explain (found_of words.entry.now)) }
-    ensures misuse { IfErr result (IsPairMisuse (found_of words.entry.now)) }
+    ensures misuse { IfErr result (IsPairedMisuse (found_of words.entry.now)) }
 {
-    let explain_args = ExplainArgs {
-        queues,
-        first: event_of(words, ArgName::FirstEvent)?,
-        second: event_of(words, ArgName::SecondEvent)?,
-        short: is_given(words, ArgName::Short),
-        event_style: event_style_of(words),
-    };
-    Ok(Task::Chart(ChartCommand::Explain(explain_args), link_words_of(words)))
+    let text_args = text_args_of(words)?;
+    let explain_args = explain_args_of(queues, words)?;
+    Ok(Task::Chart(ChartCommand::Explain(explain_args), text_args))
 }
 
 /// The task of `msc follow`.
-fn follow_of<'w>(queues: Queues, words: &'w ArgMatches) -> Task<'w>
-    ensures { architecture (found_of words.entry.now) ≡ Some queues
-        → AsksFor CommandName.Follow (found_of words.entry.now) result }
+fn follow_of<'w>(queues: Queues, words: &'w ArgMatches) -> Result<Task<'w>, Misuse<'w>>
+    ensures task { architecture (found_of words.entry.now) ≡ Some queues
+        → IfOk result (AsksFor CommandName.Follow (found_of words.entry.now)) }
+    ensures misuse { IfErr result (IsOriginMisuse (found_of words.entry.now)) }
 {
     let follow_args = FollowArgs {
         queues,
         event_style: event_style_of(words),
     };
-    Task::Chart(ChartCommand::Follow(follow_args), link_words_of(words))
+    Ok(Task::Chart(ChartCommand::Follow(follow_args), text_args_of(words)?))
 }
 
 /// The task of `msc list`.
-fn list_of(words: &ArgMatches) -> Task<'static>
-    ensures { AsksFor CommandName.List (found_of words.now) result }
+fn list_of<'w>(words: &'w ArgMatches) -> Result<Task<'w>, Misuse<'w>>
+    ensures task { IfOk result (AsksFor CommandName.List (found_of words.entry.now)) }
+    ensures misuse { IfErr result (IsOriginMisuse (found_of words.entry.now)) }
 {
-    Task::Chart(
+    let text_args = TextArgs {
+        diagram: chosen_of(words)?,
+        links: NO_LINKS,
+    };
+    Ok(Task::Chart(
         ChartCommand::List(is_given(words, ArgName::Places)),
-        NO_LINKS,
-    )
+        text_args,
+    ))
 }
 
 /// The form of a picture.
@@ -842,46 +927,57 @@ fn lacks_queues(words: &ArgMatches) -> bool
 /// The task of `msc draw`.
 fn draw_of<'w>(words: &'w ArgMatches) -> Result<Task<'w>, Misuse<'w>>
     ensures task { IfOk result (AsksFor CommandName.Draw (found_of words.entry.now)) }
-    ensures misuse { IfErr result (λ m. (m ≡ Misuse.NoQueues)
-        × (lacks_queues (found_of words.entry.now) ≡ true)) }
+    ensures misuse { IfErr result (IsDrawMisuse (found_of words.entry.now)) }
 {
     if lacks_queues(words) {
         return Err(Misuse::NoQueues);
     }
     let drawn = Drawn::Chart(named_queues(words), drawn_format(words));
-    Ok(Task::Draw(drawn, link_words_of(words)))
+    Ok(Task::Draw(drawn, text_args_of(words)?))
+}
+
+/// A race under an architecture by the words of `msc reverse`.
+fn reverse_args_of<'w>(queues: Queues, words: &'w ArgMatches) -> Result<ReverseArgs, Misuse<'w>>
+    ensures args { architecture (found_of words.entry.now) ≡ Some queues
+        → IfOk result (AreReverseArgs (found_of words.entry.now)) }
+    ensures misuse { IfErr result (IsPairMisuse (found_of words.entry.now)) }
+{
+    Ok(ReverseArgs {
+        queues,
+        first: event_of(words, ArgName::FirstEvent)?,
+        second: event_of(words, ArgName::SecondEvent)?,
+        format: drawn_format(words),
+    })
 }
 
 /// The task of `msc reverse`.
 fn reverse_of<'w>(queues: Queues, words: &'w ArgMatches) -> Result<Task<'w>, Misuse<'w>>
     ensures task { architecture (found_of words.entry.now) ≡ Some queues
         → IfOk result (AsksFor CommandName.Reverse (found_of words.entry.now)) }
-    ensures misuse { IfErr result (IsPairMisuse (found_of words.entry.now)) }
+    ensures misuse { IfErr result (IsPairedMisuse (found_of words.entry.now)) }
 {
-    let drawn = Drawn::Run(ReverseArgs {
-        queues,
-        first: event_of(words, ArgName::FirstEvent)?,
-        second: event_of(words, ArgName::SecondEvent)?,
-        format: drawn_format(words),
-    });
-    Ok(Task::Draw(drawn, link_words_of(words)))
+    let text_args = text_args_of(words)?;
+    let reverse_args = reverse_args_of(queues, words)?;
+    Ok(Task::Draw(Drawn::Run(reverse_args), text_args))
 }
 
 /// The task of `msc report`.
-fn report_of<'w>(queues: Queues, words: &'w ArgMatches) -> Task<'w>
-    ensures { architecture (found_of words.entry.now) ≡ Some queues
-        → AsksFor CommandName.Report (found_of words.entry.now) result }
+fn report_of<'w>(queues: Queues, words: &'w ArgMatches) -> Result<Task<'w>, Misuse<'w>>
+    ensures task { architecture (found_of words.entry.now) ≡ Some queues
+        → IfOk result (AsksFor CommandName.Report (found_of words.entry.now)) }
+    ensures misuse { IfErr result (IsOriginMisuse (found_of words.entry.now)) }
 {
-    Task::Draw(Drawn::Report(queues), link_words_of(words))
+    Ok(Task::Draw(Drawn::Report(queues), text_args_of(words)?))
 }
 
-/// The task of `msc ready`; `auto` says whether there are colours without `--color`.
-fn ready_of<'w>(queues: Queues, words: &'w ArgMatches, auto: bool) -> Task<'w>
+/// Ready instances under an architecture by the words of `msc ready`; `auto` says whether there are
+/// colours without `--color`.
+fn ready_args_of<'w>(queues: Queues, words: &'w ArgMatches, auto: bool) -> ReadyArgs<'w>
     ensures { architecture (found_of words.entry.now) ≡ Some queues
-        → AsksFor CommandName.Ready (found_of words.entry.now) result }
+        → AreReadyArgs (found_of words.entry.now) result }
 {
     let format = format_of_sticks(words);
-    let ready_args = ReadyArgs {
+    ReadyArgs {
         queues,
         only: texts_of(words, ArgName::Only),
         show: number_of(words, ArgName::ShowSticks, runs_in(format)),
@@ -889,8 +985,28 @@ fn ready_of<'w>(queues: Queues, words: &'w ArgMatches, auto: bool) -> Task<'w>
         format,
         colours: colours_of(words, auto),
         event_style: event_style_of(words),
-    };
-    Task::Chart(ChartCommand::Ready(ready_args), link_words_of(words))
+    }
+}
+
+/// Whether the words of `msc ready` request findings on a diagram as people read them.
+fn is_full_of_diagram(words: &ArgMatches) -> bool
+    ensures { result ≡ is_full_of_diagram (found_of words.now) }
+{
+    is_of_scenarios(words) && is_full(format_of_sticks(words))
+}
+
+/// The task of `msc ready`; `auto` says whether there are colours without `--color`.
+fn ready_of<'w>(queues: Queues, words: &'w ArgMatches, auto: bool) -> Result<Task<'w>, Misuse<'w>>
+    ensures task { architecture (found_of words.entry.now) ≡ Some queues
+        → IfOk result (AsksFor CommandName.Ready (found_of words.entry.now)) }
+    ensures misuse { IfErr result (IsReadyMisuse (found_of words.entry.now)) }
+{
+    let text_args = text_args_of(words)?;
+    if is_full_of_diagram(words) {
+        return Err(Misuse::FullOfDiagrams);
+    }
+    let ready_args = ready_args_of(queues, words, auto);
+    Ok(Task::Chart(ChartCommand::Ready(ready_args), text_args))
 }
 
 /// The language that the words name.
@@ -979,9 +1095,12 @@ fn import_of<'w>(words: &'w ArgMatches) -> Result<Task<'w>, Misuse<'w>>
     ensures task { IfOk result (AsksFor CommandName.Import (found_of words.entry.now)) }
     ensures misuse { IfErr result (IsImportMisuse (found_of words.entry.now)) }
 {
-    Ok(Task::Import(ImportArgs {
+    let chosen = ChosenArgs {
         diagram: diagram_of(words),
         choose: choices_word(words)?,
+    };
+    Ok(Task::Import(ImportArgs {
+        chosen,
         list: is_given(words, ArgName::Listed),
     }))
 }
@@ -996,16 +1115,16 @@ fn complete_task<'w>(
     ensures misuse { IfErr result (IsWordMisuse command_name (found_of words.entry.now)) }
 {
     match command_name {
-        CommandName::Read => Ok(Task::Read),
+        CommandName::Read => read_of(words),
         CommandName::Check => check_of(queues_of(words)?, words, auto),
         CommandName::Explain => explain_of(queues_of(words)?, words),
-        CommandName::Follow => Ok(follow_of(queues_of(words)?, words)),
-        CommandName::Run => Ok(run_of(queues_of(words)?, words)),
-        CommandName::List => Ok(list_of(words)),
+        CommandName::Follow => follow_of(queues_of(words)?, words),
+        CommandName::Run => run_of(queues_of(words)?, words),
+        CommandName::List => list_of(words),
         CommandName::Draw => draw_of(words),
         CommandName::Reverse => reverse_of(queues_of(words)?, words),
-        CommandName::Report => Ok(report_of(queues_of(words)?, words)),
-        CommandName::Ready => Ok(ready_of(queues_of(words)?, words, auto)),
+        CommandName::Report => report_of(queues_of(words)?, words),
+        CommandName::Ready => ready_of(queues_of(words)?, words, auto),
         CommandName::Import => import_of(words),
     }
 }

@@ -50,6 +50,7 @@ pub(crate) enum ArgName {
     Plain,
     Svg,
     From,
+    ScenarioFrom,
     Choose,
     Listed,
     Name,
@@ -167,7 +168,7 @@ impl ArgName {
             ArgName::Places => "places",
             ArgName::Plain => "plain",
             ArgName::Svg => "svg",
-            ArgName::From | ArgName::ScenariosFrom => "from",
+            ArgName::From | ArgName::ScenarioFrom | ArgName::ScenariosFrom => "from",
             ArgName::Choose => "choose",
             ArgName::Listed => "list",
             ArgName::Name => "name",
@@ -204,7 +205,8 @@ impl ArgName {
             ArgName::ChartFormat => ValueKind::Format,
             ArgName::FormatSticks => ValueKind::FormatSticks,
             ArgName::Color => ValueKind::Color,
-            ArgName::From | ArgName::ScenariosFrom => ValueKind::Language,
+            ArgName::From | ArgName::ScenarioFrom => ValueKind::Language,
+            ArgName::ScenariosFrom => ValueKind::Language,
             ArgName::Choose => ValueKind::Choices,
             ArgName::Rounds => ValueKind::Rounds,
             ArgName::Name => ValueKind::Name,
@@ -255,6 +257,9 @@ impl ArgName {
             ArgName::Plain => "Print nothing behind the line of a fault, also on a terminal",
             ArgName::Svg => "Print SVG, for documents, and not lines of characters",
             ArgName::From => "The language of the text; any, as without it, is told by the text",
+            ArgName::ScenarioFrom => {
+                "Take a scenario of a sequence diagram; its language is told by the text with any"
+            }
             ArgName::Choose => {
                 "The scenario: main, or its choices, numbers with commas between, block by block"
             }
@@ -278,6 +283,20 @@ impl ArgName {
         }
     }
 }
+
+/// The words after `read` and `list`, in the order of the help.
+const READ: [ArgName; 10] = [
+    ArgName::ScenarioFrom,
+    ArgName::Choose,
+    ArgName::Fence,
+    ArgName::Name,
+    ArgName::Own,
+    ArgName::Cross,
+    ArgName::Par,
+    ArgName::Places,
+    ArgName::Plain,
+    ArgName::File,
+];
 
 /// The words after `check`, in the order of the help.
 const CHECK: [ArgName; 27] = [
@@ -311,13 +330,20 @@ const CHECK: [ArgName; 27] = [
 ];
 
 /// The words after `explain`, in the order of the help.
-const EXPLAIN: [ArgName; 11] = [
+const EXPLAIN: [ArgName; 18] = [
     ArgName::Queues,
     ArgName::Pair,
     ArgName::Mailbox,
     ArgName::Single,
     ArgName::Words,
     ArgName::Short,
+    ArgName::ScenarioFrom,
+    ArgName::Choose,
+    ArgName::Fence,
+    ArgName::Name,
+    ArgName::Own,
+    ArgName::Cross,
+    ArgName::Par,
     ArgName::Places,
     ArgName::Plain,
     ArgName::File,
@@ -326,48 +352,76 @@ const EXPLAIN: [ArgName; 11] = [
 ];
 
 /// The words after `follow`, in the order of the help.
-const FOLLOW: [ArgName; 8] = [
+const FOLLOW: [ArgName; 15] = [
     ArgName::Queues,
     ArgName::Pair,
     ArgName::Mailbox,
     ArgName::Single,
     ArgName::Words,
+    ArgName::ScenarioFrom,
+    ArgName::Choose,
+    ArgName::Fence,
+    ArgName::Name,
+    ArgName::Own,
+    ArgName::Cross,
+    ArgName::Par,
     ArgName::Places,
     ArgName::Plain,
     ArgName::File,
 ];
 
 /// The words after `run`, in the order of the help.
-const RUN: [ArgName; 8] = [
+const RUN: [ArgName; 15] = [
     ArgName::Queues,
     ArgName::Pair,
     ArgName::Mailbox,
     ArgName::Single,
     ArgName::Patience,
+    ArgName::ScenarioFrom,
+    ArgName::Choose,
+    ArgName::Fence,
+    ArgName::Name,
+    ArgName::Own,
+    ArgName::Cross,
+    ArgName::Par,
     ArgName::Places,
     ArgName::Plain,
     ArgName::File,
 ];
 
 /// The words after `draw`, in the order of the help.
-const DRAW: [ArgName; 8] = [
+const DRAW: [ArgName; 15] = [
     ArgName::QueuesIfAny,
     ArgName::Pair,
     ArgName::Mailbox,
     ArgName::Single,
     ArgName::Svg,
+    ArgName::ScenarioFrom,
+    ArgName::Choose,
+    ArgName::Fence,
+    ArgName::Name,
+    ArgName::Own,
+    ArgName::Cross,
+    ArgName::Par,
     ArgName::Places,
     ArgName::Plain,
     ArgName::File,
 ];
 
 /// The words after `reverse`, in the order of the help.
-const REVERSE: [ArgName; 10] = [
+const REVERSE: [ArgName; 17] = [
     ArgName::Queues,
     ArgName::Pair,
     ArgName::Mailbox,
     ArgName::Single,
     ArgName::Svg,
+    ArgName::ScenarioFrom,
+    ArgName::Choose,
+    ArgName::Fence,
+    ArgName::Name,
+    ArgName::Own,
+    ArgName::Cross,
+    ArgName::Par,
     ArgName::Places,
     ArgName::Plain,
     ArgName::File,
@@ -376,18 +430,25 @@ const REVERSE: [ArgName; 10] = [
 ];
 
 /// The words after `report`, in the order of the help.
-const REPORT: [ArgName; 7] = [
+const REPORT: [ArgName; 14] = [
     ArgName::Queues,
     ArgName::Pair,
     ArgName::Mailbox,
     ArgName::Single,
+    ArgName::ScenarioFrom,
+    ArgName::Choose,
+    ArgName::Fence,
+    ArgName::Name,
+    ArgName::Own,
+    ArgName::Cross,
+    ArgName::Par,
     ArgName::Places,
     ArgName::Plain,
     ArgName::File,
 ];
 
 /// The words after `ready`, in the order of the help.
-const READY: [ArgName; 13] = [
+const READY: [ArgName; 20] = [
     ArgName::Queues,
     ArgName::Pair,
     ArgName::Mailbox,
@@ -398,6 +459,13 @@ const READY: [ArgName; 13] = [
     ArgName::FormatSticks,
     ArgName::Color,
     ArgName::Words,
+    ArgName::ScenarioFrom,
+    ArgName::Choose,
+    ArgName::Fence,
+    ArgName::Name,
+    ArgName::Own,
+    ArgName::Cross,
+    ArgName::Par,
     ArgName::Places,
     ArgName::Plain,
     ArgName::File,
@@ -470,11 +538,7 @@ impl CommandName {
         ensures { result.now ≡ args_of self }
     {
         match self {
-            CommandName::Read | CommandName::List => &[
-                ArgName::Places,
-                ArgName::Plain,
-                ArgName::File,
-            ],
+            CommandName::Read | CommandName::List => &READ,
             CommandName::Check => &CHECK,
             CommandName::Explain => &EXPLAIN,
             CommandName::Follow => &FOLLOW,

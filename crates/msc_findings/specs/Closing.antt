@@ -8,8 +8,10 @@ use Rattle.msc_wording.specs.Readying.{ready_verdict}
 use Rattle.msc_wording.specs.declared.checking.RacesFound.{RacesFound}
 use Rattle.msc_wording.specs.declared.checking.RacesFound.TheVariants.{InOneScenario, InRounds}
 use Rattle.msc_wording.specs.declared.checking.SpokenCheck.{SpokenCheck}
+use Rattle.msc_wording.specs.declared.closing.MarkedText.{MarkedText}
 use Rattle.msc_wording.specs.declared.closing.MarkedText.TheVariants.{Chart}
 use Rattle.msc_wording.specs.declared.readying.SpokenReadiness.{SpokenReadiness}
+use Rattle.msc_findings.specs.declared.closing.ClosingNames.{ClosingNames}
 use Rattle.msc_findings.specs.declared.format.FullFormat.{FullFormat}
 
 -- a number, or 0 if there is none
@@ -46,8 +48,18 @@ check_of t can_happen = record {
 }
 
 -- `FILE: VERDICT (queues: QUEUES)`
+abbrev pub line_by : List ℕ → List ℕ → Bool → List ℕ → List ℕ
+line_by file queues colours verdict = closing_line file (with_queues verdict queues) colours
+
 abbrev pub line_with : FullFormat → List ℕ → List ℕ
-line_with x verdict = closing_line x.file.now (with_queues verdict x.queues.now) x.text.colours
+line_with x verdict = line_by x.file.now x.queues.now x.text.colours verdict
+
+abbrev pub named_line : ClosingNames → List ℕ → List ℕ
+named_line names verdict = line_by names.file.now names.queues.now names.colours verdict
+
+-- the closing line of a check
+abbrev pub checked_text : ClosingNames → SpokenCheck → List ℕ
+checked_text names check = named_line names (check_verdict check) ++ codes "\n"
 
 -- the line of what a check found
 abbrev pub closing_text : FullFormat → Totals → Bool → List ℕ
@@ -61,8 +73,11 @@ readiness_text x r = line_with x (ready_verdict r) ++ codes "\n"
 abbrev pub helps : FullFormat → Totals → Bool
 helps x t = nat_lt 0 (listed_of t.heading) && nat_eq (length x.marks.now) 0
 
+abbrev pub marked_help : MarkedText → Bool → List ℕ
+marked_help text colours = help_line text colours ++ codes "\n"
+
 abbrev pub help_part : FullFormat → Totals → List ℕ
-help_part x t = cond (helps x t) (help_line Chart x.text.colours ++ codes "\n") []
+help_part x t = cond (helps x t) (marked_help Chart x.text.colours) []
 
 -- what closes an answer, if this does
 abbrev pub closing_part : FullFormat → Bool → Option Totals → List ℕ

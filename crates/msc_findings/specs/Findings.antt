@@ -19,28 +19,36 @@ use Rattle.msc_findings.specs.declared.format.FullFormat.{FullFormat}
 abbrev pub never_part : FullFormat → Drawing → List (ℕ × ℕ) → List ℕ
 never_part x d steps = never_text x.text (map (chart_step d) steps)
 
--- the diagnostic of a finding with this cause, with the rows of a run if one is given
-abbrev pub cause_text : ShownText → Finding → Bool → Option (List ℕ) → Option Cause → List ℕ
-cause_text text f is_next line None = []
-cause_text text f is_next line (Some cause) = race_text text (record {
+-- the diagnostic of a finding with this cause, with a note on the scenarios in which it is a race and
+-- with the rows of a run, if these are given
+abbrev pub cause_text : ShownText → Finding → Bool → Option (List ℕ) → Option (List ℕ) → Option Cause → List ℕ
+cause_text text f is_next scenarios line None = []
+cause_text text f is_next scenarios line (Some cause) = race_text text (record {
   first = f.first;
   second = f.second;
   cause = cause;
   is_next = is_next;
-  scenarios = None;
+  scenarios = scenarios;
   run = rows_of_line line;
 })
 
+abbrev pub finding_with : ShownText → Finding → Bool → Option (List ℕ) → Option (List ℕ) → List ℕ
+finding_with text f is_next scenarios line = cause_text text f is_next scenarios line f.cause
+
+-- that of a finding of a chart
 abbrev pub finding_text : ShownText → Bool → Finding → Option (List ℕ) → List ℕ
-finding_text text is_next f line = cause_text text f is_next line f.cause
+finding_text text is_next f line = finding_with text f is_next None line
 
 -- the step of event e
 abbrev pub step_in : ShownText → ℕ → List SpokenStep
 step_in text e = step_of None (slice_get text.events.now e)
 
 -- the rows of a run
+abbrev pub run_rows_text : ShownText → List ℕ → List ℕ
+run_rows_text text run = rows_text text (flat_map (step_in text) run)
+
 abbrev pub run_text : FullFormat → List ℕ → List ℕ
-run_text x run = rows_text x.text (flat_map (step_in x.text) run)
+run_text x run = run_rows_text x.text run
 
 -- the diagnostics of these stale marks, and what closes the answer
 abbrev pub end_text : FullFormat → Bool → List ℕ → Option Totals → List ℕ

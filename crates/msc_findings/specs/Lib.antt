@@ -4,3 +4,4 @@ pub mod Runs
 pub mod Findings
 pub mod Rounds
 pub mod Sticks
+pub mod Scenarios

@@ -2,9 +2,11 @@
 
 ghost use Rattle.std.specs.Prelude.{◌≡◌, ◌++◌, IfOk, OnOk};
 ghost use Rattle.std.specs.String.{string_bytes};
-ghost use Rattle.msc_findings.specs.Closing.{check_of, closing_part, closing_text, found_of, help_part};
-ghost use Rattle.msc_findings.specs.Closing.{helps, line_with, listed_of, number_or_none};
+ghost use Rattle.msc_findings.specs.Closing.{check_of, checked_text, closing_part, closing_text};
+ghost use Rattle.msc_findings.specs.Closing.{found_of, help_part, helps, line_with, listed_of};
+ghost use Rattle.msc_findings.specs.Closing.{marked_help, named_line, number_or_none};
 ghost use Rattle.msc_findings.specs.Closing.{readiness_text, shown_of};
+ghost use Rattle.msc_wording.specs.declared.closing.MarkedText.TheVariants.{Diagram};
 
 use crate::format::FullFormat;
 use msc_judge::{Heading, Totals};
@@ -72,6 +74,66 @@ fn check_of(totals: Totals, can_happen: bool) -> SpokenCheck
     }
 }
 
+/// The names in the closing line of a file: of the file, as people read it, and of the architecture,
+/// as it is written.
+#[derive(Clone, Copy)]
+pub struct ClosingNames<'w> {
+    pub file: &'w str,
+    pub queues: &'w str,
+    /// Whether there are colours.
+    pub colours: bool,
+}
+
+impl ClosingNames<'_> {
+    /// The line of the file with this verdict.
+    fn line(&self, alloc: Global, verdict: &str) -> Result<String, AllocError>
+        ensures { IfOk result (λ line. string_bytes line ≡ named_line self.now verdict.now) }
+    {
+        let verdict = with_queues(alloc, verdict, self.queues)?;
+        let line = closing_line(alloc, self.file, verdict.as_str(), self.colours)?;
+        Ok(line)
+    }
+
+    /// Appends the closing line of a check. The only error is want of memory.
+    pub fn print_check(
+        &self,
+        alloc: Global,
+        page: &mut Page,
+        check: SpokenCheck,
+    ) -> Result<(), AllocError>
+        ensures { OnOk result (page.new.bytes.items ≡ page.old.bytes.items
+            ++ checked_text self.now check) }
+    {
+        let verdict = check.verdict(alloc)?;
+        let line = self.line(alloc, verdict.as_str())?;
+        page.bytes.extend_from_slice(line.as_bytes())?;
+        page.bytes.extend_from_slice(b"\n")
+    }
+}
+
+/// Appends the help on marks of such a text.
+fn print_marked_help(
+    alloc: Global,
+    page: &mut Page,
+    text: MarkedText,
+    colours: bool,
+) -> Result<(), AllocError>
+    ensures { OnOk result (page.new.bytes.items ≡ page.old.bytes.items
+        ++ marked_help text colours) }
+{
+    let line = help_line(alloc, text, colours)?;
+    page.bytes.extend_from_slice(line.as_bytes())?;
+    page.bytes.extend_from_slice(b"\n")
+}
+
+/// Appends the help on marks of a diagram. The only error is want of memory.
+pub fn print_diagram_help(alloc: Global, page: &mut Page, colours: bool) -> Result<(), AllocError>
+    ensures { OnOk result (page.new.bytes.items ≡ page.old.bytes.items
+        ++ marked_help Diagram colours) }
+{
+    print_marked_help(alloc, page, MarkedText::Diagram, colours)
+}
+
 impl FullFormat<'_, '_> {
     /// The closing line.
     fn closing_line(
@@ -92,9 +154,12 @@ impl FullFormat<'_, '_> {
     fn line_with(&self, alloc: Global, verdict: &str) -> Result<String, AllocError>
         ensures { IfOk result (λ line. string_bytes line ≡ line_with self.now verdict.now) }
     {
-        let verdict = with_queues(alloc, verdict, self.queues)?;
-        let line = closing_line(alloc, self.file, verdict.as_str(), self.text.colours)?;
-        Ok(line)
+        let names = ClosingNames {
+            file: self.file,
+            queues: self.queues,
+            colours: self.text.colours,
+        };
+        names.line(alloc, verdict)
     }
 
     /// Appends the closing line of an answer on ready instances. The only error is want of memory.
@@ -128,9 +193,7 @@ impl FullFormat<'_, '_> {
         if !self.helps(totals) {
             return Ok(());
         }
-        let line = help_line(alloc, MarkedText::Chart, self.text.colours)?;
-        page.bytes.extend_from_slice(line.as_bytes())?;
-        page.bytes.extend_from_slice(b"\n")
+        print_marked_help(alloc, page, MarkedText::Chart, self.text.colours)
     }
 
     /// Appends the closing line and the help on marks, if this closes the answer.

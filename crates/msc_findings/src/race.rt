@@ -3,7 +3,7 @@
 ghost use Rattle.std.specs.Prelude.{◌≡◌, IfOk, Some};
 ghost use Rattle.std.specs.Option.{option_copied, option_map};
 ghost use Rattle.msc_full.specs.Blocks.{rows_of, texts_of};
-ghost use Rattle.msc_findings.specs.Findings.{cause_text, finding_text};
+ghost use Rattle.msc_findings.specs.Findings.{cause_text, finding_with};
 
 use crate::run::rows_of_line;
 use msc_full::{ShownRace, ShownText, race_text};
@@ -21,45 +21,55 @@ fn lent<'r, 'l>(rows: &'r Option<Vec<&'l str>>) -> Option<&'r [&'l str]>
     }
 }
 
+/// What a diagnostic says of a finding besides its cause.
+#[derive(Clone, Copy)]
+pub(crate) struct FindingNotes<'n> {
+    /// Whether the second event is of the next round.
+    pub is_next: bool,
+    /// A note on the scenarios in which it is a race, if there is one.
+    pub scenarios: Option<&'n str>,
+    /// The text of a run that shows it, if one is given.
+    pub line: Option<&'n [u8]>,
+}
+
 /// The diagnostic of a finding with this cause.
 fn cause_text(
     alloc: Global,
     text: ShownText<'_, '_>,
     finding: Finding,
     cause: Cause,
-    is_next: bool,
-    line: Option<&[u8]>,
+    notes: FindingNotes<'_>,
 ) -> Result<Vec<u8>, AllocError>
     ensures { IfOk result (λ bytes. bytes.items
-        ≡ cause_text text.entry finding is_next (option_copied line.entry) (Some cause)) }
+        ≡ cause_text text.entry finding notes.entry.is_next (option_copied notes.entry.scenarios)
+        (option_copied notes.entry.line) (Some cause)) }
 {
-    let rows = rows_of_line(alloc, line)?;
+    let rows = rows_of_line(alloc, notes.line)?;
     let race = ShownRace {
         first: finding.first,
         second: finding.second,
         cause,
-        is_next,
-        scenarios: None,
+        is_next: notes.is_next,
+        scenarios: notes.scenarios,
         run: lent(&rows),
     };
     let bytes = race_text(alloc, text, race)?;
     Ok(bytes)
 }
 
-/// The diagnostic of a finding, with the rows of the run that shows it if one is given. `is_next`
-/// says whether the second event is of the next round. It is empty if the finding has no cause.
+/// The diagnostic of a finding with these notes. It is empty if the finding has no cause.
 pub(crate) fn finding_text(
     alloc: Global,
     text: ShownText<'_, '_>,
     finding: Finding,
-    is_next: bool,
-    line: Option<&[u8]>,
+    notes: FindingNotes<'_>,
 ) -> Result<Vec<u8>, AllocError>
     ensures { IfOk result (λ bytes. bytes.items
-        ≡ finding_text text.entry is_next finding (option_copied line.entry)) }
+        ≡ finding_with text.entry finding notes.entry.is_next (option_copied notes.entry.scenarios)
+        (option_copied notes.entry.line)) }
 {
     match finding.cause {
-        Some(cause) => cause_text(alloc, text, finding, cause, is_next, line),
+        Some(cause) => cause_text(alloc, text, finding, cause, notes),
         None => Ok(Vec::new(alloc)),
     }
 }

@@ -5,8 +5,8 @@ ghost use Rattle.msc_full.specs.Steps.{AreStepsOf};
 ghost use Rattle.msc_findings.specs.Findings.{end_text, finding_text, never_part, run_text, step_in};
 
 use crate::format::FullFormat;
-use crate::race::finding_text;
-use crate::run::{rows_text, run_steps};
+use crate::race::{FindingNotes, finding_text};
+use crate::run::run_text;
 use msc_chart::{Chart, Event};
 use msc_full::{chart_steps, never_text};
 use msc_judge::{Finding, Heading, Renderer, Totals};
@@ -51,10 +51,7 @@ impl Renderer for FullRaces<'_, '_, '_> {
         _chart: &Chart,
         run: &[Event],
     ) -> Result<Vec<u8>, AllocError> {
-        let text = self.format.text;
-        let steps = run_steps(alloc, text, run)?;
-        let bytes = rows_text(alloc, text, steps.as_slice())?;
-        Ok(bytes)
+        run_text(alloc, self.format.text, run)
     }
 
     fn print_finding(
@@ -64,7 +61,12 @@ impl Renderer for FullRaces<'_, '_, '_> {
         finding: Finding,
         line: Option<&[u8]>,
     ) -> Result<(), AllocError> {
-        let text = finding_text(self.alloc, self.format.text, finding, false, line)?;
+        let notes = FindingNotes {
+            is_next: false,
+            scenarios: None,
+            line,
+        };
+        let text = finding_text(self.alloc, self.format.text, finding, notes)?;
         page.bytes.extend_from_slice(text.as_slice())
     }
 

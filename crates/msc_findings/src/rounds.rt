@@ -9,7 +9,7 @@ ghost use Rattle.msc_findings.specs.Findings.{end_text, finding_text};
 ghost use Rattle.msc_findings.specs.Rounds.{cause_once, once, round_finding, round_run, step_at};
 
 use crate::format::FullFormat;
-use crate::race::finding_text;
+use crate::race::{FindingNotes, finding_text};
 use crate::run::{push_step, rows_text};
 use msc_chart::{Chart, Event, RoundNumbers};
 use msc_full::ShownText;
@@ -141,7 +141,12 @@ impl Renderer for FullRounds<'_, '_, '_> {
         line: Option<&[u8]>,
     ) -> Result<(), AllocError> {
         let finding = self.finding_once(finding);
-        let text = finding_text(self.alloc, self.format.text, finding, true, line)?;
+        let notes = FindingNotes {
+            is_next: true,
+            scenarios: None,
+            line,
+        };
+        let text = finding_text(self.alloc, self.format.text, finding, notes)?;
         page.bytes.extend_from_slice(text.as_slice())
     }
 

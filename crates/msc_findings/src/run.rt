@@ -5,7 +5,7 @@ ghost use Rattle.std.specs.List.{flat_map};
 ghost use Rattle.std.specs.Option.{option_copied, option_map};
 ghost use Rattle.std.specs.String.{string_bytes};
 ghost use Rattle.msc_full.specs.Blocks.{texts_of};
-ghost use Rattle.msc_findings.specs.Findings.{step_in};
+ghost use Rattle.msc_findings.specs.Findings.{run_rows_text, step_in};
 ghost use Rattle.msc_findings.specs.Runs.{joined, rows_in, rows_of_line, rows_text, step_of};
 
 use msc_chart::Event;
@@ -82,6 +82,19 @@ pub(crate) fn rows_text(
 {
     let rows = run_rows(alloc, text.names, steps)?;
     let bytes = joined(alloc, rows.as_slice())?;
+    Ok(bytes)
+}
+
+/// The rows of a run of a chart, each with its line feed.
+pub(crate) fn run_text(
+    alloc: Global,
+    text: ShownText<'_, '_>,
+    run: &[Event],
+) -> Result<Vec<u8>, AllocError>
+    ensures { IfOk result (λ bytes. bytes.items ≡ run_rows_text text.entry run.now) }
+{
+    let steps = run_steps(alloc, text, run)?;
+    let bytes = rows_text(alloc, text, steps.as_slice())?;
     Ok(bytes)
 }
 

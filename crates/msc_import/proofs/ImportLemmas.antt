@@ -14,7 +14,7 @@ use Rattle.msc_mermaid.specs.declared.statement.Diagram.{Diagram}
 use Rattle.msc_mermaid.specs.declared.fault.ImportFault.{ImportFault}
 use Rattle.msc_mermaid.specs.Gives.{Fails}
 use Rattle.msc_markdown.specs.Markdowns.{Found, markdown}
-use Rattle.msc_import.specs.Importing.{Imports, Refusal, RefusesSo, answered, begins_at, begins_diagram, entity_of, found_as, short_bytes, told_by_content}
+use Rattle.msc_import.specs.Importing.{Imports, Refusal, RefusesSo, answered, begins_at, begins_diagram, entity_of, found_as, short_bytes, told_by_content, told_of}
 use Rattle.msc_mermaid.specs.Lines.{lines_of}
 use Rattle.msc_mermaid.specs.White.{trimmed}
 use Rattle.msc_mermaid.specs.Mermaid.{is_head, mermaid}
@@ -67,3 +67,28 @@ module _ {A : Type 0} (g : Found → Result A Refusal) (text : List ℕ) where
   unfolding found_as
   found_none e fault is name (inl spent) = inl (is ∙ spent)
   found_none e fault is name (inr same) = inr (rw (same, is, name) refl)
+
+-- what is answered of a text by its diagram, if it has one; otherwise it is refused for what that is
+module _ {A : Type 0} (g : Diagram → Result A ImportFault) where
+  pub answered_read : (f : Found) (said : Result Diagram ImportFault) (d : Diagram) → answered f (λ x. Ok x) said ≡ Ok d → answered f g said ≡ told_of d.lines (g d)
+  unfolding answered
+  answered_read f (Ok x) d is = cc
+  answered_read f (Err fault) d is = cc
+
+  pub answered_unread : (f : Found) (said : Result Diagram ImportFault) (r : Refusal) → answered f (λ x. Ok x) said ≡ Err r → answered f g said ≡ Err r
+  unfolding answered
+  answered_unread f (Ok x) r is = cc
+  answered_unread f (Err fault) r is = cc
+
+  module _ (of : Found → Result Diagram ImportFault) where
+    pub found_read : (said : Result Found ImportFault) (d : Diagram) → found_as (λ f. answered f (λ x. Ok x) (of f)) said ≡ Ok d
+        → found_as (λ f. answered f g (of f)) said ≡ told_of d.lines (g d)
+    unfolding found_as
+    found_read (Ok f) d is = answered_read f (of f) d is
+    found_read (Err fault) d is = cc
+
+    pub found_unread : (said : Result Found ImportFault) (r : Refusal) → found_as (λ f. answered f (λ x. Ok x) (of f)) said ≡ Err r
+        → found_as (λ f. answered f g (of f)) said ≡ Err r
+    unfolding found_as
+    found_unread (Ok f) r is = answered_unread f (of f) r is
+    found_unread (Err fault) r is = cc

@@ -6,6 +6,7 @@ use Rattle.msc_lexer.specs.declared.TheConstants.{NAME_LIMIT, TEXT_LIMIT}
 use Rattle.msc_mermaid.specs.declared.fault.Expectation.TheVariants as expectations
 use Rattle.msc_mermaid.specs.declared.fault.ImportFault.{ImportFault}
 use Rattle.msc_mermaid.specs.declared.fault.ImportFault.TheVariants.{TooLong, Entity, Expected, Memory, Several, SeveralDiagrams, Shared}
+use Rattle.msc_import.specs.declared.importing.DiagramReading.{DiagramReading}
 use Rattle.msc_import.specs.declared.importing.Imported.{Imported}
 use Rattle.msc_import.specs.declared.importing.Importing.{Importing}
 use Rattle.msc_import.specs.declared.importing.Language.{Language}
@@ -164,6 +165,18 @@ answered found f (Err fault) = Err (record { fault = fault; name = entity_of fou
 unfoldable pub found_as : {A : Type 0} → (Found → Result A Refusal) → Result Found ImportFault → Result A Refusal
 found_as f (Ok found) = f found
 found_as f (Err fault) = Err (record { fault = fault; name = [] })
+
+-- the diagram of a text that holds this, or why there is none
+abbrev pub read_from : DiagramReading → Found → Result Diagram Refusal
+read_from x f = answered f (λ d. Ok d) (diagram_from x.language x.cross x.fence f)
+
+-- the diagram of a text, or why there is none
+abbrev pub read : DiagramReading → List ℕ → Result Diagram Refusal
+read x text = found_as (read_from x) (markdown text)
+
+-- which diagram is wanted of a text, and how it is read
+abbrev pub reading_of : Wanted → DiagramReading
+reading_of x = record { language = x.language; fence = x.fence; cross = x.cross }
 
 -- what is imported of a text that holds this
 abbrev pub imported_from : Wanted → Found → Result Imported Refusal

@@ -37,9 +37,9 @@ unfoldable pub places : Manner → Diagram → List ℕ → Result (List Positio
 places manner d given =
     walk_places manner (walk (DEPTH_LIMIT + 1) d.statements [] (at_rest d.lines given))
 
--- where an event's statement and its label stand in the text
+-- where an event's statement and its label stand in the text, and the rounds of the loops around it
 abbrev pub site_of : Event → EventSpans
-site_of e = record { statement = e.message.statement; label = e.message.label }
+site_of e = record { statement = e.message.statement; label = e.message.label; rounds = e.message.rounds }
 
 -- those of a line's events
 abbrev pub sites_in : Plan → List EventSpans

@@ -2,6 +2,7 @@
 use Rattle.std.specs.Prelude.{◌≡◌, ℕ, Bool, true, false, not, ◌&&◌, cond, nat_lt, List, [], Option, Result, Ok, Err, is_ok}
 use Rattle.msc_mermaid.specs.declared.fault.ImportFault.{ImportFault}
 use Rattle.msc_mermaid.specs.declared.fault.ImportFault.TheVariants.{TooManyScenarios}
+use Rattle.msc_import.specs.declared.importing.DiagramReading.{DiagramReading}
 use Rattle.msc_import.specs.declared.importing.Language.{Language}
 use Rattle.msc_import.specs.declared.plan.Manner.{Manner}
 use Rattle.msc_import.specs.declared.plan.Par.{Par}
@@ -86,6 +87,10 @@ pub record AreChoices (x : WantedAll) (d : Diagram) (lists : List (List ℕ)) : 
 abbrev pub IsTried : WantedAll → Diagram → Tried → Type 0
 IsTried x d t =
     AreChoices x d t.lists.items × AreFirst x.manner x.name d t.lists.items t.first.items
+
+-- which diagram is wanted of a text, and how it is read
+abbrev pub reading_of_all : WantedAll → DiagramReading
+reading_of_all x = record { language = x.language; fence = x.fence; cross = x.cross }
 
 -- what is imported of a text that holds this, where all its scenarios are
 abbrev pub imported_all_from : WantedAll → Found → Result Scenarios Refusal

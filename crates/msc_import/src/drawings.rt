@@ -39,7 +39,7 @@ pub struct Scenario {
 /// first scenarios until they are taken as a list. Contracts see the list of all.
 #[derive(Drop)]
 pub struct Drawings<'n> {
-    diagram: Diagram,
+    diagram: &'n Diagram,
     manner: Manner,
     name: &'n [u8],
     lists: Vec<Listed<usize>>,
@@ -53,11 +53,12 @@ impl<'n> Model for Drawings<'n> {
 
     ghost Value = { List Scenario };
 
-    ghost view = { λ x. list_of (scenarios_on x.manner x.name.now x.diagram [] x.lists.items) };
+    ghost view = { λ x.
+        list_of (scenarios_on x.manner x.name.now x.diagram.now [] x.lists.items) };
 
     ghost invariant = { λ x.
-        AreDrawn (scenarios_on x.manner x.name.now x.diagram [] x.lists.items)
-        × AreFirst x.manner x.name.now x.diagram x.lists.items x.first.items };
+        AreDrawn (scenarios_on x.manner x.name.now x.diagram.now [] x.lists.items)
+        × AreFirst x.manner x.name.now x.diagram.now x.lists.items x.first.items };
 }
 
 /// The scenario with these choices.
@@ -181,13 +182,14 @@ impl<'n> Drawings<'n> {
     pub(crate) fn of(
         manner: Manner,
         name: &'n [u8],
-        diagram: Diagram,
+        diagram: &'n Diagram,
         lists: Vec<Listed<usize>>,
         first: Vec<Scenario>,
     ) -> Self
-        requires drawn { AreDrawn (scenarios_on manner name.now diagram [] lists.items) }
-        requires first { AreFirst manner name.now diagram lists.items first.items }
-        ensures { result ≡ list_of (scenarios_on manner name.now diagram [] lists.items) }
+        requires drawn { AreDrawn (scenarios_on manner name.now diagram.now [] lists.items) }
+        requires first { AreFirst manner name.now diagram.now lists.items first.items }
+        ensures { result
+            ≡ list_of (scenarios_on manner name.entry.now diagram.entry.now [] lists.items) }
     {
         Drawings {
             diagram,
@@ -224,7 +226,7 @@ impl<'n> Drawings<'n> {
         ensures again { IfOk result (λ s. IsReadAgain s.draft) }
     {
         let given = &self.lists[i];
-        match scenario_with(alloc, self.manner, self.name, &self.diagram, given) {
+        match scenario_with(alloc, self.manner, self.name, self.diagram, given) {
             Ok(scenario) => Ok(scenario),
             Err(_) => Err(AllocError),
         }

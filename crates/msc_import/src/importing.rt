@@ -7,7 +7,8 @@ ghost use Rattle.msc_mermaid.specs.Gives.{Gives};
 ghost use Rattle.msc_import.specs.Importing.{Imports, chosen, diagram_by, diagram_from, drawn_at};
 ghost use Rattle.msc_import.specs.Importing.{entity_of};
 ghost use Rattle.msc_import.specs.Importing.{imported, imported_from, imported_plans, is_any};
-ghost use Rattle.msc_import.specs.Importing.{scenario_of, seen, short_bytes};
+ghost use Rattle.msc_import.specs.Importing.{read, read_from, reading_of};
+ghost use Rattle.msc_import.specs.Importing.{scenario_of, seen, short_bytes, told_of};
 ghost use Rattle.msc_import.specs.Importing.{told_by_content, wanted, with_name};
 ghost use Rattle.msc_mermaid.specs.White.{trimmed};
 ghost use Rattle.msc_mermaid.specs.Mermaid.{is_head};
@@ -38,6 +39,16 @@ pub enum Language {
     Mermaid,
     /// The language of the first line that begins a diagram.
     Any,
+}
+
+/// Which diagram of a text is read, and how.
+#[derive(Clone, Copy)]
+pub struct DiagramReading {
+    pub language: Language,
+    /// The number of the block of Markdown, as in [`Importing`].
+    pub fence: Option<usize>,
+    /// The meaning of arrows with a cross; without one, a cross is a choice.
+    pub cross: Option<Cross>,
 }
 
 /// A text's import: what is imported, and how.
@@ -124,15 +135,19 @@ fn is_any(language: Language) -> bool
 /// The diagram of a text: the text as a whole, or its only block that is a sequence diagram, or the
 /// block of this number.
 #[tactic(auto, unfolding(crate::specs::Importing::diagram_from))]
-pub(crate) fn diagram_from(
+fn diagram_from(
     alloc: Global,
-    language: Language,
-    cross: Option<Cross>,
-    fence: Option<usize>,
+    reading: DiagramReading,
     found: &Markdown<'_>,
 ) -> Result<Diagram, ImportFault>
-    ensures { Gives (λ x. x) result (diagram_from language cross fence found.now) }
+    ensures { Gives (λ x. x) result
+        (diagram_from reading.language reading.cross reading.fence found.now) }
 {
+    let DiagramReading {
+        language,
+        fence,
+        cross,
+    } = reading;
     if let Some(number) = fence {
         return found.diagram(alloc, is_any(language), cross, number);
     }
@@ -265,10 +280,70 @@ pub(crate) fn unread(found: &Markdown<'_>, fault: ImportFault) -> Refused
     }
 }
 
-/// The import of a text whose blocks are known: the draft of the requested scenario, with the
-/// places of its events. An error is the first fault of the diagram, or that the text has several,
-/// or not the requested one; without choices, that the diagram has several scenarios; the first
-/// fault of the scenario; or a growth of memory that was refused.
+/// The diagram of a text whose blocks are known. An error is the first fault of the diagram, or
+/// that the text has several, or not the requested one; or a growth of memory that was refused.
+#[tactic(auto, unfolding(crate::specs::Importing::answered))]
+pub fn read_from(
+    alloc: Global,
+    reading: DiagramReading,
+    found: &Markdown<'_>,
+) -> Result<Diagram, Refused>
+    ensures { Imports result (read_from reading found.now) }
+{
+    match diagram_from(alloc, reading, found) {
+        Ok(diagram) => Ok(diagram),
+        Err(fault) => Err(unread(found, fault)),
+    }
+}
+
+/// The diagram of a text, as [`read_from`] reads it. An error is also that the text is too long,
+/// before all others.
+#[tactic(auto, unfolding(crate::specs::Importing::found_as))]
+pub fn read(alloc: Global, reading: DiagramReading, text: &[u8]) -> Result<Diagram, Refused>
+    ensures { Imports result (read reading text.now) }
+{
+    let found = match Markdown::of(alloc, text) {
+        Ok(found) => found,
+        Err(fault) => return Err(unnamed(fault)),
+    };
+    read_from(alloc, reading, &found)
+}
+
+/// The requested scenario of a diagram: its draft, with the places of its events. Of `importing`,
+/// only the manner, the choices and the name count. An error is, without choices, that the diagram
+/// has several scenarios; the first fault of the scenario; or a growth of memory that was refused.
+pub fn draw_chosen(
+    alloc: Global,
+    importing: Importing<'_>,
+    diagram: &Diagram,
+) -> Result<Imported, Refused>
+    ensures given { Imports result
+        (told_of diagram.now.lines (scenario_of (wanted importing.entry) diagram.now)) }
+
+    // The text of the draft is read again, as this draft.
+    ensures again { IfOk result (λ x. IsReadAgain x.draft) }
+{
+    match scenario_of(alloc, importing, diagram) {
+        Ok(imported) => Ok(imported),
+        Err(fault) => Err(with_name(alloc, diagram, fault)),
+    }
+}
+
+impl Importing<'_> {
+    /// Which diagram of the text is read, and how.
+    pub fn reading(&self) -> DiagramReading
+        ensures { result ≡ reading_of (wanted self.now) }
+    {
+        DiagramReading {
+            language: self.language,
+            fence: self.fence,
+            cross: self.cross,
+        }
+    }
+}
+
+/// The import of a text whose blocks are known: its diagram is read ([`read_from`]), and the
+/// requested scenario of it is drawn ([`draw_chosen`]). An error is the first of these two.
 #[tactic(auto, unfolding(crate::specs::Importing::answered))]
 pub fn import_from(
     alloc: Global,
@@ -280,20 +355,8 @@ pub fn import_from(
     // The text of the draft is read again, as this draft.
     ensures again { IfOk result (λ x. IsReadAgain x.draft) }
 {
-    let Importing {
-        language,
-        cross,
-        fence,
-        ..
-    } = importing;
-    let diagram = match diagram_from(alloc, language, cross, fence, found) {
-        Ok(diagram) => diagram,
-        Err(fault) => return Err(unread(found, fault)),
-    };
-    match scenario_of(alloc, importing, &diagram) {
-        Ok(imported) => Ok(imported),
-        Err(fault) => Err(with_name(alloc, &diagram, fault)),
-    }
+    let diagram = read_from(alloc, importing.reading(), found)?;
+    draw_chosen(alloc, importing, &diagram)
 }
 
 /// The import of a text, as [`import_from`] makes it. An error is also that the text is too long,

@@ -2,7 +2,7 @@
 //! its law.
 
 ghost use Rattle.msc_import.specs.ArrowEnds.{ArrowsHaveTheirEnds};
-ghost use Rattle.msc_import.specs.Laws.{LinesKeepTheArrowsOrder};
+ghost use Rattle.msc_import.specs.Laws.{LinesKeepTheArrowsOrder, ReadingComesFirst};
 ghost use Rattle.msc_import.specs.Segments.{HistoriesHaveSegments, LinesAreDrawnInSegments};
 
 /// Each line of a draft has the ends of the path's arrows in their order.
@@ -23,4 +23,10 @@ pub fn arrows_have_their_ends()
 pub fn drawn_as_met()
     ensures drawn { LinesAreDrawnInSegments }
     ensures segments { HistoriesHaveSegments }
+{}
+
+/// What is imported of a text is drawn of its diagram, if it has one; otherwise the text is refused
+/// as its diagram is.
+pub fn reading_comes_first()
+    ensures { ReadingComesFirst }
 {}

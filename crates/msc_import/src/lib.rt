@@ -2,8 +2,9 @@
 //! of charts.
 //!
 //! A text has diagrams (`msc_markdown`), each of which is read (`msc_mermaid`); a diagram has
-//! paths (`msc_scenarios`), and a path is drawn as a draft ([`import`]). Lines and columns of a
-//! text are numbered from 1, arrows from 1, choices and instances from 0.
+//! paths (`msc_scenarios`), and a path is drawn as a draft. So an import has two steps: [`read`], and
+//! [`draw_chosen`] or [`draw_all`]; [`import`] takes both. Lines and columns of a text are numbered
+//! from 1, arrows from 1, choices and instances from 0.
 //!
 //! # Choices
 //!
@@ -36,12 +37,15 @@ mod whole;
 
 pub use drawing::{chart_name, draw};
 pub use drawings::{Drawings, Scenario};
-pub use importing::{Imported, Importing, Language, Refused, import, import_from};
+pub use importing::{
+    DiagramReading, Imported, Importing, Language, Refused, draw_chosen, import, import_from, read,
+    read_from,
+};
 pub use placing::places;
 pub use plan::{Manner, Own, Par};
 pub use short_name::ShortName;
 pub use spanning::{EventSpans, TextSpans};
-pub use whole::{ImportingAll, Scenarios, import_all, import_all_from};
+pub use whole::{ImportingAll, Scenarios, draw_all};
 
 /// The numbers of rounds of loops with which scenarios are counted.
 const SCENARIO_ROUNDS: [usize; 2] = [0, 2];

@@ -11,12 +11,13 @@ use listed::Listed;
 use msc_mermaid::{Diagram, Placed, Span, Statement};
 use std::alloc::{AllocError, Global};
 
-/// The place of an event's statement in the text, and that of the label of its arrow, which may be
-/// empty.
-#[derive(Clone, Copy, Debug, PartialEq, Eq)]
+/// The place of an event's statement in the text, that of the label of its arrow, which may be
+/// empty, and the rounds of the loops around the arrow, outermost first, from 1.
+#[derive(Drop)]
 pub struct EventSpans {
     pub statement: Span,
     pub label: Span,
+    pub rounds: Listed<usize>,
 }
 
 /// The place of the first name of each line in the text, that of its first shown name, if it has
@@ -29,17 +30,30 @@ pub struct TextSpans {
     pub comments: Listed<Span>,
 }
 
+/// The site of an event.
+fn site_of(alloc: Global, event: Planned) -> Result<EventSpans, AllocError>
+    ensures { IfOk result (λ site. site ≡ site_of (seen event.entry)) }
+{
+    let Planned { message, side: _ } = event;
+    let rounds = Vec::from_slice(alloc, message.rounds.as_slice())?;
+    Ok(EventSpans {
+        statement: message.statement,
+        label: message.label,
+        rounds: Listed::from_vec(rounds),
+    })
+}
+
 /// Appends the sites of these events.
-fn put_spans(spans: &mut Vec<EventSpans>, events: &[Planned]) -> Result<(), AllocError>
+fn put_spans(
+    alloc: Global,
+    spans: &mut Vec<EventSpans>,
+    events: &[Planned],
+) -> Result<(), AllocError>
     ensures { OnOk result
         (spans.new.items ≡ spans.old.items ++ map (λ e. site_of (seen e)) events.now) }
 {
     for event in events {
-        let Planned { message, side: _ } = *event;
-        spans.push(EventSpans {
-            statement: message.statement,
-            label: message.label,
-        })?;
+        spans.push(site_of(alloc, *event)?)?;
     }
     Ok(())
 }
@@ -50,7 +64,7 @@ pub(crate) fn sites_in(alloc: Global, plans: &[Plan]) -> Result<Vec<EventSpans>,
 {
     let mut spans = Vec::new(alloc);
     for plan in plans {
-        put_spans(&mut spans, plan.events())?;
+        put_spans(alloc, &mut spans, plan.events())?;
     }
     Ok(spans)
 }

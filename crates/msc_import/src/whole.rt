@@ -1,18 +1,17 @@
-//! All scenarios of a text. Whether each has a draft is checked first, and the first are kept.
+//! All scenarios of a diagram. Whether each has a draft is checked first, and the first are kept.
 
 ghost use Rattle.std.specs.Prelude.{◌≡◌, IfErr, IfOk, Ok};
 ghost use Rattle.msc_mermaid.specs.Gives.{Fails};
 ghost use Rattle.msc_import.specs.Importing.{told_of, Imports};
 ghost use Rattle.msc_import.specs.Whole.{all_of, all_scenarios, draws_branches};
-ghost use Rattle.msc_import.specs.Whole.{imported_all, imported_all_from, wanted_all};
+ghost use Rattle.msc_import.specs.Whole.{reading_of_all, wanted_all};
 ghost use Rattle.msc_import.specs.Whole.{AreChoices, IsTried};
 
 use crate::drawing::chart_name;
 use crate::drawings::{Drawings, Scenario, draw_first, share_lines, try_others};
-use crate::importing::{Language, Refused, diagram_from, unnamed, unread, with_name};
+use crate::importing::{DiagramReading, Language, Refused, unnamed, with_name};
 use crate::plan::{Manner, Par};
 use listed::Listed;
-use msc_markdown::Markdown;
 use msc_mermaid::{Cross, Diagram, ImportFault};
 use msc_parser::Name;
 use msc_scenarios::{all_choices, scenarios};
@@ -114,32 +113,34 @@ fn draws_branches(
 fn all_of<'n>(
     alloc: Global,
     importing: ImportingAll<'_, 'n>,
-    diagram: Diagram,
+    diagram: &'n Diagram,
     tried: Tried,
 ) -> Result<Scenarios<'n>, AllocError>
-    requires { IsTried (wanted_all importing) diagram tried }
-    ensures { IfOk result (λ x. all_of (wanted_all importing.entry) diagram ≡ Ok x) }
+    requires { IsTried (wanted_all importing) diagram.now tried }
+    ensures { IfOk result (λ x. all_of (wanted_all importing.entry) diagram.entry.now ≡ Ok x) }
 {
     let Tried { lists, first } = tried;
     let name = chart_name(alloc, importing.name)?;
-    let drawn = draws_branches(alloc, importing, &diagram, lists.as_slice())?;
+    let drawn = draws_branches(alloc, importing, diagram, lists.as_slice())?;
     let list = Drawings::of(importing.manner, importing.name, diagram, lists, first);
     Ok(Scenarios { name, list, drawn })
 }
 
-/// All scenarios of a diagram, with the name of the charts; or why there are none, with the name of
-/// a line.
-fn told_of<'n>(
+/// All scenarios of a diagram, each once, in the order of their choices. Of `importing`, only the
+/// manner, the rounds, the limit and the name count. An error is that the diagram has more scenarios
+/// than the limit; the first fault of the first scenario that has one; or a growth of memory that
+/// was refused.
+pub fn draw_all<'n>(
     alloc: Global,
     importing: ImportingAll<'_, 'n>,
-    diagram: Diagram,
+    diagram: &'n Diagram,
 ) -> Result<Scenarios<'n>, Refused>
     ensures { Imports result
-        (told_of diagram.lines (all_of (wanted_all importing.entry) diagram)) }
+        (told_of diagram.entry.now.lines (all_of (wanted_all importing.entry) diagram.entry.now)) }
 {
-    let tried = match try_scenarios(alloc, importing, &diagram) {
+    let tried = match try_scenarios(alloc, importing, diagram) {
         Ok(tried) => tried,
-        Err(fault) => return Err(with_name(alloc, &diagram, fault)),
+        Err(fault) => return Err(with_name(alloc, diagram, fault)),
     };
     match all_of(alloc, importing, diagram, tried) {
         Ok(scenarios) => Ok(scenarios),
@@ -147,44 +148,15 @@ fn told_of<'n>(
     }
 }
 
-/// All scenarios of a text whose blocks are known, each once, in the order of their choices. An
-/// error is the first fault of the diagram, or that the text has several, or not the requested one;
-/// that the diagram has more scenarios than the limit; the first fault of the first scenario that
-/// has one; or a growth of memory that was refused.
-#[tactic(auto, unfolding(crate::specs::Importing::answered))]
-pub fn import_all_from<'n>(
-    alloc: Global,
-    importing: ImportingAll<'_, 'n>,
-    found: &Markdown<'_>,
-) -> Result<Scenarios<'n>, Refused>
-    ensures { Imports result (imported_all_from (wanted_all importing.entry) found.now) }
-{
-    let ImportingAll {
-        language,
-        cross,
-        fence,
-        ..
-    } = importing;
-    let diagram = match diagram_from(alloc, language, cross, fence, found) {
-        Ok(diagram) => diagram,
-        Err(fault) => return Err(unread(found, fault)),
-    };
-    told_of(alloc, importing, diagram)
-}
-
-/// All scenarios of a text, as [`import_all_from`] makes them. An error is also that the text is
-/// too long, before all others.
-#[tactic(auto, unfolding(crate::specs::Importing::found_as))]
-pub fn import_all<'n>(
-    alloc: Global,
-    importing: ImportingAll<'_, 'n>,
-    text: &[u8],
-) -> Result<Scenarios<'n>, Refused>
-    ensures { Imports result (imported_all (wanted_all importing.entry) text.now) }
-{
-    let found = match Markdown::of(alloc, text) {
-        Ok(found) => found,
-        Err(fault) => return Err(unnamed(fault)),
-    };
-    import_all_from(alloc, importing, &found)
+impl ImportingAll<'_, '_> {
+    /// Which diagram of the text is read, and how.
+    pub fn reading(&self) -> DiagramReading
+        ensures { result ≡ reading_of_all (wanted_all self.now) }
+    {
+        DiagramReading {
+            language: self.language,
+            fence: self.fence,
+            cross: self.cross,
+        }
+    }
 }

@@ -77,25 +77,27 @@ pub(crate) fn hint(alloc: Global, notes: &mut Vec<Note>, text: &[u8]) -> Result<
     Ok(())
 }
 
-/// The bytes up to the next space, after leading spaces.
-fn first_part(bytes: &[u8]) -> &[u8] {
-    let mut start = 0;
+/// The place of the bytes up to the next space, after leading spaces, and how many of them are
+/// shown.
+pub(crate) fn found_part(bytes: &[u8]) -> (usize, usize) {
+    let mut start = 0usize;
     for (i, byte) in bytes.iter().enumerate() {
         if *byte == b' ' && i > start {
-            return between(bytes, start, i);
+            return (start, i.saturating_sub(start).min(FOUND));
         }
         if *byte == b' ' {
             start = i.saturating_add(1);
         }
     }
-    behind(bytes, start)
+    (start, bytes.len().saturating_sub(start).min(FOUND))
 }
 
 /// The part of a text that begins at a place, as it is shown.
 pub(crate) fn what_stands(alloc: Global, text: &[u8], at: usize) -> Result<Vec<u8>, AllocError> {
     let rest = line_rest(text, at);
     if !trimmed(rest).is_empty() {
-        return shown(alloc, front(first_part(rest), FOUND));
+        let (first, length) = found_part(rest);
+        return shown(alloc, front(behind(rest, first), length));
     }
     if at.saturating_add(rest.len()) >= text.len() {
         return Vec::from_slice(alloc, b"the end of the text");

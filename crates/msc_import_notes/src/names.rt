@@ -164,3 +164,17 @@ pub(crate) fn name_answer(
 pub(crate) fn word_at(text: &[u8], at: usize) -> &[u8] {
     first_word(behind(text, at))
 }
+
+/// The number of bytes of the name that stands at a place of a text: of a declaration, or of a line of
+/// an arrow; at least one.
+pub(crate) fn name_length(alloc: Global, text: &[u8], at: usize) -> Result<usize, AllocError> {
+    let own = Statement::of(alloc, text, at)?;
+    let bare = own.bare.as_slice();
+    let part = front(bare, found_from(bare, b":", 0).unwrap_or(bare.len()));
+    if let Some((first, _)) = arrow_from(part, 0) {
+        return Ok(sender(part, first).0.len().max(1));
+    }
+    let brace = found_from(part, b"@{", 0).unwrap_or(part.len());
+    let past = brace.min(alias_from(part, 0));
+    Ok(before_white(front(part, past)).max(1))
+}

@@ -21,3 +21,4 @@ pub mod HistoryListLemmas
 pub mod HistoryWalkLemmas
 pub mod OutsideLemmas
 pub mod PathLemmas
+pub mod JointLemmas

@@ -1,7 +1,7 @@
 -- Paths: one way through a diagram's blocks, with its choices. What a block does is said by
 -- passage_of and follow; the blocks that stand inside each other are walked from the outermost one
 -- in.
-use Rattle.std.specs.Prelude.{ℕ, zero, suc, ◌+◌, ◌-◌, Bool, true, false, cond, not, ◌||◌, ◌&&◌, ◌==◌, nat_le, nat_lt, List, [], ◌∷◌, ◌++◌, length, take, slice_get, codes, unwrap_or, Result, Err}
+use Rattle.std.specs.Prelude.{ℕ, zero, suc, ◌+◌, ◌-◌, Bool, true, false, cond, not, ◌||◌, ◌&&◌, ◌==◌, nat_le, nat_lt, List, [], ◌∷◌, ◌++◌, length, take, slice_get, codes, unwrap_or, Option, None, Some, Result, Err}
 use Rattle.std.specs.List.{list_any, prefix_len, onto_first}
 use Rattle.std.specs.Str.{bytes_eq}
 use Rattle.msc_scenarios.specs.declared.TheConstants.{ARROW_LIMIT, ROUND_LIMIT}
@@ -56,6 +56,23 @@ unfoldable pub extent : ℕ → List Placed → ℕ
 extent d [] = 0
 extent d (p ∷ ps) =
     cond (ends_at d p.statement) 0 (1 + extent (deeper d p.statement) ps)
+
+-- a statement begins the branch before which so many more begin, and how many begin after it before
+-- that one
+abbrev pub is_sought : ℕ → ℕ → Statement → Bool
+is_sought d n s = joins_at d s && n == 0
+
+abbrev pub left_after : ℕ → ℕ → Statement → ℕ
+left_after d n s = cond (joins_at d s) (n - 1) n
+
+-- the statement that begins the branch of a block before which so many further branches begin, within
+-- which so many more blocks are open
+unfoldable pub joint : ℕ → ℕ → List Placed → Option Placed
+joint d n [] = None
+joint d n (p ∷ ps) =
+    cond (ends_at d p.statement) None (
+    cond (is_sought d n p.statement) (Some p) (joint (deeper d p.statement) (left_after d n p.statement) ps)
+    )
 
 -- the branches of a block, within which so many more are open
 unfoldable pub branches_in : ℕ → List Placed → List (List Placed)
@@ -210,6 +227,7 @@ message_of lines p a lost rounds = record {
   column = p.column;
   statement = p.whole;
   label = p.shown;
+  rounds = rounds;
 }
 
 -- an arrow is met, where it is lost or arrives

@@ -35,7 +35,7 @@ pub use choosing::all_choices;
 pub use counting::scenarios;
 pub use line_name::{kind_of, names_of};
 pub use naming::made;
-pub use steps::{Ending, Message, Step};
+pub use steps::{Ending, Message, Step, joint};
 pub use walking::Walker;
 
 /// The greatest number of arrows of a scenario.

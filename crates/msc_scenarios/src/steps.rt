@@ -1,15 +1,16 @@
 //! Paths through a diagram's blocks, each with its choices.
 
-ghost use Rattle.std.specs.Prelude.{◌≡◌, ◌≤◌, ◌<◌, ◌+◌, ◌^◌, length, map, IfOk};
+ghost use Rattle.std.specs.Prelude.{◌≡◌, ◌≤◌, ◌<◌, ◌+◌, ◌^◌, length, map, option_map, IfOk};
 ghost use Rattle.std.specs.List.{list_any};
 ghost use Rattle.msc_scenarios.specs.Steps.{branches_in, deeper, ends_at, extent, passage_of};
 ghost use Rattle.msc_scenarios.specs.Steps.{is_break};
 ghost use Rattle.msc_scenarios.specs.Steps.{is_drawn, is_end, is_joint, is_there, joins_at};
-ghost use Rattle.msc_scenarios.specs.Steps.{main_of};
+ghost use Rattle.msc_scenarios.specs.Steps.{is_sought, joint, left_after, main_of};
 ghost use Rattle.msc_scenarios.specs.Steps.{heads, is_choice, is_exchange, is_loss, is_open};
 ghost use Rattle.msc_scenarios.specs.Steps.{most_of};
 
 use crate::ROUND_LIMIT;
+use listed::Listed;
 use msc_mermaid::{Arrow, Closer, Fate, ImportFault, Kind, Placed, Span, Statement};
 use msc_parser::Name;
 use msc_place::Position;
@@ -17,8 +18,8 @@ use std::alloc::{AllocError, Global};
 
 /// A message of a path: its sender and its receiver, as numbers of lines from 0, its name and its
 /// number, whether it is lost, whether the receiver sends one back with the same name and number,
-/// the line and the column at which its arrow begins, and the positions of the arrow's statement
-/// and of its label in the text.
+/// the line and the column at which its arrow begins, the positions of the arrow's statement and of
+/// its label in the text, and the rounds of the loops around the arrow, outermost first.
 #[derive(Drop)]
 pub struct Message {
     pub from: usize,
@@ -31,6 +32,7 @@ pub struct Message {
     pub column: usize,
     pub statement: Span,
     pub label: Span,
+    pub rounds: Listed<usize>,
 }
 
 /// A step of a path.
@@ -181,6 +183,45 @@ pub(crate) fn extent(statements: &[Placed]) -> usize
         depth = deeper(statement, depth);
     }
     statements.len()
+}
+
+/// Whether the statement begins the branch before which `left` more branches begin.
+fn is_sought(statement: &Statement, depth: usize, left: usize) -> bool
+    ensures { result ≡ is_sought depth left statement.now }
+{
+    joins_at(statement, depth) && left == 0
+}
+
+/// How many branches begin after the statement, before the one that is sought.
+fn left_after(statement: &Statement, depth: usize, left: usize) -> usize
+    ensures { result ≡ left_after depth left statement.now }
+{
+    if joins_at(statement, depth) {
+        left.saturating_sub(1)
+    } else {
+        left
+    }
+}
+
+/// The statement that begins a further branch of a block: these statements follow the one that
+/// begins the block, and `number` further branches begin before this one. It takes no memory.
+pub fn joint(statements: &[Placed], number: usize) -> Option<&Placed>
+    ensures { option_map (λ p. p.now) result ≡ joint 0 number statements.now }
+{
+    let mut depth = 0;
+    let mut left = number;
+    for i in 0..statements.len() {
+        let placed = &statements[i];
+        if ends_at(&placed.statement, depth) {
+            return None;
+        }
+        if is_sought(&placed.statement, depth, left) {
+            return Some(placed);
+        }
+        left = left_after(&placed.statement, depth, left);
+        depth = deeper(&placed.statement, depth);
+    }
+    None
 }
 
 /// The branches of a block.

@@ -94,6 +94,7 @@ fn message_of(
         column: placed.column,
         statement: placed.whole,
         label: placed.shown,
+        rounds: Listed::from_vec(Vec::from_slice(alloc, rounds)?),
     })
 }
 

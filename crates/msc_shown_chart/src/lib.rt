@@ -14,4 +14,5 @@ mod words;
 
 pub use lent::{LentWords, lent_names};
 pub use marks::{MarkWords, text_end};
+pub use shown::shown_as;
 pub use words::{ChartWords, EventWords, file_said, position_said};

@@ -50,8 +50,13 @@ fn queue_of_event(chart: &Chart, queues: Queues, e: Event) -> u32
     chart.queue(chart.message_of(e), queues)
 }
 
-/// An event with these words.
-fn shown_as<'w>(chart: &Chart, queues: Queues, words: &'w EventWords, e: Event) -> ShownEvent<'w>
+/// Event `e` of a chart under an architecture, with these words. It takes no memory.
+pub fn shown_as<'w>(
+    chart: &Chart,
+    queues: Queues,
+    words: &'w EventWords,
+    e: Event,
+) -> ShownEvent<'w>
     requires { e < length chart.now.events }
     ensures { plain_event result ≡ shown_as chart.now queues (plain_words words.entry.now) e }
 {

@@ -1,9 +1,9 @@
 """What `msc import` prints of random Mermaid diagrams, and of diagrams at the limits.
 
 Half of the texts have a mistake in their lines or their bytes, and some stand in Markdown; faults
-have their places and notes. Some name their queues in a comment, and so does the chart. `msc read`
-prints what is printed as a chart again, but for this comment, and `msc check` judges it, with the
-same queues as the diagram if it names some.
+have their places and notes. Some name their queues in a comment, and so does the chart; some have
+marks, and so have its events. `msc read` prints what is printed as a chart again, but for these
+comments, and `msc check` judges it, with the same queues as the diagram if it names some.
 """
 import re
 
@@ -13,7 +13,7 @@ from models.answers import import_answer
 
 NEEDS_PROGRAM = True
 OPTIONS = {"number": 2000, "uniform": False}
-COMMENT = re.compile(rb"\A(msc \w+) comment '[^']*';")
+COMMENT = re.compile(rb" comment '(?:[^']|'')*';")
 
 
 def texts(trial):
@@ -32,9 +32,10 @@ def compare(trial):
         found = re.match(rb"import fault \d+", wanted.error)
         trial.noted[found[0].decode() if found else "no fault"] += 1
         if not listed and wanted.status == 0:
-            canonical = COMMENT.sub(rb"\1;", wanted.output)
+            canonical = COMMENT.sub(b";", wanted.output)
             trial.compare(["read", "-"], wanted.output, Answer(canonical, b"", 0))
-            queues = "pair" if canonical == wanted.output else "own"
+            queues = "own" if COMMENT.search(wanted.output.split(b"\n")[0] + b"\n") else "pair"
+            trial.noted["charts with marks"] += b" comment 'race ok" in wanted.output
             judged = [trial.program, "check", "--queues", queues, "--quiet", "-"]
             done = run(judged, wanted.output)
             trial.noted["charts that name their queues"] += queues == "own"

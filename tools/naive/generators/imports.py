@@ -1,4 +1,5 @@
 """Texts and options for `msc import`: random ones, and diagrams at each limit and one past it."""
+from generators.diagram_marks import with_marks
 from generators.diagrams import in_markdown, text_of
 from generators.links import with_comments
 
@@ -21,6 +22,7 @@ def tried(pick, is_uniform):
     """A random text, random options, and whether its events are listed."""
     text, words = text_of(pick), words_of(pick)
     text = text if is_uniform else with_comments(pick, text)
+    text = with_marks(pick, text) if pick.random() < 0.4 else text
     if pick.random() < 0.3:
         text, more = in_markdown(pick, text)
         words += more

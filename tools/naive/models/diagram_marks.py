@@ -9,7 +9,7 @@ import re
 from typing import NamedTuple
 
 from models.courses import all_items
-from models.diagrams import Arrow, made_of_text
+from models.diagrams import Arrow, made
 from models.marks import ARCHITECTURE, FAULTS
 from models.source import SPACE, Refused, trimmed
 from models.spoken import spoken
@@ -121,13 +121,14 @@ def accepting(marks, one, other):
 
 
 def idents(mark, course):
-    """What a chart calls the messages of the arrows that a mark names."""
+    """What a chart calls the messages of the arrows that a mark names; an ID that names none of this
+    course is a name made of its bytes."""
     found = []
     for ident in mark.others:
         own = [name for arrow, name in course.met if means(ident, arrow)]
         if not own:
             held = ident[1:-1] if ident.startswith(b'"') else b""
-            own = [made_of_text(held, b"m").decode()]
+            own = [made(held, b"m").decode()]
         found += own
     return list(dict.fromkeys(found))
 

@@ -6,8 +6,7 @@
                                  [--fence N] < TEXT
 
 prints what `msc import` prints: the chart of one scenario, with the queues that the diagram names
-(and its marks as comments, which the program does not write yet), or on standard error the line of
-the first fault. With --list the events
+and with its marks as comments, or on standard error the line of the first fault. With --list the events
 stand in place of the chart, with the places of their arrows in FILE; with --into the charts of all
 scenarios are written; with --shown the bytes of the text that are shown to people stand there; with
 --places the place and the notes follow a fault.

@@ -1,20 +1,14 @@
-use Rattle.std.proofs.Common.{◌∙◌, rules}
-use Rattle.msc_command.specs.Sited.{HasEventPositions, IsStyle}
+use Rattle.std.proofs.Common.{rules}
+use Rattle.msc_command.specs.Sited.{IsStyle}
 use Rattle.msc_command.proofs.answering.check.Goals as goal
 
 pub returns-in-Text : goal.returns-in-Text
 returns-in-Text g c =
-    let its : IsStyle c.args.check_args.event_style c.args.file.now c.args.source.now.text c.style_of-style.result = search rules in
+    let its : IsStyle c.args.check_args.event_style c.args.file.now c.args.source.now c.style_of-style.result = search rules in
     c.check_in.ensures c.args.file.now (rw c.in-Text.is its)
 
 pub returns-in-Count : goal.returns-in-Count
 returns-in-Count g c = c.check_in-in-Count.ensures c.args.file.now (rw c.in-Count.is c.as_bytes.ensures.value)
 
 pub returns-in-Lines : goal.returns-in-Lines
-returns-in-Lines g c =
-    let event_positions = c.in_ok-event_positions-in-Lines in
-    let its : HasEventPositions c.args.file.now c.args.source.now.text event_positions.event_positions = record {
-      file_is = event_positions.ensures.file ∙ c.as_bytes-in-Lines.ensures.value;
-      stand = rw c.text-in-Lines.ensures at event_positions.ensures.positions;
-    } in
-    c.check_in-in-Lines.ensures c.args.file.now (rw c.in-Lines.is its)
+returns-in-Lines g c = c.check_in-in-Lines.ensures c.args.file.now (rw c.in-Lines.is c.in_ok-event_positions-in-Lines.ensures)

@@ -12,5 +12,5 @@ returns-in_err-page g c =
 
 pub returns : goal.returns
 returns g c =
-    print_so g.O.Write.contents (PrintsImportPage c.args.words c.args.file.now c.args.text.now) (RefusesImport c.args.words c.args.text.now)
+    print_so g.O.Write.contents (PrintsImportPage c.args.words c.args.file.now c.args.text.now) (RefusesImport c.args.words.chosen c.args.text.now)
     _ _ (refl, c.in_ok-page.ensures) c.put.result _ _ c.put.ensures

@@ -1,15 +1,16 @@
 use Rattle.std.proofs.Common.{option_map}
 use Rattle.std.proofs.lemmas.Result.{err_from_is_err_and}
+use Rattle.msc_command.proofs.ImportPages.{not_read}
 use Rattle.msc_command.specs.Importing.{wanted_with}
-use Rattle.msc_import.specs.Importing.{imported}
-use Rattle.msc_command.proofs.ImportPages.{not_imported}
 use Rattle.msc_command.proofs.importing.import_with.Goals as goal
 
-pub returns-in_err-imported : goal.returns-in_err-imported
-returns-in_err-imported c =
+pub returns-in_err-diagram : goal.returns-in_err-diagram
+returns-in_err-diagram c =
     let p = err_from_is_err_and c.from_residual.result c.from_residual.ensures.1 in
-    let given = rw c.fence_of.ensures at c.in_err-imported.ensures.given in
-    rw (p.1, p.2) (not_imported (imported (wanted_with c.args.words (option_map (λ c. c.now) c.args.choices)) c.args.text.now) _ given)
+    let given = option_map (λ c. c.now) c.args.choices in
+    rw (p.1, p.2) (not_read c.reading_comes_first.ensures (wanted_with c.args.words given) c.args.text.now _ (c.in_err-diagram.ensures given))
 
 pub returns : goal.returns
-returns c = (rw c.fence_of.ensures at c.in_ok-imported.ensures.given, c.in_ok-imported.ensures.again)
+returns c =
+    let given = option_map (λ c. c.now) c.args.choices in
+    c.drawn_of.ensures c.args.text.now (c.in_ok-diagram.ensures given)

@@ -1,7 +1,0 @@
-use Rattle.msc_import.specs.Whole.{wanted_all}
-use Rattle.msc_import.proofs.AllLemmas.{told_not}
-use Rattle.msc_import.proofs.whole.told_of.Goals as goal
-
-pub returns-in-Err : goal.returns-in-Err
-returns-in-Err c =
-    told_not (wanted_all c.args.importing) c.args.diagram c.with_name.result c.in-Err.fault c.with_name.ensures c.in-Err.ensures.err

@@ -1,0 +1,7 @@
+pub mod Spans
+pub mod Loops
+pub mod Branches
+pub mod Choices
+pub mod Words
+pub mod Shown
+pub mod Diagrams
