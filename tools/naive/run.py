@@ -37,9 +37,6 @@ from harness import MOST_FAILURES, Enough, Trial, parser
 HERE = pathlib.Path(__file__).resolve().parent
 SIZES, FLAGS = ("number", "messages", "lines", "events"), ("plain", "uniform", "write")
 
-# comparisons with what the program does not have yet: they run only by their names
-AHEAD = ("full_diagrams",)
-
 
 def comparisons():
     """The comparisons by their names."""
@@ -60,8 +57,7 @@ def arguments(every):
     words.add_argument("names", metavar="NAME", nargs="*")
     given = words.parse_args()
     has_program = given.program is not None
-    alike = [name for name, it in every.items()
-             if it.NEEDS_PROGRAM == has_program and name not in AHEAD]
+    alike = [name for name, it in every.items() if it.NEEDS_PROGRAM == has_program]
     given.chosen = {}
     for name in given.names or alike:
         if name not in every:

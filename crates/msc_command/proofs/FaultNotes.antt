@@ -12,6 +12,7 @@ use Rattle.msc_command.specs.declared.ending.Refusal.{Refusal}
 use Rattle.msc_command.specs.declared.ending.Refusal.TheVariants as refusals
 use Rattle.msc_command.specs.declared.ending.Status.{Status}
 use Rattle.msc_command.specs.declared.ending.Status.TheVariants.{Done, Races, Refused, Unfinished, Failed}
+use Rattle.msc_command.specs.declared.scenarios.Told.{Told}
 use Rattle.msc_command.specs.declared.tasks.ChartCommand.TheVariants as chart_commands
 use Rattle.msc_command.specs.declared.tasks.ScenarioArgs.{ScenarioArgs}
 use Rattle.msc_command.specs.declared.tasks.Task.{Task}
@@ -34,17 +35,17 @@ never_finished true same = cc
 never_finished false same = cc
 
 -- and none of scenarios
-never_surveyed : (quiet : Bool) (c : CheckArgs) (file name : List ℕ) (drawn : Bool) (ss : List Scenario) (printed : List ℕ) → PrintsAll quiet c file name drawn ss Refused printed → ⊥
-never_surveyed true c file name drawn ss printed (n, (passed, same, zero, says, none)) = never_ended passed same
-never_surveyed false c file name drawn ss printed (n, (format, its, same, says)) = never_ended (nat_eq n 0) same
+never_surveyed : (quiet : Bool) (c : CheckArgs) (t : Told) (ss : List Scenario) (printed : List ℕ) → PrintsAll quiet c t ss Refused printed → ⊥
+never_surveyed true c t ss printed (n, (passed, same, zero, says, none)) = never_ended passed same
+never_surveyed false c t ss printed (n, (format, its, same, says)) = never_ended (nat_eq n 0) same
 
 -- one of several diagrams is refused
 abbrev pub RefusesOne : List ℕ → Type 0
-RefusesOne printed = (x : ScenarioArgs) × (file : List ℕ) × (text : List ℕ) × (f : Markdown) × (many_in x text ≡ Some f) × Surveys x file text f.numbers Done Refused printed
+RefusesOne printed = (x : ScenarioArgs) × (file : List ℕ) × (text : List ℕ) × (f : Markdown) × (many_in x text ≡ Some f) × Surveys x file text f.numbers false Done Refused printed
 
 diagram_refused : (many : Option Markdown) (x : ScenarioArgs) (file text printed : List ℕ) → many_in x text ≡ many
     → PrintsDiagrams many x file text Refused printed → RefusesOne printed
-diagram_refused None x file text printed is (all, of_text, charts, queues, linked, says) = absurd (never_surveyed x.quiet (checked_under queues x.check_args) file _ _ _ printed says)
+diagram_refused None x file text printed is (all, of_text, charts, queues, linked, (t, its, says)) = absurd (never_surveyed x.quiet (checked_under queues x.check_args) t _ printed says)
 diagram_refused (Some f) x file text printed is says = (x, file, text, f, is, says)
 
 -- so of what is printed for a task only several diagrams are

@@ -15,9 +15,10 @@ use Rattle.msc_source.specs.declared.fault.SourceFault.{SourceFault}
 use Rattle.msc_source.specs.declared.fault.SourceFault.TheVariants as sources
 use Rattle.msc_command.specs.Answering.{Answers}
 use Rattle.msc_command.specs.Ending.{of_import, of_import_fault}
-use Rattle.msc_command.specs.Importing.{IsChartImport, IsChartOrFault, IsCommentOf, IsImport, IsImportAs, IsImportedOn, IsNotImported, IsPageOf, IsReadFor, IsTextOf, PrintsImportPage, RefusesImport, wanted_of, wanted_with}
+use Rattle.msc_command.specs.Importing.{IsChartImport, IsChartOrFault, IsCommentOf, IsImportAs, IsImportBy, IsImportedOn, IsNotImported, IsPageOf, IsReadFor, IsTextOf, PrintsImportPage, RefusesImport, wanted_of, wanted_with}
 use Rattle.msc_command.specs.declared.ending.Refusal.{Refusal}
 use Rattle.msc_command.specs.declared.ending.Refusal.TheVariants as refusals
+use Rattle.msc_command.specs.declared.importing.ImportedDiagram.{ImportedDiagram}
 use Rattle.msc_command.specs.declared.tasks.ChosenArgs.{ChosenArgs}
 use Rattle.msc_command.specs.declared.tasks.DiagramArgs.{DiagramArgs}
 use Rattle.msc_command.specs.declared.tasks.ImportArgs.{ImportArgs}
@@ -53,8 +54,13 @@ module _ {A : Type 0} (said : Result A Said) where
   not_imported e h = by_fault e e.fault refl h
 
 -- what is imported of a text is a chart
-pub is_chart : ImportsAreCharts → (x : ChosenArgs) (text : List ℕ) (answer : Result Imported Refusal) → IsImport x text answer → IsChartImport x text answer
-is_chart charts x text (Ok is) (same, again) = record { of_text = same; again = again; faultless = charts (wanted_of x) text is same }
+pub is_chart : ImportsAreCharts → (x : ChosenArgs) (text : List ℕ) (answer : Result ImportedDiagram Refusal)
+    → IsImportBy x.diagram.fence (wanted_of x) text answer → IsChartImport x text answer
+is_chart charts x text (Ok drawing) said = record {
+  chosen = record { of_text = said.imported_is; again = said.again; faultless = charts (wanted_of x) text drawing.imported said.imported_is };
+  diagram_is = said.diagram_is;
+  number_is = said.number_is;
+}
 is_chart charts x text (Err r) said = said
 
 module _ (x : ImportArgs) (text file : List ℕ) where

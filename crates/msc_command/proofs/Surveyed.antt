@@ -1,5 +1,5 @@
 -- What is answered of all scenarios of a diagram.
-use Rattle.std.proofs.Common.{◌≡◌, ℕ, Bool, true, false, not, ◌&&◌, List, [], get_or, Option, Result, Ok, Err, is_ok, inl, inr, map, refl, sym, ap, subst, ◌∙◌}
+use Rattle.std.proofs.Common.{◌≡◌, ℕ, Bool, true, false, not, ◌&&◌, List, [], ◌∷◌, get_or, nat_eq, slice_get, Option, Some, Result, Ok, Err, is_ok, inl, inr, map, refl, sym, ap, subst, ◌∙◌}
 use Rattle.std.proofs.lemmas.Option.{slice_get-get_or}
 use Rattle.msc_import.specs.Drafting.{chart_name}
 use Rattle.msc_import.specs.Importing.{answered, diagram_from, found_as, seen, told_of}
@@ -17,7 +17,9 @@ use Rattle.msc_report.specs.Refusals.{of_source, of_writing}
 use Rattle.msc_source.specs.declared.fault.SourceFault.{SourceFault}
 use Rattle.msc_source.specs.declared.fault.SourceFault.TheVariants as sources
 use Rattle.msc_diagram.specs.Judging.{BeginsScenarios as BeginsOf, JudgesScenarios, PassesScenarios, TellsScenarios}
+use Rattle.msc_diagram.specs.declared.full.FullDiagram.{FullDiagram}
 use Rattle.msc_diagram.specs.declared.judging.DiagramFormat.{DiagramFormat as DiagramFormat}
+use Rattle.msc_diagram.specs.declared.judging.DiagramFormat.TheVariants as diagrams
 use Rattle.msc_diagram.specs.declared.scenario.Scenario.{Scenario}
 use Rattle.msc_print.specs.declared.page.WriteFault.{WriteFault}
 use Rattle.msc_print.specs.declared.page.WriteFault.TheVariants as writing
@@ -31,11 +33,13 @@ use Rattle.msc_command.specs.Importing.{IsChartOrFault}
 use Rattle.msc_command.specs.Linked.{AreLinkedIn}
 use Rattle.msc_chart.specs.declared.queue.Queues.{Queues}
 use Rattle.msc_chart.specs.Architectures.{usual_of}
-use Rattle.msc_diagram.specs.Scenarios.{diagram_top, first_chart}
-use Rattle.msc_command.specs.Scenarios.{BeginsAll, IsCharted, IsDiagramOf, IsFormatOf, IsImportOfAll, IsLinkedArgs, OfScenarios, PrintsCounted, RefusesScenarios, checked_under, wanted_of, with_fence}
+use Rattle.msc_command.specs.Scenarios.{BeginsAll, IsCharted, IsDiagramOf, IsFirst, IsFormatOf, IsImportOfAll, IsLinkedArgs, OfScenarios, PrintsCounted, RefusesScenarios, TellsFormat, checked_under, top_in, wanted_of, with_fence}
 use Rattle.msc_command.specs.Scenarios as of_words
+use Rattle.msc_command.specs.ShownDiagrams.{IsFullDiagram}
 use Rattle.msc_command.specs.declared.ending.Refusal.{Refusal}
 use Rattle.msc_command.specs.declared.ending.Refusal.TheVariants as refusals
+use Rattle.msc_command.specs.declared.scenarios.Told.{Told}
+use Rattle.msc_command.specs.declared.tasks.Format.TheVariants as formats
 use Rattle.msc_command.specs.declared.tasks.ScenarioArgs.{ScenarioArgs}
 use Rattle.msc_import_laws.proofs.Imports.{told_ok}
 
@@ -95,28 +99,43 @@ module _ (x : WantedAll) where
 pub drawn_so : (x : ScenarioArgs) (text : List ℕ) (all : Scenarios) → imported_all (wanted_of x) text ≡ Ok all → all.drawn ≡ of_words.draws_branches x text
 drawn_so x text all is = drawn_as (wanted_of x) all (markdown text) is
 
-module _ {W A : Type 0} (contents : W → Option (List ℕ)) (prints : CheckArgs → List ℕ → Bool → List Scenario → A → List ℕ → Type 0)
-    (begins : CheckArgs → List ℕ → Bool → List Scenario → List ℕ → Type 0) where
+module _ {W A : Type 0} (contents : W → Option (List ℕ)) (is_told : List ℕ → Told → Type 0)
+    (prints : CheckArgs → Told → List Scenario → A → List ℕ → Type 0) (begins : CheckArgs → Told → List Scenario → List ℕ → Type 0) where
   -- what was told of the scenarios of a text, under the queues that the rules give, was told of the text
   pub told_of_text : ScenariosAreCharts → (x : ScenarioArgs) (file text : List ℕ) (all : Scenarios) → imported_all (wanted_of x) text ≡ Ok all
       → (queues : Queues) → AreLinkedIn (usual_of x.check_args.queues) x.links text all.list queues
-      → (answer : Result A Refusal) (old new : W)
-      → AnswersWith contents (prints (checked_under queues x.check_args) all.name all.drawn (map (with_chart file) all.list))
-      (begins (checked_under queues x.check_args) all.name all.drawn (map (with_chart file) all.list)) (λ refusal. ⊥) answer old new
-      → AnswersWith contents (λ a printed. OfScenarios x file text (λ c name ss. prints c name (of_words.draws_branches x text) ss a printed))
-      (λ printed. OfScenarios x file text (λ c name ss. begins c name (of_words.draws_branches x text) ss printed)) (RefusesScenarios x text) answer old new
-  told_of_text charts x file text all is queues linked answer old new told =
+      → (t : Told) → is_told all.name t → (answer : Result A Refusal) (old new : W)
+      → AnswersWith contents (prints (checked_under queues x.check_args) t (map (with_chart file) all.list))
+      (begins (checked_under queues x.check_args) t (map (with_chart file) all.list)) (λ refusal. ⊥) answer old new
+      → AnswersWith contents (λ a printed. OfScenarios x file text (λ c name ss. (t : Told) × is_told name t × prints c t ss a printed))
+      (λ printed. OfScenarios x file text (λ c name ss. (t : Told) × is_told name t × begins c t ss printed)) (RefusesScenarios x text) answer old new
+  told_of_text charts x file text all is queues linked t its answer old new told =
       let are = all_charts charts x text all is in
-      let drawn = drawn_so x text all is in
       let c = checked_under queues x.check_args in
-      answers_with_so contents (prints c all.name all.drawn (map (with_chart file) all.list))
-      (λ a printed. OfScenarios x file text (λ c name ss. prints c name (of_words.draws_branches x text) ss a printed))
-      (begins c all.name all.drawn (map (with_chart file) all.list))
-      (λ printed. OfScenarios x file text (λ c name ss. begins c name (of_words.draws_branches x text) ss printed))
+      answers_with_so contents (prints c t (map (with_chart file) all.list))
+      (λ a printed. OfScenarios x file text (λ c name ss. (t : Told) × is_told name t × prints c t ss a printed))
+      (begins c t (map (with_chart file) all.list))
+      (λ printed. OfScenarios x file text (λ c name ss. (t : Told) × is_told name t × begins c t ss printed))
       (λ refusal. ⊥) (RefusesScenarios x text)
-      (λ a printed says. (all, is, are, queues, linked, subst (λ b. prints c all.name b (map (with_chart file) all.list) a printed) drawn says))
-      (λ printed begun. (all, is, are, queues, linked, subst (λ b. begins c all.name b (map (with_chart file) all.list) printed) drawn begun))
+      (λ a printed says. (all, is, are, queues, linked, (t, its, says)))
+      (λ printed begun. (all, is, are, queues, linked, (t, its, begun)))
       (λ refusal never. absurd never) answer old new told
+
+module _ {W A : Type 0} (contents : W → Option (List ℕ)) (is_told : List ℕ → Told → Type 0)
+    (prints : Bool → CheckArgs → Told → List Scenario → A → List ℕ → Type 0) (begins : Bool → CheckArgs → Told → List Scenario → List ℕ → Type 0) where
+  -- the same of what was told by these words, which are those of the text under these queues
+  pub told_by : ScenariosAreCharts → (x : ScenarioArgs) (file text : List ℕ) (all : Scenarios) → imported_all (wanted_of x) text ≡ Ok all
+      → (queues : Queues) → AreLinkedIn (usual_of x.check_args.queues) x.links text all.list queues
+      → (quiet : Bool) → quiet ≡ x.quiet → (k : CheckArgs) → k ≡ checked_under queues x.check_args
+      → (ss : List Scenario) → ss ≡ map (with_chart file) all.list → (t : Told) (answer : Result A Refusal) (old new : W)
+      → AnswersWith contents (prints quiet k t ss) (begins quiet k t ss) (λ refusal. ⊥) answer old new → is_told all.name t
+      → AnswersWith contents (λ a printed. OfScenarios x file text (λ c name ss. (t : Told) × is_told name t × prints x.quiet c t ss a printed))
+      (λ printed. OfScenarios x file text (λ c name ss. (t : Told) × is_told name t × begins x.quiet c t ss printed)) (RefusesScenarios x text) answer old new
+  told_by charts x file text all is queues linked quiet same k under ss its t answer old new told known =
+      told_of_text contents is_told (prints x.quiet) (begins x.quiet) charts x file text all is queues linked t known answer old new
+      (subst (λ (b : Bool). AnswersWith contents (prints b (checked_under queues x.check_args) t (map (with_chart file) all.list)) (begins b (checked_under queues x.check_args) t (map (with_chart file) all.list)) (λ refusal. ⊥) answer old new) same
+      (subst (λ (c : CheckArgs). AnswersWith contents (prints quiet c t (map (with_chart file) all.list)) (begins quiet c t (map (with_chart file) all.list)) (λ refusal. ⊥) answer old new) under
+      (subst (λ (l : List Scenario). AnswersWith contents (prints quiet k t l) (begins quiet k t l) (λ refusal. ⊥) answer old new) its told)))
 
 module _ {W A : Type 0} (contents : W → Option (List ℕ)) (prints : A → List ℕ → Type 0) (begins : List ℕ → Type 0) (x : ScenarioArgs) (text : List ℕ) (now : W) where
   -- where there are no scenarios, nothing is written
@@ -154,21 +173,50 @@ module _ {W A : Type 0} (contents : W → Option (List ℕ)) (prints : A → Lis
       → (r : Refusal) → IsLinkedArgs x other all.list (Err r) → AnswersWith contents prints begins (RefusesScenarios x text) (Err r) now now
   none_linked_in all is other same r said = none_linked all is r (subst (λ (t : List ℕ). IsLinkedArgs x t all.list (Err r)) same said)
 
-module _ {W : Type 0} (contents : W → Option (List ℕ)) (c : CheckArgs) (file name : List ℕ) (drawn : Bool) (ss : List Scenario) where
+-- findings as people read them are in a form that is asked for, by the first of the scenarios
+pub full_is : (c : CheckArgs) (t : Told) (ss : List Scenario) (s : Scenario) → IsFirst ss s → c.format ≡ formats.Full → (full : FullDiagram)
+    → IsFullDiagram t.diagram s.spans.shown s.chart c.queues c.colours t.following full → IsFormatOf c t ss (diagrams.Full full)
+full_is c t [] s never is full shown = absurd never
+full_is c t (first ∷ ss) s same is full shown =
+    rw is (subst (λ (x : Scenario). IsFullDiagram t.diagram x.spans.shown x.chart c.queues c.colours t.following full) (sym same) shown)
+
+-- the first of scenarios
+pub first_is : (ss : List Scenario) (s : Scenario) → slice_get ss 0 ≡ Some s → IsFirst ss s
+first_is [] s is = absurd cc
+first_is (first ∷ ss) s is = cc
+
+module _ {W : Type 0} (contents : W → Option (List ℕ)) (c : CheckArgs) (t : Told) (ss : List Scenario) where
   -- what is told by the status alone
   pub passes_so : (quiet passed : Bool) (now : W) → quiet ≡ true → PassesScenarios ss c.queues c.options.allowed passed
-      → AnswersWith contents (PrintsCounted quiet c file name drawn ss) (BeginsAll quiet c file name drawn ss) (λ refusal. ⊥) (Ok (record { status = ended_by passed; listed = 0 })) now now
+      → AnswersWith contents (PrintsCounted quiet c t ss) (BeginsAll quiet c t ss) (λ refusal. ⊥) (Ok (record { status = ended_by passed; listed = 0 })) now now
   passes_so quiet passed now is says = rw is ([], (passed, refl, refl, says, refl), nothing_more _)
 
-  -- what was not written to its end, below these first lines
-  pub not_told : (format : DiagramFormat) → IsFormatOf c file drawn format → (top : List ℕ) → top ≡ diagram_top name (first_chart ss) c.queues
-      → (quiet : Bool) → quiet ≡ false → (f : WriteFault) (old new : W)
-      → TellsScenarios contents (JudgesScenarios top ss c.queues c.options format) (BeginsOf top ss c.queues c.options format) (Err f) old new
-      → AnswersWith contents (PrintsCounted quiet c file name drawn ss) (BeginsAll quiet c file name drawn ss) (λ refusal. ⊥) (Err (refusals.Fault (of_writing f))) old new
-  not_told format its top top_is quiet is writing.Memory old new (inl same) = inl same
-  not_told format its top top_is quiet is writing.Memory old new (inr (printed, says, begun)) =
-      inr (printed, rw is (format, its, subst (λ (t : List ℕ). BeginsOf t ss c.queues c.options format printed) top_is says), begun)
-  not_told format its top top_is quiet is writing.Device old new said = tt
+  -- what was told in a form, below the first lines of that form
+  pub told_in : (format : DiagramFormat) → IsFormatOf c t ss format → (top : List ℕ) → top ≡ top_in format c t ss → (result : Result ℕ WriteFault) (old new : W)
+      → TellsScenarios contents (JudgesScenarios top ss c.queues c.options format) (BeginsOf top ss c.queues c.options format) result old new
+      → TellsFormat contents c t ss result old new
+  told_in format its top top_is result old new told =
+      inl (
+        format,
+        its,
+        subst (λ (p : List ℕ). TellsScenarios contents (JudgesScenarios p ss c.queues c.options format) (BeginsOf p ss c.queues c.options format) result old new)
+            top_is told,
+      )
+
+  module _ (quiet : Bool) (is : quiet ≡ false) where
+    -- what was written to its end
+    pub told_all : (listed : ℕ) (old new : W) → TellsFormat contents c t ss (Ok listed) old new
+        → AnswersWith contents (PrintsCounted quiet c t ss) (BeginsAll quiet c t ss) (λ refusal. ⊥) (Ok (record { status = ended_by (nat_eq listed 0); listed = listed })) old new
+    told_all listed old new (inl (format, its, (printed, says, wrote))) = rw is (printed, (format, its, refl, says), wrote)
+    told_all listed old new (inr (never, same)) = absurd cc
+
+    -- what was not
+    pub not_told : (f : WriteFault) (old new : W) → TellsFormat contents c t ss (Err f) old new
+        → AnswersWith contents (PrintsCounted quiet c t ss) (BeginsAll quiet c t ss) (λ refusal. ⊥) (Err (refusals.Fault (of_writing f))) old new
+    not_told writing.Memory old new (inl (format, its, inl same)) = inl same
+    not_told writing.Memory old new (inl (format, its, inr (printed, says, begun))) = inr (printed, rw is (format, its, says), begun)
+    not_told writing.Memory old new (inr (memory, same)) = inl same
+    not_told writing.Device old new told = tt
 
 -- a text whose diagram is refused has no scenarios
 pub none_read : ReadingComesFirst → (x : ScenarioArgs) (text : List ℕ) (r : Refusal) → IsDiagramOf x text (Err r) → IsImportOfAll x text (Err r)

@@ -1,7 +1,6 @@
 -- What was answered of a text with its chart was answered of the text.
 use Rattle.std.proofs.Common.{◌≡◌, ◌≢◌, ℕ, List, Option, Some, None, Result, Ok, Err, inl, refl, subst, sym, ◌∙◌}
 use Rattle.msc_import.specs.Importing.{imported}
-use Rattle.msc_import.specs.declared.importing.Imported.{Imported}
 use Rattle.msc_import.specs.declared.importing.Refused.{Refused}
 use Rattle.msc_chart.specs.declared.fault.ChartFault.{ChartFault}
 use Rattle.msc_parser.specs.Grammar.{Tree}
@@ -19,10 +18,11 @@ use Rattle.msc_command.proofs.Answered.{answers_so}
 use Rattle.msc_command.specs.Answering.{Answers, Does, RefusesLinked}
 use Rattle.msc_command.specs.Charted.{of_diagram, of_text, ChartedText}
 use Rattle.msc_command.specs.Drafted.{of_chart, of_scenario, IsDrawnBy, PrintsBy, RefusesBy}
-use Rattle.msc_command.specs.Importing.{wanted_of, IsChosen, IsNotImported}
+use Rattle.msc_command.specs.Importing.{wanted_of, IsChosenDiagram, IsNotImported}
 use Rattle.msc_command.specs.declared.ending.Refusal.{Refusal}
 use Rattle.msc_command.specs.declared.ending.Refusal.TheVariants as refusals
 use Rattle.msc_command.specs.declared.ending.Status.{Status}
+use Rattle.msc_command.specs.declared.importing.ImportedDiagram.{ImportedDiagram}
 use Rattle.msc_command.specs.declared.tasks.ChartCommand.{ChartCommand}
 use Rattle.msc_command.specs.declared.tasks.ChosenArgs.{ChosenArgs}
 use Rattle.msc_command.specs.declared.tasks.LinkWords.{LinkWords}
@@ -37,9 +37,9 @@ drawn_text text source is s same =
     (is.2.has, is.2.faultless, same ∙ (rw (is.1, is.2.chart) refl))
 
 -- and so is a diagram with its import
-pub drawn_diagram : (x : ChosenArgs) (text : List ℕ) (is : Imported) → IsChosen x text is → (s : ChartedText)
-    → s ≡ of_diagram text is → IsDrawnBy (Some x) text is.draft s
-drawn_diagram x text is chosen s same = (is, chosen, refl, same)
+pub drawn_diagram : (x : ChosenArgs) (text : List ℕ) (drawing : ImportedDiagram) → IsChosenDiagram x text drawing → (s : ChartedText)
+    → s ≡ of_diagram text drawing → IsDrawnBy (Some x) text drawing.imported.draft s
+drawn_diagram x text drawing chosen s same = (drawing, chosen, refl, same)
 
 module _ (ask : ChartCommand) (words : LinkWords) (s : ChartedText) where
   -- a chart is not refused as a text that has none

@@ -1,5 +1,5 @@
 -- What is answered for a task.
-use Rattle.std.specs.Prelude.{◌≡◌, ◌<◌, ◌⊎◌, ◌++◌, ℕ, Bool, true, List, [], length, Option, None, Some, Result, Ok, Err, ◌||◌, is_some}
+use Rattle.std.specs.Prelude.{◌≡◌, ◌<◌, ◌⊎◌, ◌++◌, ℕ, Bool, true, List, [], length, Option, None, Some, Result, Ok, Err, ◌||◌, false, is_some}
 use Rattle.std.specs.Io.KnownBytes.{Appends}
 use Rattle.msc_chart.specs.declared.queue.Queues.{Queues}
 use Rattle.msc_chart.specs.Drawings.{Drawing}
@@ -36,7 +36,7 @@ use Rattle.msc_command.specs.Refused.{form_of, AreTold, TellsRefusal, TellsUnrea
 use Rattle.msc_command.specs.Rounds.{HasRoom, LacksRounds}
 use Rattle.msc_command.specs.Scenarios.{BeginsScenarios, PrintsScenarios, RefusesScenarios}
 use Rattle.msc_command.specs.Sited.{AreSited, IsStyle}
-use Rattle.msc_command.specs.Surveys.{many_in, refused_text, BeginsSurvey, Surveys}
+use Rattle.msc_command.specs.Surveys.{many_in, refused_end, refused_text, BeginsSurvey, Surveys}
 use Rattle.msc_command.specs.declared.ending.Refusal.{Refusal}
 use Rattle.msc_command.specs.declared.ending.Refusal.TheVariants as refusals
 use Rattle.msc_command.specs.declared.ending.Status.{Status}
@@ -125,7 +125,7 @@ RefusesLinked ask words s refusal =
 -- checked; else of the one
 abbrev pub PrintsDiagrams : Option Found → ScenarioArgs → List ℕ → List ℕ → Status → List ℕ → Type 0
 PrintsDiagrams None x file text status printed = PrintsScenarios x file text status printed
-PrintsDiagrams (Some f) x file text status printed = Surveys x file text f.numbers Done status printed
+PrintsDiagrams (Some f) x file text status printed = Surveys x file text f.numbers false Done status printed
 
 -- what begins that, where memory ran out
 abbrev pub BeginsDiagrams : Option Found → ScenarioArgs → List ℕ → List ℕ → List ℕ → Type 0
@@ -234,12 +234,14 @@ abbrev pub IsPut : {W : Type 0} → (W → Option (List ℕ)) → List ℕ → S
 IsPut contents bytes status (Ok s) old new = (s ≡ status) × Appends (contents old) (contents new) bytes
 IsPut contents bytes status (Err refusal) old new = refusal ≡ refusals.Fault Device
 
--- A diagram of several that is refused was told so: its text and its lines went behind the known
--- bytes of a writer; or memory ran out, with nothing or its text behind them; or the writer failed.
+-- A diagram of several that is refused was told so: its text, its lines and what follows them went
+-- behind the known bytes of a writer; or memory ran out, with nothing, its text or its lines behind
+-- them; or the writer failed.
 abbrev pub TellsBlock : {W : Type 0} → (W → Option (List ℕ)) → ScenarioArgs → List ℕ → List ℕ → ℕ → Refusal
     → Result (Unit {0}) Refusal → W → W → Type 0
 TellsBlock contents x file text n refusal (Ok u) old new =
-    (lines : List ℕ) × AreTold (form_of (Scenarios x)) file text refusal lines × Appends (contents old) (contents new) (refused_text x file n ++ lines)
+    (lines : List ℕ) × AreTold (form_of (Scenarios x)) file text refusal lines × Appends (contents old) (contents new) (refused_text x file n ++ (lines ++ refused_end x))
 TellsBlock contents x file text n refusal (Err other) old new =
-    ((other ≡ refusals.Fault Memory) × ((new ≡ old) ⊎ Appends (contents old) (contents new) (refused_text x file n)))
+    ((other ≡ refusals.Fault Memory) × ((new ≡ old) ⊎ (Appends (contents old) (contents new) (refused_text x file n)
+    ⊎ ((lines : List ℕ) × AreTold (form_of (Scenarios x)) file text refusal lines × Appends (contents old) (contents new) (refused_text x file n ++ lines)))))
     ⊎ (other ≡ refusals.Fault Device)

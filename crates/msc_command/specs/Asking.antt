@@ -348,14 +348,18 @@ pub record IsImporting (found : Found) (x : ImportArgs) : Type 0 where
   pub chosen : AreChosen found x.chosen
   pub list : IsFlag found (arg_word words.Listed) x.list
 
--- how many races of a diagram are shown by runs, if no word gives a number: all if the words ask
--- for a run in words or for a short one, else none
+-- how many races of a diagram are shown by runs in a format, if no word gives a number: all if runs are
+-- asked for, but of findings as people read them none
+abbrev pub shown_by : Format → Bool → ℕ
+shown_by format asks = cond (asks && not (is_full format)) unlimited 0
+
+-- the same by the words: they ask for runs in words, or for short ones
 pub record AreRunsShown (found : Found) (shown : ℕ) : Type 0 where
   pub in_words : Bool
   pub words_wanted : IsFlag found (arg_word words.Words) in_words
   pub short : Bool
   pub short_wanted : IsFlag found (arg_word words.Short) short
-  pub number : shown ≡ cond (in_words || short) unlimited 0
+  pub number : shown ≡ shown_by (format found) (in_words || short)
 
 -- what the words of `check` ask of the scenarios of a diagram
 pub record IsSurvey (found : Found) (x : ScenarioArgs) : Type 0 where
@@ -386,10 +390,6 @@ pub record AreTextArgs (found : Found) (x : TextArgs) : Type 0 where
   pub diagram : IsOrigin found x.diagram
   pub links : AreLinkWords found x.links
 
--- the words of `ready` ask for findings on a diagram as people read them
-abbrev pub is_full_of_diagram : Found → Bool
-is_full_of_diagram found = is_of_scenarios found && is_full (format_of_sticks found)
-
 -- What the words behind a command ask for. What is to be quiet is told by the status alone.
 abbrev pub AsksFor : CommandName → Found → Task → Type 0
 AsksFor command_names.Read found (Read chosen) = IsOrigin found chosen
@@ -412,7 +412,7 @@ AsksFor command_names.Reverse found (Draw (drawn.Run r) text) = AreReverseArgs f
 AsksFor command_names.Report found (Draw (drawn.Report queues) text) =
     (architecture found ≡ Some queues) × AreTextArgs found text
 AsksFor command_names.Ready found (Chart (Ready x) text) =
-    AreReadyArgs found x × AreTextArgs found text × (is_full_of_diagram found ≡ false)
+    AreReadyArgs found x × AreTextArgs found text
 AsksFor command_names.Import found (Import x) = IsImporting found x
 AsksFor command_name found task = ⊥
 

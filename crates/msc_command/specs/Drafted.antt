@@ -2,14 +2,14 @@
 use Rattle.std.specs.Prelude.{◌≡◌, ℕ, List, Option, None, Some}
 use Rattle.msc_chart.specs.Drawings.{chart_of}
 use Rattle.msc_chart.specs.Faults.{IsFaultless, IsFirstFault}
-use Rattle.msc_import.specs.declared.importing.Imported.{Imported}
 use Rattle.msc_parser.specs.Grammar.{Tree}
 use Rattle.msc_parser.specs.Parsing.{HasDraft, HasParseFault}
 use Rattle.msc_report.specs.declared.fault.Fault.TheVariants.{Parse, Chart}
 use Rattle.msc_command.specs.Charted.{of_diagram, of_text, ChartedText}
-use Rattle.msc_command.specs.Importing.{IsChosen, RefusesImport}
+use Rattle.msc_command.specs.Importing.{IsChosenDiagram, RefusesImport}
 use Rattle.msc_command.specs.declared.ending.Refusal.{Refusal}
 use Rattle.msc_command.specs.declared.ending.Refusal.TheVariants as refusals
+use Rattle.msc_command.specs.declared.importing.ImportedDiagram.{ImportedDiagram}
 use Rattle.msc_command.specs.declared.ending.Status.{Status}
 use Rattle.msc_command.specs.declared.tasks.ChosenArgs.{ChosenArgs}
 use Rattle.msc_command.specs.declared.tasks.LinkWords.{LinkWords}
@@ -25,7 +25,7 @@ of_scenario x links = record { diagram = Some x; links = links }
 -- a text is read as this draft
 abbrev pub IsReadBy : Option ChosenArgs → List ℕ → Tree → Type 0
 IsReadBy None text draft = HasDraft text draft
-IsReadBy (Some x) text draft = (is : Imported) × IsChosen x text is × (draft ≡ is.draft)
+IsReadBy (Some x) text draft = (drawing : ImportedDiagram) × IsChosenDiagram x text drawing × (draft ≡ drawing.imported.draft)
 
 -- why a text is read as no draft
 abbrev pub IsUnreadBy : Option ChosenArgs → List ℕ → Refusal → Type 0
@@ -36,7 +36,8 @@ IsUnreadBy (Some x) text refusal = RefusesImport x text refusal
 -- a text is read as this draft, and this is the text with its chart
 abbrev pub IsDrawnBy : Option ChosenArgs → List ℕ → Tree → ChartedText → Type 0
 IsDrawnBy None text draft s = HasDraft text draft × IsFaultless draft × (s ≡ of_text text (chart_of draft))
-IsDrawnBy (Some x) text draft s = (is : Imported) × IsChosen x text is × (draft ≡ is.draft) × (s ≡ of_diagram text is)
+IsDrawnBy (Some x) text draft s =
+    (drawing : ImportedDiagram) × IsChosenDiagram x text drawing × (draft ≡ drawing.imported.draft) × (s ≡ of_diagram text drawing)
 
 -- this is printed of the draft of a text, and of the text with its chart
 abbrev pub PrintsBy : Option ChosenArgs → List ℕ → (Tree → ChartedText → Status → List ℕ → Type 0) → Status → List ℕ → Type 0

@@ -1,14 +1,26 @@
 -- In which format the races of a chart are told, and its sticks.
-use Rattle.std.specs.Prelude.{◌≡◌, ℕ, List, Option, None}
+use Rattle.std.specs.Prelude.{◌≡◌, ℕ, Bool, List, [], Option, None, Some}
+use Rattle.std.specs.String.{string_bytes}
+use Rattle.msc_chart.specs.Drawings.{Drawing}
+use Rattle.msc_chart.specs.declared.queue.Queues.{Queues}
+use Rattle.msc_diagram.specs.Arrows.{arrows_of, rounds_of}
+use Rattle.msc_findings.specs.declared.format.FullFormat.{FullFormat}
 use Rattle.msc_mark.specs.declared.mark.Mark.{Mark}
 use Rattle.msc_report.specs.declared.ready_format.ReadyFormat.TheVariants as ready_formats
 use Rattle.msc_shown_chart.specs.Charts.{IsFullFormat}
+use Rattle.msc_shown_diagram.specs.Diagrams.{AreScenarioEvents, IsScenarioText, Lends}
+use Rattle.msc_shown_diagram.specs.declared.lent.LentDiagram.{LentDiagram}
+use Rattle.msc_shown_diagram.specs.declared.lent.ScenarioEvents.{ScenarioEvents}
 use Rattle.msc_text.specs.declared.judging.ChartFormat.{ChartFormat}
 use Rattle.msc_text.specs.declared.judging.ChartFormat.TheVariants as chart_formats
 use Rattle.msc_text.specs.declared.stick_format.StickFormat.{StickFormat}
 use Rattle.msc_text.specs.declared.stick_format.StickFormat.TheVariants as stick_formats
 use Rattle.msc_command.specs.Charted.{ChartedText}
+use Rattle.msc_command.specs.ShownDiagrams.{line_in, IsShownDiagram}
 use Rattle.msc_command.specs.Sited.{HasEventPositions, IsStyle}
+use Rattle.msc_command.specs.declared.importing.ImportedDiagram.{ImportedDiagram}
+use Rattle.msc_command.specs.declared.shown_diagram.DiagramText.{DiagramText}
+use Rattle.msc_command.specs.declared.shown_diagram.ShownDiagram.{ShownDiagram}
 use Rattle.msc_command.specs.declared.tasks.CheckArgs.{CheckArgs}
 use Rattle.msc_command.specs.declared.tasks.ReadyArgs.{ReadyArgs}
 use Rattle.msc_command.specs.declared.tasks.Format.{Format}
@@ -26,12 +38,40 @@ IsFormatIn format c file s marks chart_format = ⊥
 abbrev pub IsFormat : CheckArgs → List ℕ → ChartedText → Option (List Mark) → ChartFormat → Type 0
 IsFormat c file s marks chart_format = IsFormatIn c.format c file s marks chart_format
 
+-- this is the diagram of a text of which this was imported
+pub record IsDrawingOf (text : List ℕ) (x : ImportedDiagram) (told : DiagramText) : Type 0 where
+  pub text_is : told.text.now ≡ text
+  pub diagram_is : told.diagram.now ≡ x.diagram
+  pub line_is : told.line ≡ line_in x.number text
+
+-- This is the format of findings on a scenario of a diagram under an architecture, in a file of this
+-- name: by the words of the diagram, and the events of the scenario. It has no marks.
+pub record IsFullScenario (d : Drawing) (queues : Queues) (file text : List ℕ) (colours : Bool) (x : ImportedDiagram) (full : FullFormat) : Type 0 where
+  pub told : DiagramText
+  pub file_is : told.file.now ≡ file
+  pub told_is : IsDrawingOf text x told
+  pub shown : ShownDiagram
+  pub is : IsShownDiagram told x.imported.spans.shown d queues shown
+  pub lent : LentDiagram
+  pub lends : Lends text shown.words lent
+  pub events : ScenarioEvents
+  pub are : AreScenarioEvents d queues lent.words.now (arrows_of x.diagram.statements x.imported.spans.events) (rounds_of x.imported.spans.events) events
+  pub text_of : IsScenarioText lent events colours full.text
+  pub unmarked : full.marks.now ≡ []
+  pub label : full.file.now ≡ string_bytes shown.label
+  pub queues_are : full.queues.now ≡ string_bytes shown.queues
+
+-- the format of findings on the chart of a text, without marks: the text is a diagram, or draws its chart
+abbrev pub IsFullBy : Option ImportedDiagram → Drawing → Queues → List ℕ → List ℕ → Bool → FullFormat → Type 0
+IsFullBy None d queues file text colours full = IsFullFormat d queues file text None colours full
+IsFullBy (Some x) d queues file text colours full = IsFullScenario d queues file text colours x full
+
 -- the format of a form, of sticks; no marks belong to these
 abbrev pub IsReadyFormatIn : Format → ReadyArgs → List ℕ → ChartedText → StickFormat → Type 0
 IsReadyFormatIn formats.Text x file s (stick_formats.Plain (ready_formats.Lines style)) = IsStyle x.event_style file s style
 IsReadyFormatIn formats.Count x file s (stick_formats.Plain (ready_formats.Count name)) = name.now ≡ file
 IsReadyFormatIn formats.Lines x file s (stick_formats.Plain (ready_formats.Editor event_positions)) = HasEventPositions file s event_positions.now
-IsReadyFormatIn formats.Full x file s (stick_formats.Full full) = IsFullFormat s.chart x.queues file s.text None x.colours full
+IsReadyFormatIn formats.Full x file s (stick_formats.Full full) = IsFullBy s.drawing s.chart x.queues file s.text x.colours full
 IsReadyFormatIn format x file s stick_format = ⊥
 
 -- the format of sticks that is asked for

@@ -30,6 +30,7 @@ use Rattle.msc_source.specs.declared.fault.SourceFault.TheVariants as sources
 use Rattle.msc_command.specs.Linked.{AreNamesOf}
 use Rattle.msc_command.specs.Spans.{bytes_at}
 use Rattle.msc_command.specs.declared.ending.Refusal.{Refusal}
+use Rattle.msc_command.specs.declared.importing.ImportedDiagram.{ImportedDiagram}
 use Rattle.msc_command.specs.declared.ending.Refusal.TheVariants as refusals
 use Rattle.msc_command.specs.declared.ending.Status.{Status}
 use Rattle.msc_command.specs.declared.ending.Status.TheVariants.{Done}
@@ -252,13 +253,21 @@ abbrev pub IsImportAs : Wanted → List ℕ → Result Imported Refusal → Type
 IsImportAs x text (Ok is) = (imported x text ≡ Ok is) × IsReadAgain is.draft
 IsImportAs x text (Err refusal) = IsNotImported (imported x text) refusal
 
-abbrev pub IsImport : ChosenArgs → List ℕ → Result Imported Refusal → Type 0
-IsImport x text answer = IsImportAs (wanted_of x) text answer
-
 -- the diagram of a text, or why there is none
 abbrev pub IsReadFor : Wanted → List ℕ → Result Diagram Refusal → Type 0
 IsReadFor x text (Ok d) = read (reading_of_wanted x) text ≡ Ok d
 IsReadFor x text (Err refusal) = IsNotImported (read (reading_of_wanted x) text) refusal
+
+-- what is imported of a diagram, and the diagram with its number, if that is given; or why nothing is
+pub record IsImportedDiagram (number : Option ℕ) (x : Wanted) (text : List ℕ) (drawing : ImportedDiagram) : Type 0 where
+  pub imported_is : imported x text ≡ Ok drawing.imported
+  pub again : IsReadAgain drawing.imported.draft
+  pub diagram_is : read (reading_of_wanted x) text ≡ Ok drawing.diagram
+  pub number_is : drawing.number ≡ number
+
+abbrev pub IsImportBy : Option ℕ → Wanted → List ℕ → Result ImportedDiagram Refusal → Type 0
+IsImportBy number x text (Ok drawing) = IsImportedDiagram number x text drawing
+IsImportBy number x text (Err refusal) = IsNotImported (imported x text) refusal
 
 -- this is imported of a text: a chart, whose text is read again as its draft
 pub record IsChosen (x : ChosenArgs) (text : List ℕ) (is : Imported) : Type 0 where
@@ -266,9 +275,15 @@ pub record IsChosen (x : ChosenArgs) (text : List ℕ) (is : Imported) : Type 0 
   pub again : IsReadAgain is.draft
   pub faultless : IsFaultless is.draft
 
+-- the same, with the diagram and its number, if that is given
+pub record IsChosenDiagram (x : ChosenArgs) (text : List ℕ) (drawing : ImportedDiagram) : Type 0 where
+  pub chosen : IsChosen x text drawing.imported
+  pub diagram_is : read (reading_of_wanted (wanted_of x)) text ≡ Ok drawing.diagram
+  pub number_is : drawing.number ≡ x.diagram.fence
+
 -- this, or why nothing is imported
-abbrev pub IsChartImport : ChosenArgs → List ℕ → Result Imported Refusal → Type 0
-IsChartImport x text (Ok is) = IsChosen x text is
+abbrev pub IsChartImport : ChosenArgs → List ℕ → Result ImportedDiagram Refusal → Type 0
+IsChartImport x text (Ok drawing) = IsChosenDiagram x text drawing
 IsChartImport x text (Err refusal) = IsNotImported (imported (wanted_of x) text) refusal
 
 -- what is printed of the text of a file: what is imported of it, whose text is read again as that

@@ -21,6 +21,7 @@ pub mod Own
 pub mod Linked
 pub mod Drafted
 pub mod Scenarios
+pub mod ShownDiagrams
 pub mod Surveys
 pub mod Answering
 pub mod Program

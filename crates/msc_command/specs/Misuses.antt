@@ -4,11 +4,11 @@ use Rattle.std.specs.Borrow.{Bor}
 use Rattle.clap.specs.Matches.{first_value}
 use Rattle.clap.specs.declared.parser.matches.Found.{Found}
 use Rattle.msc_report.specs.declared.pair.EventName.{EventName}
-use Rattle.msc_command.specs.Asking.{architecture, default_limit, format, is_full, is_full_of_diagram, is_limit, is_of_scenarios, lacks_from, lacks_queues, lacks_rounds, IsEventWord, IsFlag, IsNoName, IsOptionNumber, IsOrigin, IsTwofold}
+use Rattle.msc_command.specs.Asking.{architecture, default_limit, is_limit, is_of_scenarios, lacks_from, lacks_queues, lacks_rounds, IsEventWord, IsFlag, IsNoName, IsOptionNumber, IsOrigin, IsTwofold}
 use Rattle.msc_command.specs.Importing.{gives_choices, gives_rounds}
 use Rattle.msc_command.specs.Words.{arg_word}
 use Rattle.msc_command.specs.declared.misuse.Misuse.{Misuse}
-use Rattle.msc_command.specs.declared.misuse.Misuse.TheVariants.{Excluded, NoQueues, LacksEvent, NoEvent, NoChoices, NoDiagram, NotOfDiagrams, FullOfDiagrams, NoRounds, NoLimit}
+use Rattle.msc_command.specs.declared.misuse.Misuse.TheVariants.{Excluded, NoQueues, LacksEvent, NoEvent, NoChoices, NoDiagram, NotOfDiagrams, NoRounds, NoLimit}
 use Rattle.msc_command.specs.declared.tasks.ChosenArgs.{ChosenArgs}
 use Rattle.msc_command.specs.declared.words.CommandName.{CommandName}
 use Rattle.msc_command.specs.declared.words.CommandName.TheVariants as command_names
@@ -76,16 +76,12 @@ pub data IsDiagramMisuse (found : Found) (misuse : Misuse) : Type 0 where
       → lacks_rounds (first_value found (arg_word words.Rounds)) ≡ false
       → IsLimitMisuse found misuse → IsDiagramMisuse found misuse
 
--- findings as people read them cannot be requested of a diagram
-abbrev pub IsFullMisuse : Found → Misuse → Type 0
-IsFullMisuse found misuse = (misuse ≡ FullOfDiagrams) × (is_full (format found) ≡ true)
-
 -- words of diagrams are given to `check` without `--from`, or this is wrong with what it is to do
 -- with a diagram
 abbrev pub IsCheckMisuse : Found → Misuse → Type 0
 IsCheckMisuse found misuse =
     ((misuse ≡ NoDiagram) × (lacks_from found ≡ true))
-    ⊎ ((is_of_scenarios found ≡ true) × (IsFullMisuse found misuse ⊎ IsDiagramMisuse found misuse))
+    ⊎ ((is_of_scenarios found ≡ true) × IsDiagramMisuse found misuse)
 
 -- the word for choices gives none
 pub record IsImportMisuse (found : Found) (misuse : Misuse) : Type 0 where
@@ -110,12 +106,6 @@ abbrev pub IsDrawMisuse : Found → Misuse → Type 0
 IsDrawMisuse found misuse =
     ((misuse ≡ NoQueues) × (lacks_queues found ≡ true)) ⊎ ((lacks_queues found ≡ false) × IsOriginMisuse found misuse)
 
--- findings on a diagram as people read them cannot be requested of `ready`
-abbrev pub IsReadyMisuse : Found → Misuse → Type 0
-IsReadyMisuse found misuse =
-    IsOriginMisuse found misuse
-    ⊎ (((chosen : Option ChosenArgs) × IsOrigin found chosen) × (misuse ≡ FullOfDiagrams) × (is_full_of_diagram found ≡ true))
-
 -- the first thing that is wrong with the words behind a command, where none exclude each other
 abbrev pub IsWordMisuse : CommandName → Found → Misuse → Type 0
 IsWordMisuse command_names.Read found misuse = IsOriginMisuse found misuse
@@ -125,7 +115,6 @@ IsWordMisuse command_names.Import found misuse = IsImportMisuse found misuse
 IsWordMisuse command_names.Check found misuse = IsQueuesMisuse found misuse ⊎ IsCheckMisuse found misuse
 IsWordMisuse command_names.Explain found misuse = IsQueuesMisuse found misuse ⊎ IsPairedMisuse found misuse
 IsWordMisuse command_names.Reverse found misuse = IsQueuesMisuse found misuse ⊎ IsPairedMisuse found misuse
-IsWordMisuse command_names.Ready found misuse = IsQueuesMisuse found misuse ⊎ IsReadyMisuse found misuse
 IsWordMisuse command_name found misuse = IsQueuesMisuse found misuse ⊎ IsOriginMisuse found misuse
 
 -- the words behind a command are none for this reason, the first one: they exclude each other, or

@@ -1,10 +1,12 @@
 -- What is asked of the races of all scenarios of a diagram.
-use Rattle.std.specs.Prelude.{◌≡◌, ℕ, Bool, true, false, ◌&&◌, not, List, [], map, Option, option_map, Result, Ok, Err, is_ok, nat_eq}
+use Rattle.std.specs.Prelude.{◌≡◌, ◌⊎◌, ℕ, Bool, true, false, ◌&&◌, not, List, [], ◌∷◌, map, Option, option_map, Result, Ok, Err, is_ok, nat_eq}
 use Rattle.msc_chart.specs.declared.queue.Queues.{Queues}
 use Rattle.msc_chart.specs.Architectures.{usual_of}
 use Rattle.msc_chart.specs.Faults.{IsFaultless, IsFirstFault}
-use Rattle.msc_diagram.specs.Judging.{BeginsScenarios as BeginsOf, JudgesScenarios, PassesScenarios}
+use Rattle.msc_diagram.specs.Judging.{BeginsScenarios as BeginsOf, JudgesScenarios, PassesScenarios, TellsScenarios}
 use Rattle.msc_diagram.specs.Scenarios.{diagram_top, first_chart}
+use Rattle.msc_diagram.specs.declared.full.Following.{Following}
+use Rattle.msc_diagram.specs.declared.full.Following.TheVariants.{Help}
 use Rattle.msc_diagram.specs.declared.judging.DiagramFormat.{DiagramFormat as DiagramFormat}
 use Rattle.msc_diagram.specs.declared.judging.DiagramFormat.TheVariants as diagrams
 use Rattle.msc_diagram.specs.declared.scenario.Scenario.{Scenario}
@@ -13,15 +15,19 @@ use Rattle.msc_import.specs.Whole.{WantedAll, imported_all, may_draw, reading_of
 use Rattle.msc_import.specs.declared.drawings.Scenario.{Scenario as Drawn}
 use Rattle.msc_import.specs.declared.whole.Scenarios.{Scenarios}
 use Rattle.msc_mermaid.specs.declared.statement.Diagram.{Diagram}
+use Rattle.msc_print.specs.declared.page.WriteFault.{WriteFault}
+use Rattle.msc_print.specs.declared.page.WriteFault.TheVariants as faults
 use Rattle.msc_report.specs.declared.fault.Fault.TheVariants.{Chart, Memory}
 use Rattle.msc_command.specs.Charting.{with_chart, AreCharts}
 use Rattle.msc_command.specs.Ending.{ended_by}
 use Rattle.msc_command.specs.Importing.{IsNotImported, rounds_of}
 use Rattle.msc_command.specs.Linked.{AreLinkedIn, HasLinkFaultIn}
+use Rattle.msc_command.specs.ShownDiagrams.{line_in, IsFullDiagram}
 use Rattle.msc_command.specs.declared.ending.Refusal.{Refusal}
 use Rattle.msc_command.specs.declared.ending.Refusal.TheVariants as refusals
 use Rattle.msc_command.specs.declared.ending.Status.{Status}
 use Rattle.msc_command.specs.declared.scenarios.Surveyed.{Surveyed}
+use Rattle.msc_command.specs.declared.scenarios.Told.{Told}
 use Rattle.msc_command.specs.declared.tasks.CheckArgs.{CheckArgs}
 use Rattle.msc_command.specs.declared.tasks.Format.TheVariants as formats
 use Rattle.msc_command.specs.declared.tasks.Format.{Format}
@@ -65,38 +71,69 @@ IsCharted file s (Err refusal) = ⊥
 abbrev pub draws_branches : ScenarioArgs → List ℕ → Bool
 draws_branches x text = may_draw x.diagram.manner.par && not (is_ok (imported_all (refusing (wanted_of x)) text))
 
--- the form in which scenarios are told, of the file of this name, and whether parallel branches are
--- drawn one below the other
-abbrev pub IsDiagramFormatIn : Format → Bool → List ℕ → Bool → DiagramFormat → Type 0
-IsDiagramFormatIn formats.Text wordy file drawn (diagrams.Lines event_style) = (event_style.words ≡ wordy) × (event_style.drawn ≡ drawn)
-IsDiagramFormatIn formats.Full wordy file drawn (diagrams.Lines event_style) = (event_style.words ≡ wordy) × (event_style.drawn ≡ drawn)
-IsDiagramFormatIn formats.Count wordy file drawn (diagrams.Count name) = name.now ≡ file
-IsDiagramFormatIn formats.Lines wordy file drawn diagrams.Editor = Unit {0}
-IsDiagramFormatIn format wordy file drawn of_diagram = ⊥
+-- the form in which scenarios are told, of which this is told besides
+abbrev pub IsDiagramFormatIn : Format → CheckArgs → Told → List Scenario → DiagramFormat → Type 0
+IsDiagramFormatIn formats.Text c t scenarios (diagrams.Lines style) = (style.words ≡ c.event_style.words) × (style.drawn ≡ t.drawn)
+IsDiagramFormatIn formats.Count c t scenarios (diagrams.Count name) = name.now ≡ t.counted.now
+IsDiagramFormatIn formats.Lines c t scenarios diagrams.Editor = Unit {0}
+IsDiagramFormatIn formats.Full c t (s ∷ scenarios) (diagrams.Full full) =
+    IsFullDiagram t.diagram s.spans.shown s.chart c.queues c.colours t.following full
+IsDiagramFormatIn format c t scenarios of_diagram = ⊥
 
-abbrev pub IsFormatOf : CheckArgs → List ℕ → Bool → DiagramFormat → Type 0
-IsFormatOf c file drawn format = IsDiagramFormatIn c.format c.event_style.words file drawn format
+abbrev pub IsFormatOf : CheckArgs → Told → List Scenario → DiagramFormat → Type 0
+IsFormatOf c t scenarios format = IsDiagramFormatIn c.format c t scenarios format
 
--- What is printed of the races of these scenarios, of a diagram of this name, how the check of them
--- ends, and how many places of races are listed: nothing is where the status alone tells.
-abbrev pub PrintsCounted : Bool → CheckArgs → List ℕ → List ℕ → Bool → List Scenario → Surveyed → List ℕ → Type 0
-PrintsCounted true c file name drawn scenarios one printed =
+-- the first lines of the answer, in the forms that have some
+abbrev pub top_in : DiagramFormat → CheckArgs → Told → List Scenario → List ℕ
+top_in (diagrams.Full full) c t scenarios = []
+top_in form c t scenarios = diagram_top t.name.now (first_chart scenarios) c.queues
+
+-- What is printed of the races of these scenarios, of which this is told besides, how the check of
+-- them ends, and how many places of races are listed: nothing is where the status alone tells.
+abbrev pub PrintsCounted : Bool → CheckArgs → Told → List Scenario → Surveyed → List ℕ → Type 0
+PrintsCounted true c t scenarios one printed =
     (passed : Bool) × (one.status ≡ ended_by passed) × (one.listed ≡ 0)
     × PassesScenarios scenarios c.queues c.options.allowed passed × (printed ≡ [])
-PrintsCounted false c file name drawn scenarios one printed =
-    (format : DiagramFormat) × IsFormatOf c file drawn format
-    × (one.status ≡ ended_by (nat_eq one.listed 0)) × JudgesScenarios (diagram_top name (first_chart scenarios) c.queues) scenarios c.queues c.options format one.listed printed
+PrintsCounted false c t scenarios one printed =
+    (format : DiagramFormat) × IsFormatOf c t scenarios format
+    × (one.status ≡ ended_by (nat_eq one.listed 0)) × JudgesScenarios (top_in format c t scenarios) scenarios c.queues c.options format one.listed printed
+
+-- this is the first of these scenarios
+abbrev pub IsFirst : List Scenario → Scenario → Type 0
+IsFirst [] s = ⊥
+IsFirst (first ∷ scenarios) s = first ≡ s
+
+-- The races of these scenarios were told in a form that this asks for, and so many are listed; or
+-- memory ran out, and the writer has had no call or has what begins that; or the writer failed.
+abbrev pub TellsFormat : {W : Type 0} → (W → Option (List ℕ)) → CheckArgs → Told → List Scenario → Result ℕ WriteFault → W → W → Type 0
+TellsFormat contents c t scenarios result old new =
+    ((format : DiagramFormat) × IsFormatOf c t scenarios format × TellsScenarios contents
+    (JudgesScenarios (top_in format c t scenarios) scenarios c.queues c.options format)
+    (BeginsOf (top_in format c t scenarios) scenarios c.queues c.options format) result old new)
+    ⊎ ((result ≡ Err faults.Memory) × (new ≡ old))
 
 -- what is printed of them, and how the run ends
-abbrev pub PrintsAll : Bool → CheckArgs → List ℕ → List ℕ → Bool → List Scenario → Status → List ℕ → Type 0
-PrintsAll quiet c file name drawn scenarios status printed =
-    (listed : ℕ) × PrintsCounted quiet c file name drawn scenarios (record { status = status; listed = listed }) printed
+abbrev pub PrintsAll : Bool → CheckArgs → Told → List Scenario → Status → List ℕ → Type 0
+PrintsAll quiet c t scenarios status printed =
+    (listed : ℕ) × PrintsCounted quiet c t scenarios (record { status = status; listed = listed }) printed
 
 -- what that begins with, where memory ran out
-abbrev pub BeginsAll : Bool → CheckArgs → List ℕ → List ℕ → Bool → List Scenario → List ℕ → Type 0
-BeginsAll true c file name drawn scenarios printed = ⊥
-BeginsAll false c file name drawn scenarios printed =
-    (format : DiagramFormat) × IsFormatOf c file drawn format × BeginsOf (diagram_top name (first_chart scenarios) c.queues) scenarios c.queues c.options format printed
+abbrev pub BeginsAll : Bool → CheckArgs → Told → List Scenario → List ℕ → Type 0
+BeginsAll true c t scenarios printed = ⊥
+BeginsAll false c t scenarios printed =
+    (format : DiagramFormat) × IsFormatOf c t scenarios format × BeginsOf (top_in format c t scenarios) scenarios c.queues c.options format printed
+
+-- This is told of the diagram of a text, in a file of this name, by its names, the first line of its
+-- block, and what follows its findings.
+pub record IsToldOf (x : ScenarioArgs) (file text name counted : List ℕ) (line : Option ℕ) (following : Following) (t : Told) : Type 0 where
+  pub file_is : t.diagram.file.now ≡ file
+  pub text_is : t.diagram.text.now ≡ text
+  pub read_as : read (reading_of_all (wanted_of x)) text ≡ Ok t.diagram.diagram.now
+  pub line_is : t.diagram.line ≡ line
+  pub name_is : t.name.now ≡ name
+  pub counted_is : t.counted.now ≡ counted
+  pub drawn_is : t.drawn ≡ draws_branches x text
+  pub following_is : t.following ≡ following
 
 -- the same check under another architecture
 abbrev pub checked_under : Queues → CheckArgs → CheckArgs
@@ -122,11 +159,13 @@ IsLinkedArgs x text scenarios (Err refusal) = ⊥
 -- what is printed of a text of this file
 abbrev pub PrintsScenarios : ScenarioArgs → List ℕ → List ℕ → Status → List ℕ → Type 0
 PrintsScenarios x file text status printed =
-    OfScenarios x file text (λ c name scenarios. PrintsAll x.quiet c file name (draws_branches x text) scenarios status printed)
+    OfScenarios x file text (λ c name scenarios. (t : Told) × IsToldOf x file text name file (line_in x.diagram.fence text) Help t
+    × PrintsAll x.quiet c t scenarios status printed)
 
 abbrev pub BeginsScenarios : ScenarioArgs → List ℕ → List ℕ → List ℕ → Type 0
 BeginsScenarios x file text printed =
-    OfScenarios x file text (λ c name scenarios. BeginsAll x.quiet c file name (draws_branches x text) scenarios printed)
+    OfScenarios x file text (λ c name scenarios. (t : Told) × IsToldOf x file text name file (line_in x.diagram.fence text) Help t
+    × BeginsAll x.quiet c t scenarios printed)
 
 -- why nothing is printed: there are no scenarios, or a rule is faulty. Each of them is a chart
 abbrev pub RefusesScenarios : ScenarioArgs → List ℕ → Refusal → Type 0

@@ -1,20 +1,26 @@
 -- What is answered of all sequence diagrams of a Markdown text: one after the other, in the order
 -- of their numbers.
-use Rattle.std.specs.Prelude.{◌≡◌, ◌⊎◌, ◌-◌, ◌++◌, ◌||◌, ℕ, cond, nat_eq, nat_le, List, [], ◌∷◌, length, map, Option, None, Some, Result, Ok, Err, codes}
+use Rattle.std.specs.Prelude.{◌≡◌, ◌⊎◌, ◌-◌, ◌++◌, ◌||◌, ◌&&◌, ℕ, Bool, cond, not, nat_eq, nat_le, nat_lt, List, [], ◌∷◌, length, map, Option, None, Some, Result, Ok, Err, codes}
 use Rattle.std.specs.Fmt.{decimal}
+use Rattle.msc_diagram.specs.declared.full.Following.TheVariants.{Blank}
+use Rattle.msc_findings.specs.Closing.{marked_help}
 use Rattle.msc_import.specs.Drafting.{chart_name}
 use Rattle.msc_judge.specs.declared.options.CheckOptions.{CheckOptions}
 use Rattle.msc_markdown.specs.Markdowns.{Found, markdown}
 use Rattle.msc_mermaid.specs.declared.fault.ImportFault.{ImportFault}
 use Rattle.msc_place.specs.Texts.{shown_byte}
+use Rattle.msc_wording.specs.declared.closing.MarkedText.TheVariants as texts
 use Rattle.msc_report.specs.Texts.{text_line}
 use Rattle.msc_command.specs.Ending.{status_code}
 use Rattle.msc_command.specs.Refused.{form_of, AreTold}
-use Rattle.msc_command.specs.Scenarios.{draws_branches, with_fence, BeginsAll, OfScenarios, PrintsCounted, RefusesScenarios}
+use Rattle.msc_command.specs.Asking.{is_full}
+use Rattle.msc_command.specs.Scenarios.{with_fence, BeginsAll, IsToldOf, OfScenarios, PrintsCounted, RefusesScenarios}
+use Rattle.msc_command.specs.ShownDiagrams.{line_in}
 use Rattle.msc_command.specs.declared.ending.Refusal.{Refusal}
 use Rattle.msc_command.specs.declared.ending.Status.{Status}
 use Rattle.msc_command.specs.declared.ending.Status.TheVariants.{Refused}
 use Rattle.msc_command.specs.declared.scenarios.Surveyed.{Surveyed}
+use Rattle.msc_command.specs.declared.scenarios.Told.{Told}
 use Rattle.msc_command.specs.declared.tasks.Format.{Format}
 use Rattle.msc_command.specs.declared.tasks.Format.TheVariants as formats
 use Rattle.msc_command.specs.declared.tasks.ScenarioArgs.{ScenarioArgs}
@@ -53,25 +59,37 @@ numbered name n = name ++ (codes "#" ++ decimal n)
 -- what is printed of the diagram of this number: as of the text with this number, but for the names
 abbrev pub PrintsBlock : ScenarioArgs → List ℕ → List ℕ → ℕ → Surveyed → List ℕ → Type 0
 PrintsBlock x file text n one printed =
-    OfScenarios (at_block x n) file text (λ c name scenarios.
-    PrintsCounted x.quiet c (numbered file n) (numbered name n) (draws_branches (at_block x n) text) scenarios one printed)
+    OfScenarios (at_block x n) file text (λ c name scenarios. (t : Told)
+    × IsToldOf (at_block x n) file text (numbered name n) (numbered file n) (line_in (Some n) text) Blank t
+    × PrintsCounted x.quiet c t scenarios one printed)
 
 -- what that begins with, where memory ran out
 abbrev pub BeginsBlock : ScenarioArgs → List ℕ → List ℕ → ℕ → List ℕ → Type 0
 BeginsBlock x file text n printed =
-    OfScenarios (at_block x n) file text (λ c name scenarios.
-    BeginsAll x.quiet c (numbered file n) (numbered name n) (draws_branches (at_block x n) text) scenarios printed)
+    OfScenarios (at_block x n) file text (λ c name scenarios. (t : Told)
+    × IsToldOf (at_block x n) file text (numbered name n) (numbered file n) (line_in (Some n) text) Blank t
+    × BeginsAll x.quiet c t scenarios printed)
 
 -- what is printed of a diagram of this name that is refused, in the file of this one
 abbrev pub refused_in : Format → List ℕ → List ℕ → List ℕ
 refused_in formats.Text name file = codes "diagram " ++ (name ++ codes "\nrefused\n")
 refused_in formats.Count name file = codes "refused " ++ text_line (map shown_byte file)
 refused_in formats.Lines name file = []
-refused_in formats.Full name file = codes "diagram " ++ (name ++ codes "\nrefused\n")
+refused_in formats.Full name file = []
 
 abbrev pub refused_text : ScenarioArgs → List ℕ → ℕ → List ℕ
 refused_text x file n =
     cond x.quiet [] (refused_in x.check_args.format (numbered (chart_name x.diagram.name.now) n) (numbered file n))
+
+-- what follows a refused diagram: an empty line, in findings as people read them
+abbrev pub refused_end : ScenarioArgs → List ℕ
+refused_end x = cond (not x.quiet && is_full x.check_args.format) (codes "\n") []
+
+-- what follows all diagrams, if races of one of them are listed or not: the help on marks, in findings
+-- as people read them
+abbrev pub survey_end : ScenarioArgs → Bool → List ℕ
+survey_end x is_listed =
+    cond (is_listed && (not x.quiet && is_full x.check_args.format)) (marked_help texts.Diagram x.check_args.colours) []
 
 -- the diagram of this number is refused: behind its text stands what the form has of the refusal
 pub record TellsRefusedBlock (x : ScenarioArgs) (file text : List ℕ) (n : ℕ) (one : Surveyed) (printed : List ℕ) : Type 0 where
@@ -80,7 +98,7 @@ pub record TellsRefusedBlock (x : ScenarioArgs) (file text : List ℕ) (n : ℕ)
   pub ends : one ≡ record { status = Refused; listed = 0 }
   pub lines : List ℕ
   pub are : AreTold (form_of (tasks.Scenarios x)) file text refusal lines
-  pub text_is : printed ≡ refused_text x file n ++ lines
+  pub text_is : printed ≡ refused_text x file n ++ (lines ++ refused_end x)
 
 -- what is printed of the diagram of this number, refused or not, and how its check ends
 abbrev pub SurveysOne : ScenarioArgs → List ℕ → List ℕ → ℕ → Surveyed → List ℕ → Type 0
@@ -91,19 +109,21 @@ SurveysOne x file text n one printed =
 abbrev pub BeginsOne : ScenarioArgs → List ℕ → List ℕ → ℕ → List ℕ → Type 0
 BeginsOne x file text n printed =
     BeginsBlock x file text n printed
-    ⊎ (((refusal : Refusal) × RefusesScenarios (at_block x n) text refusal) × (printed ≡ refused_text x file n))
+    ⊎ ((refusal : Refusal) × RefusesScenarios (at_block x n) text refusal
+    × ((printed ≡ refused_text x file n)
+    ⊎ ((lines : List ℕ) × AreTold (form_of (tasks.Scenarios x)) file text refusal lines × (printed ≡ refused_text x file n ++ lines))))
 
 -- the worse of two ends: the one with the greater exit status
 abbrev pub worse : Status → Status → Status
 worse one other = cond (nat_le (status_code other) (status_code one)) one other
 
 -- What is printed of the diagrams of these numbers, one after the other, and how the run ends, if
--- the worst end before them is this one.
-unfoldable pub Surveys : ScenarioArgs → List ℕ → List ℕ → List ℕ → Status → Status → List ℕ → Type 0
-Surveys x file text [] worst status printed = (status ≡ worst) × (printed ≡ [])
-Surveys x file text (n ∷ ns) worst status printed =
+-- races are listed before them or not, and the worst end before them is this one.
+unfoldable pub Surveys : ScenarioArgs → List ℕ → List ℕ → List ℕ → Bool → Status → Status → List ℕ → Type 0
+Surveys x file text [] is_listed worst status printed = (status ≡ worst) × (printed ≡ survey_end x is_listed)
+Surveys x file text (n ∷ ns) is_listed worst status printed =
     (one : Surveyed) × (first rest : List ℕ) × SurveysOne x file text n one first
-    × Surveys (behind x one.listed) file text ns (worse worst one.status) status rest × (printed ≡ first ++ rest)
+    × Surveys (behind x one.listed) file text ns (is_listed || nat_lt 0 one.listed) (worse worst one.status) status rest × (printed ≡ first ++ rest)
 
 -- what that begins with, where memory ran out: all of some first diagrams, and then nothing or what
 -- begins what is printed of the next

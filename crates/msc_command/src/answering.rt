@@ -1,7 +1,7 @@
 //! The answers to tasks: each reads the text once, makes its chart, and prints the answer.
 
 ghost use Rattle.std.specs.Prelude.{◌≡◌, ℕ, List, length, map, None, Some, option_map, IfErr, Ok};
-ghost use Rattle.std.specs.Prelude.{◌||◌, OnOk, is_some};
+ghost use Rattle.std.specs.Prelude.{◌||◌, OnOk, false, is_some};
 ghost use Rattle.std.specs.Io.KnownBytes.{Keeps};
 ghost use Rattle.std.specs.Option.{option_copied};
 ghost use Rattle.msc_chart.specs.Drawings.{chart_of};
@@ -12,11 +12,12 @@ ghost use Rattle.msc_command.specs.Drafted.{of_chart, of_scenario};
 ghost use Rattle.msc_command.specs.Drawing.{PrintsLinkedPage, PrintsPage, RefusesDrawn};
 ghost use Rattle.msc_command.specs.Drawing.{RefusesLinkedPage};
 ghost use Rattle.msc_command.specs.Ending.{ends_as};
-ghost use Rattle.msc_command.specs.Formats.{IsFormat, IsReadyFormat};
+ghost use Rattle.msc_command.specs.Formats.{IsDrawingOf, IsFormat, IsReadyFormat};
 ghost use Rattle.msc_command.specs.Importing.{PrintsImportPage, RefusesImport};
 ghost use Rattle.msc_command.specs.Marked.{AreMarked};
 ghost use Rattle.msc_command.specs.Readied.{names_of, AreReady};
 ghost use Rattle.msc_command.specs.Rounds.{AreRounds};
+ghost use Rattle.msc_command.specs.ShownDiagrams.{IsShownDiagram};
 ghost use Rattle.msc_command.specs.Refused.{form_of, IsToldIn, TellsThat, TellsUnread};
 ghost use Rattle.msc_command.specs.Refused.{TellsUnreadIn};
 ghost use Rattle.msc_command.specs.Surveys.{BeginsOne, BeginsSurvey, Surveys, SurveysOne};
@@ -30,7 +31,7 @@ use crate::drawing::page_of;
 use crate::ending::{
     Refusal, Status, end_refused, end_unread, ended_by, ends_as, finished_by, is_spent,
 };
-use crate::importing::{import_chosen, import_page};
+use crate::importing::{ImportedDiagram, import_chosen, import_page};
 use crate::links::queues_in;
 use crate::marked::marks_of;
 use crate::naming::pair_named;
@@ -41,14 +42,20 @@ use crate::refused::refusal_lines;
 use crate::refused_words::{has_words, refusal_words, unread_words};
 use crate::rounds::rounds_of;
 use crate::scenarios::{Surveyed, check_scenarios};
+use crate::shown_diagram::{DiagramText, ShownDiagram, line_in};
 use crate::sited::{event_positions_of, positions_of, style_of};
-use crate::surveying::{behind, blocks_of, check_block, of_block, refused_page, worse};
+use crate::surveying::{
+    behind, blocks_of, check_block, end_page, lists_races, of_block, refused_end, refused_page,
+    worse,
+};
 use crate::tasks::{
     ChartCommand, CheckArgs, ChosenArgs, Drawn, ExplainArgs, FollowArgs, Format, ImportArgs,
     LinkWords, QuietArgs, ReadyArgs, RefusalForm, Request, ScenarioArgs, Task, TextArgs, form_of,
 };
 use crate::text_chart::TextChart;
 use msc_chart::Unrolled;
+use msc_diagram::{arrows_of, rounds_of as rounds_of_events};
+use msc_findings::FullFormat;
 use msc_instance::AlwaysOpen;
 use msc_mark::Marks;
 use msc_markdown::Markdown;
@@ -57,6 +64,7 @@ use msc_place::writing::write_file;
 use msc_print::Page;
 use msc_report::{Fault, ReadyFormat};
 use msc_shown_chart::{ChartWords, LentWords};
+use msc_shown_diagram::LentDiagram;
 use msc_source::{Language, ReadFault, Reading, Source, read_all};
 use msc_text::{
     ChartFormat, CheckInput, ReadyQuery, StickFormat, explain_pair, follow_drawing, judge_chart,
@@ -349,6 +357,7 @@ fn ready_with<'w, 'x, O: Write>(
     requires format { readying.format ≡ Format.Full }
     requires only { AreReady source.now.chart (names_of readying) (option_copied only) }
     requires rounds { AreRounds readying.again source.now.chart (option_map (λ u. u.now) rounds) }
+    requires drawing { source.now.drawing ≡ None }
     requires words { length (map plain_words words.now.events.items)
         ≡ length source.now.chart.events }
     ensures { (file : List ℕ) → IsShownOf source.now.chart readying.entry.queues file source.now.text
@@ -360,6 +369,84 @@ fn ready_with<'w, 'x, O: Write>(
     let lent = LentWords::of(alloc, words, chart, readying.queues, text)?;
     let stick_format = StickFormat::Full(lent.format(readying.colours));
     ready_in(alloc, readying, only, rounds, stick_format, source, output)
+}
+
+/// Prints whether a system of these ready instances can stick, for a scenario of a diagram with these
+/// rounds, as people read it, and with these words of the diagram.
+// Apart from `ready_diagram`, whose words outlast what is lent of them here.
+fn ready_shown<'w, 'x, O: Write>(
+    alloc: Global,
+    readying: ReadyArgs<'w>,
+    only: Option<&[bool]>,
+    rounds: Option<&Unrolled<'_>>,
+    told: DiagramText<'_>,
+    shown: &'x ShownDiagram,
+    drawing: &ImportedDiagram,
+    source: &'x TextChart<'x, '_>,
+    output: &mut O,
+) -> Result<Status, Refusal<'w>>
+    requires only { AreReady source.now.chart (names_of readying) (option_copied only) }
+    requires rounds { AreRounds readying.again source.now.chart (option_map (λ u. u.now) rounds) }
+    requires format { readying.format ≡ Format.Full }
+    requires drawing { source.now.drawing ≡ Some drawing.now }
+    requires told { IsDrawingOf source.now.text drawing.now told }
+    requires shown { IsShownDiagram told drawing.now.imported.spans.shown source.now.chart
+        readying.queues shown.now }
+    ensures { AnswersOf O.contents (ChartCommand.Ready readying.entry) told.entry.file.now source.now
+        result output.old output.new }
+{
+    let lent = LentDiagram::of(alloc, &shown.words, source.text())?;
+    let statements = drawing.diagram.statements.as_slice();
+    let events = drawing.imported.spans.events.as_slice();
+    let arrows = arrows_of(alloc, statements, events)?;
+    let rounds_around = rounds_of_events(alloc, events)?;
+    let scenario = lent.scenario(
+        alloc,
+        source.chart(),
+        readying.queues,
+        arrows.as_slice(),
+        rounds_around.as_slice(),
+    )?;
+    let stick_format = StickFormat::Full(FullFormat {
+        text: lent.text(&scenario, readying.colours),
+        marks: &[],
+        file: shown.label.as_str(),
+        queues: shown.queues.as_str(),
+    });
+    ready_in(alloc, readying, only, rounds, stick_format, source, output)
+}
+
+/// Prints whether a system of these ready instances can stick, for a scenario of a diagram in the
+/// file of this name, with these rounds, as people read it.
+fn ready_diagram<'w, O: Write>(
+    alloc: Global,
+    readying: ReadyArgs<'w>,
+    only: Option<&[bool]>,
+    rounds: Option<&Unrolled<'_>>,
+    file: &str,
+    drawing: &ImportedDiagram,
+    source: &TextChart<'_, '_>,
+    output: &mut O,
+) -> Result<Status, Refusal<'w>>
+    requires only { AreReady source.now.chart (names_of readying) (option_copied only) }
+    requires rounds { AreRounds readying.again source.now.chart (option_map (λ u. u.now) rounds) }
+    requires format { readying.format ≡ Format.Full }
+    requires drawing { source.now.drawing ≡ Some drawing.now }
+    ensures { AnswersOf O.contents (ChartCommand.Ready readying.entry) file.now source.now result
+        output.old output.new }
+{
+    let text = source.text();
+    let told = DiagramText {
+        file,
+        text,
+        diagram: &drawing.diagram,
+        line: line_in(alloc, drawing.number, text)?,
+    };
+    let names = drawing.imported.spans.shown.as_slice();
+    let shown = ShownDiagram::of(alloc, told, names, source.chart(), readying.queues)?;
+    ready_shown(
+        alloc, readying, only, rounds, told, &shown, drawing, source, output,
+    )
 }
 
 /// Prints whether a system of these ready instances can stick, for the chart of a text in the file
@@ -379,6 +466,9 @@ fn ready_full<'w, O: Write>(
     ensures { AnswersOf O.contents (ChartCommand.Ready readying.entry) file.now source.now result
         output.old output.new }
 {
+    if let Some(drawing) = source.drawing() {
+        return ready_diagram(alloc, readying, only, rounds, file, drawing, source, output);
+    }
     let (chart, text) = (source.chart(), source.text());
     let words = ChartWords::of(alloc, chart, readying.queues, file.as_bytes(), text, None)?;
     ready_with(alloc, readying, only, rounds, &words, source, output)
@@ -740,7 +830,10 @@ fn tell_block<O: Write>(
     let page = refused_page(alloc, words, file, number)?;
     let _ = put(output, &page, Status::Refused)?;
     let task = Task::Scenarios(of_block(words, number));
-    tell_in(alloc, task, file, text, refusal, output)
+    tell_in(alloc, task, file, text, refusal, output)?;
+    let end = refused_end(alloc, words)?;
+    let _ = put(output, &end, Status::Refused)?;
+    Ok(())
 }
 
 /// Writes to `faults` why the diagram with this number is refused.
@@ -812,19 +905,22 @@ fn survey<'w, O: TellsFailure, E: Write>(
 ) -> Result<Status, Refusal<'w>>
     requires { markdown found.now.text ≡ Ok found.now }
     ensures { AnswersWith O.contents
-        (Surveys words.entry request.entry.file.now found.now.text found.now.numbers Status.Done)
+        (Surveys words.entry request.entry.file.now found.now.text found.now.numbers false Status.Done)
         (BeginsSurvey words.entry request.entry.file.now found.now.text found.now.numbers)
         (λ refusal. ⊥) result output.old output.new }
 {
     let numbers = found.numbers();
     let mut words = words;
     let mut worst = Status::Done;
+    let mut is_listed = false;
     for number in numbers {
         let one = survey_block(alloc, request, words, found, *number, output, faults)?;
         worst = worse(worst, one.status);
+        is_listed = lists_races(is_listed, one.listed);
         words = behind(words, one.listed);
     }
-    Ok(worst)
+    let end = end_page(alloc, words, is_listed)?;
+    put(output, &end, worst)
 }
 
 /// Prints the verdicts on the diagrams of a text: on all of a Markdown text if no block is named,
@@ -871,8 +967,8 @@ fn read_diagram<'w, O: Write>(
     ensures { (file : List ℕ) → Does O.contents (Task.Read (Some chosen.entry)) file text.now result
         output.old output.new }
 {
-    let imported = import_chosen(alloc, chosen, text)?;
-    let bytes = imported.draft.write(alloc)?;
+    let drawing = import_chosen(alloc, chosen, text)?;
+    let bytes = drawing.imported.draft.write(alloc)?;
     put(output, &Page { bytes }, Status::Done)
 }
 
@@ -924,8 +1020,8 @@ fn answer_diagram<'w, R: Threads + Wait + Sync, O: Write>(
     ensures { Does O.contents (Task.Chart ask.entry (of_scenario chosen.entry links.entry)) file.now
         text.entry.now result output.old output.new }
 {
-    let imported = import_chosen(alloc, chosen, text)?;
-    let chart = TextChart::of_import(alloc, text, &imported)?;
+    let drawing = import_chosen(alloc, chosen, text)?;
+    let chart = TextChart::of_import(alloc, text, &drawing)?;
     answer_linked(rt, alloc, ask, links, file, &chart, output)
 }
 
@@ -978,9 +1074,9 @@ fn draw_diagram<'w, O: Write>(
     ensures { (file : List ℕ) → Does O.contents (Task.Draw drawn (of_scenario chosen.entry links.entry)) file
         text.entry.now result output.old output.new }
 {
-    let imported = import_chosen(alloc, chosen, text)?;
-    let chart = TextChart::of_import(alloc, text, &imported)?;
-    draw_linked(alloc, drawn, links, &imported.draft, &chart, output)
+    let drawing = import_chosen(alloc, chosen, text)?;
+    let chart = TextChart::of_import(alloc, text, &drawing)?;
+    draw_linked(alloc, drawn, links, &drawing.imported.draft, &chart, output)
 }
 
 /// Writes a picture of the chart of a text, or of a scenario of its diagram, or a report.

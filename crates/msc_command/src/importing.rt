@@ -6,7 +6,7 @@ ghost use Rattle.msc_import.specs.Importing.{read, reading_of, Wanted};
 ghost use Rattle.msc_command.specs.Importing.{IsChartOrFault, IsImportedOn, IsPageOf, IsTextOf};
 ghost use Rattle.msc_command.specs.Importing.{IsCommentOf, IsFirstOwn, IsImportAs, first_reading};
 ghost use Rattle.msc_command.specs.Importing.{choices_of, wanted_of, wanted_with};
-ghost use Rattle.msc_command.specs.Importing.{IsChartImport, IsImport, IsReadFor};
+ghost use Rattle.msc_command.specs.Importing.{IsChartImport, IsImportBy, IsReadFor};
 
 use crate::choices::choices_in;
 use crate::ending::Refusal;
@@ -27,6 +27,15 @@ use msc_print::Page;
 use msc_source::SourceFault;
 use msc_text::list_chart;
 use std::alloc::{AllocError, Global};
+
+/// A diagram, and its import with a scenario.
+#[derive(Drop)]
+pub(crate) struct ImportedDiagram {
+    /// The number of the diagram, from 1, if it is given.
+    pub number: Option<usize>,
+    pub diagram: Diagram,
+    pub imported: Imported,
+}
 
 /// The number of a diagram in Markdown, if it is given.
 pub(crate) fn fence_of(number: Option<u32>) -> Option<usize>
@@ -176,19 +185,24 @@ fn given_choices(alloc: Global, words: ChosenArgs<'_>) -> Result<Option<Vec<usiz
     }
 }
 
-/// The import of a text with these choices.
+/// The diagram of a text, and its scenario with these choices.
 fn import_with(
     alloc: Global,
     words: DiagramArgs<'_>,
     choices: Option<&[usize]>,
     text: &[u8],
-) -> Result<Imported, Refusal<'static>>
-    ensures { IsImportAs (wanted_with words.entry (option_map (λ c. c.now) choices.entry))
+) -> Result<ImportedDiagram, Refusal<'static>>
+    ensures { IsImportBy words.entry.fence (wanted_with words.entry (option_map (λ c. c.now) choices.entry))
         text.now result }
 {
     reading_comes_first();
     let diagram = diagram_of(alloc, words, text)?;
-    drawn_of(alloc, words, choices, &diagram)
+    let imported = drawn_of(alloc, words, choices, &diagram)?;
+    Ok(ImportedDiagram {
+        number: fence_of(words.fence),
+        diagram,
+        imported,
+    })
 }
 
 /// The import of a text, with the choices of the words.
@@ -196,8 +210,8 @@ fn import_by(
     alloc: Global,
     words: ChosenArgs<'_>,
     text: &[u8],
-) -> Result<Imported, Refusal<'static>>
-    ensures { IsImport words.entry text.now result }
+) -> Result<ImportedDiagram, Refusal<'static>>
+    ensures { IsImportBy words.entry.diagram.fence (wanted_of words.entry) text.now result }
 {
     match given_choices(alloc, words)? {
         None => import_with(alloc, words.diagram, None, text),
@@ -210,7 +224,7 @@ pub(crate) fn import_chosen(
     alloc: Global,
     words: ChosenArgs<'_>,
     text: &[u8],
-) -> Result<Imported, Refusal<'static>>
+) -> Result<ImportedDiagram, Refusal<'static>>
     ensures { IsChartImport words.entry text.now result }
 {
     imports_are_charts();

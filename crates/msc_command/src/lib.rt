@@ -48,6 +48,7 @@ mod refused_words;
 mod rounds;
 mod scenarios;
 mod shown;
+mod shown_diagram;
 mod sited;
 mod surveying;
 mod tasks;

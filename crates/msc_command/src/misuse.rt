@@ -27,8 +27,6 @@ pub(crate) enum Misuse<'w> {
     NoDiagram,
     /// A word cannot be given with `--from`.
     NotOfDiagrams(ArgName),
-    /// `--format full` cannot be given with `--from`.
-    FullOfDiagrams,
     /// The word of `--rounds` has no numbers of rounds.
     NoRounds(&'w str),
     /// `--limit` is out of its range.
@@ -116,7 +114,6 @@ pub(crate) fn write_misuse<E: Write>(faults: &mut E, misuse: Misuse<'_>) -> io::
         }
         Misuse::NoDiagram => write_missing(faults, "--from <mermaid|any>"),
         Misuse::NotOfDiagrams(word) => write_not_of_diagrams(faults, word.name()),
-        Misuse::FullOfDiagrams => write_not_of_diagrams(faults, "format full"),
         Misuse::NoRounds(text) => {
             let expected = "numbers up to 1024 with commas";
             write_unexpected(faults, text, "--rounds <R,R..>", expected)

@@ -1,25 +1,40 @@
-//! A refusal of a chart as people read it, on the output.
+//! A refusal of a chart or a diagram as people read it, on the output.
+//!
+//! A diagram is shown with LF at each end of a line, so that its places are those of `msc_import_notes`.
+//! In Markdown the line that closes its refusal names the first line of its block.
 
-ghost use Rattle.std.specs.Prelude.{◌≡◌, [], IfOk};
-ghost use Rattle.msc_command.specs.RefusedWords.{comment_span, has_words, link_said, mark_said};
-ghost use Rattle.msc_command.specs.RefusedWords.{AreWords, IsFaultSaid, IsSaid};
+ghost use Rattle.std.specs.Prelude.{◌≡◌, IfOk};
+ghost use Rattle.std.specs.String.{string_bytes};
+ghost use Rattle.msc_command.specs.RefusedWords.{closing_text, comment_span, has_words};
+ghost use Rattle.msc_command.specs.RefusedWords.{link_said, mark_said};
+ghost use Rattle.msc_command.specs.RefusedWords.{AreWords, IsDiagramRefusal, IsFaultSaid};
+ghost use Rattle.msc_command.specs.RefusedWords.{IsImportSaid, IsLabel, IsLinkSaid, IsSaid};
+ghost use Rattle.msc_command.specs.RefusedWords.{IsTextSaid};
+ghost use Rattle.msc_refusals.specs.Answers.{IsBlock, IsPlaceSaid};
 
 use crate::ending::Refusal;
-use crate::notes::notes_of_parse;
+use crate::importing::fence_of;
+use crate::notes::{diagram_text, notes_of_import, notes_of_parse};
 use crate::own::LinkRefusal;
-use crate::tasks::Task;
+use crate::shown_diagram::{line_in, with_line};
+use crate::tasks::{DiagramArgs, Task};
 use msc_chart::ChartFault;
 use msc_diagnostic::{LineEnds, Source};
 use msc_fault_words::{
     FaultWords, MarkSlip, Span, cause_of, instance_words, link_words, mark_words, memory_words,
     queues_words, reading_words, rounds_words, words_text,
 };
+use msc_import::Refused;
+use msc_import_notes::{ToldText, import_spans, line_span, with_plain_lines};
+use msc_import_words::import_words;
 use msc_mark::MarkFault;
 use msc_parser::{ParseFault, parse};
+use msc_place::Lines;
 use msc_print::Page;
 use msc_refusals::{RefusedText, draft_refusal, parse_refusal, words_refusal};
 use msc_report::Fault;
-use msc_shown_chart::{file_said, text_end};
+use msc_shown_chart::{file_said, position_said, text_end};
+use msc_wording::{closing_line, refused_verdict};
 use std::alloc::{AllocError, Global};
 use std::io;
 
@@ -29,8 +44,9 @@ pub(crate) fn has_words(refusal: Refusal<'_>) -> bool
 {
     match refusal {
         Refusal::Fault(Fault::Parse(_)) | Refusal::Fault(Fault::Chart(_)) => true,
-        Refusal::Fault(_) | Refusal::Pair(_) | Refusal::Import(_) => false,
-        Refusal::Mark(_) | Refusal::Instance(_) | Refusal::Link(_) | Refusal::Rounds(_) => true,
+        Refusal::Fault(_) | Refusal::Pair(_) => false,
+        Refusal::Mark(_) | Refusal::Instance(_) | Refusal::Link(_) => true,
+        Refusal::Rounds(_) | Refusal::Import(_) => true,
     }
 }
 
@@ -114,6 +130,173 @@ fn fault_said(
     }
 }
 
+/// The diagram of a check or of an analysis, unless its text is a chart.
+fn diagram_of<'w>(task: Task<'w>) -> Option<DiagramArgs<'w>> {
+    match task {
+        Task::Chart(_, words) => Some(words.diagram?.diagram),
+        Task::Scenarios(words) => Some(words.diagram),
+        _ => None,
+    }
+}
+
+/// The number of the diagram that a task takes from Markdown, if it is given.
+fn fence_in(task: Task<'_>) -> Option<usize> {
+    fence_of(diagram_of(task)?.fence)
+}
+
+/// The name of a file in the line that closes the refusal of its diagram.
+fn label_of(alloc: Global, task: Task<'_>, refused: RefusedText<'_>) -> Result<String, AllocError>
+    ensures { IfOk result (λ label. IsLabel refused.entry.file.now (string_bytes label)) }
+{
+    let line = line_in(alloc, fence_in(task), refused.text)?;
+    with_line(alloc, refused.file, line)
+}
+
+/// A place of a text with these lines as it is printed, or else its file.
+fn place_said(
+    alloc: Global,
+    file: &str,
+    lines: &Lines<'_>,
+    place: Option<usize>,
+) -> Result<String, AllocError>
+    ensures { IfOk result (λ said. IsPlaceSaid file.now lines.now place (string_bytes said)) }
+{
+    match place {
+        Some(at) => {
+            let inside = at.min(lines.text().len());
+            position_said(alloc, file, lines.position(inside))
+        }
+        None => String::from_str(alloc, file),
+    }
+}
+
+/// A fault in words, as a diagnostic with an empty row after it.
+fn block_of(
+    alloc: Global,
+    shown: RefusedText<'_>,
+    words: &FaultWords,
+) -> Result<Vec<u8>, AllocError>
+    ensures { IfOk result (λ bytes. IsBlock shown.entry words.now bytes.items) }
+{
+    let source = Source::new(alloc, shown.text, LineEnds::LineFeed)?;
+    let lines = Lines::of(alloc, shown.text)?;
+    let place = place_said(alloc, shown.file, &lines, words.place())?;
+    let bytes = words_text(alloc, &source, Some(place.as_str()), words, shown.colours)?;
+    Ok(bytes)
+}
+
+/// The line that closes a refusal.
+fn closing_text(alloc: Global, label: &str, colours: bool) -> Result<String, AllocError>
+    ensures { IfOk result (λ line. string_bytes line ≡ closing_text label.now colours) }
+{
+    let verdict = refused_verdict(alloc, 0)?;
+    let mut line = closing_line(alloc, label, verdict.as_str(), colours)?;
+    line.push_str("\n")?;
+    Ok(line)
+}
+
+/// The refusal of a diagram for one fault, whose places are those of the text with LF at each end of a
+/// line: its diagnostic, and the line that closes it.
+fn diagram_refusal(
+    alloc: Global,
+    task: Task<'_>,
+    refused: RefusedText<'_>,
+    words: &FaultWords,
+) -> Result<Vec<u8>, AllocError>
+    ensures { IfOk result (λ bytes. IsDiagramRefusal refused.entry words.now bytes.items) }
+{
+    let label = label_of(alloc, task, refused)?;
+    let plain = with_plain_lines(alloc, refused.text)?;
+    let shown = RefusedText {
+        file: refused.file,
+        text: plain.as_slice(),
+        colours: refused.colours,
+    };
+    let mut bytes = block_of(alloc, shown, words)?;
+    let closing = closing_text(alloc, label.as_str(), refused.colours)?;
+    bytes.extend_from_slice(closing.as_bytes())?;
+    Ok(bytes)
+}
+
+/// The words for why a diagram is not imported.
+fn import_said(
+    alloc: Global,
+    task: Task<'_>,
+    text: &[u8],
+    refused: Refused,
+) -> Result<FaultWords, AllocError>
+    ensures { IfOk result (IsImportSaid refused) }
+{
+    let whole = with_plain_lines(alloc, text)?;
+    let diagram = diagram_text(alloc, task, text)?;
+    let told = notes_of_import(alloc, task, text, diagram.as_slice(), refused.fault)?;
+    let texts = ToldText {
+        whole: whole.as_slice(),
+        diagram: diagram.as_slice(),
+        told: &told,
+    };
+    let name = refused.name.as_slice();
+    let spans = import_spans(alloc, texts, refused.fault, name)?;
+    import_words(alloc, refused.fault, name, &told, spans.as_slice())
+}
+
+/// The words for why there are no queues for a diagram.
+fn diagram_link(
+    alloc: Global,
+    text: &[u8],
+    refused: LinkRefusal<'_>,
+) -> Result<FaultWords, AllocError>
+    ensures { IfOk result (IsLinkSaid text.now refused.entry) }
+{
+    match refused {
+        LinkRefusal::Given(fault) => link_words(alloc, fault, None),
+        LinkRefusal::Text(fault, place) => {
+            let span = line_span(alloc, text, place.at)?;
+            link_words(alloc, fault, Some(span))
+        }
+        LinkRefusal::Unclear(place) => {
+            let span = line_span(alloc, text, place.at)?;
+            queues_words(alloc, span)
+        }
+    }
+}
+
+/// A refusal for a fault that has no place in the text, of a chart or a diagram.
+fn text_said(
+    alloc: Global,
+    task: Task<'_>,
+    refused: RefusedText<'_>,
+    words: &FaultWords,
+) -> Result<Vec<u8>, AllocError>
+    ensures { IfOk result (λ bytes. IsTextSaid refused.entry words.now bytes.items) }
+{
+    match diagram_of(task) {
+        Some(_) => diagram_refusal(alloc, task, refused, words),
+        None => words_refusal(alloc, refused, words),
+    }
+}
+
+/// A refusal for want of queues, of a chart or a diagram.
+fn queues_said(
+    alloc: Global,
+    task: Task<'_>,
+    refused: RefusedText<'_>,
+    why: LinkRefusal<'_>,
+) -> Result<Vec<u8>, AllocError>
+    ensures { IfOk result (λ bytes. IsSaid refused.entry (Refusal.Link why.entry) bytes.items) }
+{
+    match diagram_of(task) {
+        Some(_) => {
+            let words = diagram_link(alloc, refused.text, why)?;
+            diagram_refusal(alloc, task, refused, &words)
+        }
+        None => {
+            let words = link_said(alloc, refused.text, why)?;
+            words_refusal(alloc, refused, &words)
+        }
+    }
+}
+
 /// A refusal of a text; nothing, if there are no words for it.
 fn said(
     alloc: Global,
@@ -129,19 +312,20 @@ fn said(
             let words = mark_said(alloc, refused.text, fault)?;
             words_refusal(alloc, refused, &words)
         }
-        Refusal::Link(why) => {
-            let words = link_said(alloc, refused.text, why)?;
-            words_refusal(alloc, refused, &words)
-        }
+        Refusal::Link(why) => queues_said(alloc, task, refused, why),
         Refusal::Instance(name) => {
             let words = instance_words(alloc, name)?;
-            words_refusal(alloc, refused, &words)
+            text_said(alloc, task, refused, &words)
         }
         Refusal::Rounds(fault) => {
             let words = rounds_words(alloc, fault)?;
-            words_refusal(alloc, refused, &words)
+            text_said(alloc, task, refused, &words)
         }
-        Refusal::Pair(_) | Refusal::Import(_) => Ok(Vec::new(alloc)),
+        Refusal::Import(fault) => {
+            let words = import_said(alloc, task, refused.text, fault)?;
+            diagram_refusal(alloc, task, refused, &words)
+        }
+        Refusal::Pair(_) => Ok(Vec::new(alloc)),
     }
 }
 

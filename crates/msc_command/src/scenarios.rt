@@ -7,21 +7,24 @@ ghost use Rattle.msc_diagram.specs.Scenarios.{diagram_top, first_chart};
 ghost use Rattle.msc_command.specs.Answering.{AnswersWith};
 ghost use Rattle.msc_command.specs.Importing.{reading_in};
 ghost use Rattle.msc_command.specs.Charting.{with_chart, AreCharts};
+ghost use Rattle.msc_command.specs.ShownDiagrams.{IsShownDiagram};
 ghost use Rattle.msc_command.specs.Scenarios.{BeginsScenarios, IsCharted, IsFormatOf};
 ghost use Rattle.msc_command.specs.Scenarios.{wanted_of, with_fence, IsDiagramOf};
 ghost use Rattle.msc_command.specs.Scenarios.{IsImportOfAll, PrintsScenarios, RefusesScenarios};
-ghost use Rattle.msc_command.specs.Scenarios.{BeginsAll, IsLinkedArgs, PrintsAll};
+ghost use Rattle.msc_command.specs.Scenarios.{top_in, BeginsAll, IsFirst, IsLinkedArgs, PrintsAll};
+ghost use Rattle.msc_command.specs.Scenarios.{TellsFormat};
 ghost use Rattle.msc_command.specs.Scenarios.{PrintsCounted};
 
 use crate::choices::rounds_of;
 use crate::ending::{Refusal, Status, ended_by};
 use crate::importing::{chart_of, fence_of};
 use crate::links::queues_of_diagram;
+use crate::shown_diagram::{DiagramText, ShownDiagram, line_in};
 use crate::tasks::{CheckArgs, DiagramArgs, Format, ScenarioArgs};
 use msc_chart::{Chart, Queues};
 use msc_diagram::{
-    DiagramFormat, DiagramStyle, Lent, Scenario, Source, judge_scenarios, scenarios_pass,
-    write_diagram_top,
+    DiagramFormat, DiagramStyle, Following, FullDiagram, Lent, Scenario, Source, judge_scenarios,
+    scenarios_pass, write_diagram_top,
 };
 use msc_import::laws::reading_comes_first;
 use msc_import::{
@@ -30,7 +33,8 @@ use msc_import::{
 use msc_import_laws::laws::imports_are_charts;
 use msc_mermaid::Diagram;
 use msc_place::EventPositions;
-use msc_print::Page;
+use msc_print::{Page, WriteFault};
+use msc_shown_diagram::LentDiagram;
 use std::alloc::{AllocError, Global};
 use std::io::Write;
 use std::marker::Model;
@@ -101,6 +105,7 @@ fn charted<'f>(alloc: Global, file: &'f str, drawn: Drawn) -> Result<Scenario<'f
         choices: drawn.choices,
         chart,
         event_positions,
+        spans: drawn.spans,
     })
 }
 
@@ -193,18 +198,28 @@ impl<'f> Source for Charts<'f> {
     }
 }
 
-/// The format of an answer on scenarios, for the file of this name; `drawn` is whether parallel
-/// branches are drawn one below the other.
-fn format_of<'f>(check_args: CheckArgs, file: &'f [u8], drawn: bool) -> DiagramFormat<'f>
-    ensures { IsFormatOf check_args file.entry.now drawn result }
+/// What is printed about a diagram besides its races.
+#[derive(Clone, Copy)]
+pub(crate) struct Told<'d> {
+    pub diagram: DiagramText<'d>,
+    /// The name of the diagram.
+    pub name: &'d [u8],
+    /// What it is called in a count.
+    pub counted: &'d [u8],
+    /// Whether parallel branches are drawn one below the other.
+    pub drawn: bool,
+    /// What follows its findings as people read them.
+    pub following: Following,
+}
+
+/// The lines of an answer on scenarios.
+fn style_of(check_args: CheckArgs, drawn: bool) -> DiagramStyle
+    ensures words { result.words ≡ check_args.event_style.words }
+    ensures drawn { result.drawn ≡ drawn }
 {
-    match check_args.format {
-        Format::Text | Format::Full => DiagramFormat::Lines(DiagramStyle {
-            words: check_args.event_style.words,
-            drawn,
-        }),
-        Format::Count => DiagramFormat::Count(file),
-        Format::Lines => DiagramFormat::Editor,
+    DiagramStyle {
+        words: check_args.event_style.words,
+        drawn,
     }
 }
 
@@ -244,37 +259,141 @@ fn top_of(
     Ok(page)
 }
 
-/// Writes the answer on the races of these scenarios, for a diagram of this name in this file.
-pub(crate) fn tell<O: Write>(
+/// Writes the answer on the races of these scenarios in a format that has no words of the diagram.
+/// Returns how many are listed.
+fn tell_in<O: Write>(
     alloc: Global,
-    words: ScenarioArgs<'_>,
-    file: &[u8],
-    name: &[u8],
-    drawn: bool,
+    check_args: CheckArgs,
+    told: Told<'_>,
+    format: DiagramFormat<'_, '_>,
     scenarios: &Charts<'_>,
     output: &mut O,
-) -> Result<Surveyed, Refusal<'static>>
-    ensures { AnswersWith O.contents
-        (PrintsCounted words.entry.quiet words.entry.check_args file.now name.now drawn scenarios.now)
-        (BeginsAll words.entry.quiet words.entry.check_args file.now name.now drawn scenarios.now)
-        (λ refusal. ⊥) result output.old output.new }
+) -> Result<u32, WriteFault>
+    requires top { top_in format check_args told scenarios.now
+        ≡ diagram_top told.name.now (first_chart scenarios.now) check_args.queues }
+    requires format { IsFormatOf check_args told scenarios.now format }
+    ensures { TellsFormat O.contents check_args told.entry scenarios.now result
+        output.old output.new }
 {
     let CheckArgs {
         queues,
         options,
         ..
-    } = words.check_args;
+    } = check_args;
+    let top = top_of(alloc, told.name, scenarios, &queues)?;
+    let top = top.bytes.as_slice();
+    judge_scenarios(alloc, top, scenarios, queues, options, format, output)
+}
+
+/// Writes the findings on these scenarios as people read them, by the words of their diagram.
+/// Returns how many races are listed.
+// Apart from `tell_full`, whose words outlast what is lent of them here.
+fn tell_with<'x, O: Write>(
+    alloc: Global,
+    check_args: CheckArgs,
+    told: Told<'x>,
+    shown: &'x ShownDiagram,
+    first: &Scenario<'_>,
+    scenarios: &Charts<'_>,
+    output: &mut O,
+) -> Result<u32, WriteFault>
+    requires format { check_args.format ≡ Format.Full }
+    requires first { IsFirst scenarios.now first.now }
+    requires shown { IsShownDiagram told.diagram first.now.spans.shown first.now.chart
+        check_args.queues shown.now }
+    ensures { TellsFormat O.contents check_args told.entry scenarios.now result
+        output.old output.new }
+{
+    let CheckArgs {
+        queues,
+        options,
+        colours,
+        ..
+    } = check_args;
+    let lent = LentDiagram::of(alloc, &shown.words, told.diagram.text)?;
+    let format = DiagramFormat::Full(FullDiagram {
+        lent: &lent,
+        diagram: told.diagram.diagram,
+        text: told.diagram.text,
+        names: shown.names(colours),
+        following: told.following,
+    });
+    judge_scenarios(alloc, &[], scenarios, queues, options, format, output)
+}
+
+/// Writes the findings on these scenarios as people read them. Returns how many races are listed.
+fn tell_full<O: Write>(
+    alloc: Global,
+    check_args: CheckArgs,
+    told: Told<'_>,
+    scenarios: &Charts<'_>,
+    output: &mut O,
+) -> Result<u32, WriteFault>
+    requires { check_args.format ≡ Format.Full }
+    ensures { TellsFormat O.contents check_args told.entry scenarios.now result
+        output.old output.new }
+{
+    if scenarios.len() == 0 {
+        return Err(WriteFault::Memory);
+    }
+    let first = scenarios.scenario(alloc, 0)?;
+    let first = first.get();
+    let names = first.spans.shown.as_slice();
+    let shown = ShownDiagram::of(alloc, told.diagram, names, &first.chart, check_args.queues)?;
+    tell_with(alloc, check_args, told, &shown, first, scenarios, output)
+}
+
+/// Writes the answer on the races of these scenarios. Returns how many are listed.
+fn tell_races<O: Write>(
+    alloc: Global,
+    check_args: CheckArgs,
+    told: Told<'_>,
+    scenarios: &Charts<'_>,
+    output: &mut O,
+) -> Result<u32, WriteFault>
+    ensures { TellsFormat O.contents check_args told.entry scenarios.now result
+        output.old output.new }
+{
+    match check_args.format {
+        Format::Text => {
+            let format = DiagramFormat::Lines(style_of(check_args, told.drawn));
+            tell_in(alloc, check_args, told, format, scenarios, output)
+        }
+        Format::Count => {
+            let format = DiagramFormat::Count(told.counted);
+            tell_in(alloc, check_args, told, format, scenarios, output)
+        }
+        Format::Lines => {
+            let format = DiagramFormat::Editor;
+            tell_in(alloc, check_args, told, format, scenarios, output)
+        }
+        Format::Full => tell_full(alloc, check_args, told, scenarios, output),
+    }
+}
+
+/// Writes the answer on the races of these scenarios.
+pub(crate) fn tell<O: Write>(
+    alloc: Global,
+    words: ScenarioArgs<'_>,
+    told: Told<'_>,
+    scenarios: &Charts<'_>,
+    output: &mut O,
+) -> Result<Surveyed, Refusal<'static>>
+    ensures { AnswersWith O.contents
+        (PrintsCounted words.entry.quiet words.entry.check_args told.entry scenarios.now)
+        (BeginsAll words.entry.quiet words.entry.check_args told.entry scenarios.now)
+        (λ refusal. ⊥) result output.old output.new }
+{
+    let check_args = words.check_args;
     if words.quiet {
-        let passes = scenarios_pass(alloc, scenarios, queues, options.allowed)?;
+        let allowed = check_args.options.allowed;
+        let passes = scenarios_pass(alloc, scenarios, check_args.queues, allowed)?;
         return Ok(Surveyed {
             status: ended_by(passes),
             listed: 0,
         });
     }
-    let format = format_of(words.check_args, file, drawn);
-    let top = top_of(alloc, name, scenarios, &queues)?;
-    let top = top.bytes.as_slice();
-    let listed = judge_scenarios(alloc, top, scenarios, queues, options, format, output)?;
+    let listed = tell_races(alloc, check_args, told, scenarios, output)?;
     Ok(Surveyed {
         status: ended_by(listed == 0),
         listed,
@@ -285,18 +404,16 @@ pub(crate) fn tell<O: Write>(
 fn tell_all<O: Write>(
     alloc: Global,
     words: ScenarioArgs<'_>,
-    file: &[u8],
-    name: &[u8],
-    drawn: bool,
+    told: Told<'_>,
     scenarios: &Charts<'_>,
     output: &mut O,
 ) -> Result<Status, Refusal<'static>>
     ensures { AnswersWith O.contents
-        (PrintsAll words.entry.quiet words.entry.check_args file.now name.now drawn scenarios.now)
-        (BeginsAll words.entry.quiet words.entry.check_args file.now name.now drawn scenarios.now)
+        (PrintsAll words.entry.quiet words.entry.check_args told.entry scenarios.now)
+        (BeginsAll words.entry.quiet words.entry.check_args told.entry scenarios.now)
         (λ refusal. ⊥) result output.old output.new }
 {
-    match tell(alloc, words, file, name, drawn, scenarios, output) {
+    match tell(alloc, words, told, scenarios, output) {
         Ok(one) => Ok(one.status),
         Err(refusal) => Err(refusal),
     }
@@ -341,14 +458,17 @@ pub(crate) fn check_scenarios<'w, O: Write>(
     let all = scenarios_of(alloc, words, &diagram)?;
     let linked = linked(alloc, words, text, &all.list)?;
     let charts = Charts::of(alloc, file, all.list)?;
-    let name = all.name.as_slice();
-    tell_all(
-        alloc,
-        linked,
-        file.as_bytes(),
-        name,
-        all.drawn,
-        &charts,
-        output,
-    )
+    let told = Told {
+        diagram: DiagramText {
+            file,
+            text,
+            diagram: &diagram,
+            line: line_in(alloc, fence_of(words.diagram.fence), text)?,
+        },
+        name: all.name.as_slice(),
+        counted: file.as_bytes(),
+        drawn: all.drawn,
+        following: Following::Help,
+    };
+    tell_all(alloc, linked, told, &charts, output)
 }

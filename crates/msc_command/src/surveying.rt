@@ -1,6 +1,6 @@
 //! All sequence diagrams of a text of Markdown, one after the other, in the order of their numbers.
 
-ghost use Rattle.std.specs.Prelude.{◌≡◌, ◌++◌, codes, map, IfOk, Ok, OnOk};
+ghost use Rattle.std.specs.Prelude.{◌≡◌, ◌++◌, ◌||◌, codes, map, nat_lt, IfOk, Ok, OnOk};
 ghost use Rattle.std.specs.Fmt.{decimal};
 ghost use Rattle.msc_markdown.specs.Markdowns.{markdown};
 ghost use Rattle.msc_place.specs.Texts.{shown_byte};
@@ -9,11 +9,15 @@ ghost use Rattle.msc_command.specs.Answering.{AnswersWith};
 ghost use Rattle.msc_command.specs.Scenarios.{IsDiagramOf, RefusesScenarios};
 ghost use Rattle.msc_command.specs.Surveys.{at_block, behind, many_in, many_of, numbered};
 ghost use Rattle.msc_command.specs.Surveys.{options_after};
-ghost use Rattle.msc_command.specs.Surveys.{refused_text, worse, BeginsBlock, PrintsBlock};
+ghost use Rattle.msc_command.specs.Surveys.{refused_end, refused_text, survey_end, worse};
+ghost use Rattle.msc_command.specs.Surveys.{BeginsBlock, PrintsBlock};
 
 use crate::ending::{Refusal, Status};
-use crate::scenarios::{Charts, Surveyed, linked, reading_of, scenarios_of, tell};
-use crate::tasks::{CheckArgs, DiagramArgs, Format, ScenarioArgs};
+use crate::scenarios::{Charts, Surveyed, Told, linked, reading_of, scenarios_of, tell};
+use crate::shown_diagram::{DiagramText, block_line};
+use crate::tasks::{CheckArgs, DiagramArgs, Format, ScenarioArgs, is_full};
+use msc_diagram::Following;
+use msc_findings::print_diagram_help;
 use msc_import::laws::reading_comes_first;
 use msc_import::{DiagramReading, chart_name, read_from};
 use msc_import_laws::laws::imports_are_charts;
@@ -177,8 +181,19 @@ pub(crate) fn check_block<'w, O: Write>(
     let charts = Charts::of(alloc, file, all.list)?;
     let name = numbered(alloc, all.name.as_slice(), number)?;
     let shown = numbered(alloc, file.as_bytes(), number)?;
-    let (name, shown) = (name.bytes.as_slice(), shown.bytes.as_slice());
-    tell(alloc, linked, shown, name, all.drawn, &charts, output)
+    let told = Told {
+        diagram: DiagramText {
+            file,
+            text: found.text(),
+            diagram: &diagram,
+            line: block_line(found, number),
+        },
+        name: name.bytes.as_slice(),
+        counted: shown.bytes.as_slice(),
+        drawn: all.drawn,
+        following: Following::Blank,
+    };
+    tell(alloc, linked, told, &charts, output)
 }
 
 /// The lines of a refused diagram of this name.
@@ -221,7 +236,7 @@ pub(crate) fn refused_page(
         return Ok(Page::new(alloc));
     }
     match words.check_args.format {
-        Format::Text | Format::Full => {
+        Format::Text => {
             let name = chart_name(alloc, words.diagram.name)?;
             let name = numbered(alloc, name.as_slice(), number)?;
             refused_diagram(alloc, name.bytes.as_slice())
@@ -230,8 +245,47 @@ pub(crate) fn refused_page(
             let shown = numbered(alloc, file.as_bytes(), number)?;
             refused_line(alloc, shown.bytes.as_slice())
         }
-        Format::Lines => Ok(Page::new(alloc)),
+        Format::Lines | Format::Full => Ok(Page::new(alloc)),
     }
+}
+
+/// Whether races are listed, of diagrams before or so many of the next one.
+pub(crate) fn lists_races(before: bool, listed: u32) -> bool
+    ensures { result ≡ (before || nat_lt 0 listed) }
+{
+    before || 0 < listed
+}
+
+/// What follows all diagrams, if races of one of them are listed or not: the help on marks, in findings
+/// as people read them.
+pub(crate) fn end_page(
+    alloc: Global,
+    words: ScenarioArgs<'_>,
+    is_listed: bool,
+) -> Result<Page, AllocError>
+    ensures { IfOk result (λ page. page.bytes.items ≡ survey_end words.entry is_listed) }
+{
+    let mut page = Page::new(alloc);
+    let CheckArgs {
+        format,
+        colours,
+        ..
+    } = words.check_args;
+    if is_listed && !words.quiet && is_full(format) {
+        print_diagram_help(alloc, &mut page, colours)?;
+    }
+    Ok(page)
+}
+
+/// What follows a refused diagram: an empty line, in findings as people read them.
+pub(crate) fn refused_end(alloc: Global, words: ScenarioArgs<'_>) -> Result<Page, AllocError>
+    ensures { IfOk result (λ page. page.bytes.items ≡ refused_end words.entry) }
+{
+    let mut page = Page::new(alloc);
+    if !words.quiet && is_full(words.check_args.format) {
+        page.bytes.extend_from_slice(b"\n")?;
+    }
+    Ok(page)
 }
 
 /// The worse of two statuses: the greater one.

@@ -11,8 +11,8 @@ ghost use Rattle.msc_command.specs.Asking.{chart_named, cross_named, lacks_choic
 ghost use Rattle.msc_command.specs.Asking.{own_named, par_named, AreCheckArgs, IsDiagram};
 ghost use Rattle.msc_command.specs.Asking.{AreExplainArgs, AreLinkWords, AreQuietArgs};
 ghost use Rattle.msc_command.specs.Asking.{AreReadyArgs, AreReverseArgs, AreTextArgs, IsOrigin};
-ghost use Rattle.msc_command.specs.Asking.{is_full_of_diagram};
 ghost use Rattle.msc_command.specs.Asking.{default_limit, is_limit, is_of_scenarios, lacks_from};
+ghost use Rattle.msc_command.specs.Asking.{shown_by};
 ghost use Rattle.msc_command.specs.Asking.{lacks_rounds, stands, IsNumberGiven, IsOfChart};
 ghost use Rattle.msc_command.specs.Asking.{tells_notes, unlimited, AreRunsShown, IsTwofold};
 ghost use Rattle.msc_command.specs.Asking.{IsNameText, IsNoName, IsNoNumber, IsNumberText};
@@ -21,7 +21,6 @@ ghost use Rattle.msc_command.specs.Asking.{args_of, IsOptionNumber, AreCheckOpti
 ghost use Rattle.msc_command.specs.Misuses.{IsCheckMisuse, IsDiagramMisuse, IsEventMisuse};
 ghost use Rattle.msc_command.specs.Misuses.{IsDrawMisuse, IsImportMisuse, IsLimitMisuse, IsMisuse};
 ghost use Rattle.msc_command.specs.Misuses.{IsOriginMisuse, IsPairMisuse, IsPairedMisuse};
-ghost use Rattle.msc_command.specs.Misuses.{IsReadyMisuse};
 ghost use Rattle.msc_command.specs.Misuses.{IsQueuesMisuse, IsRoundsMisuse, IsWordMisuse};
 ghost use Rattle.msc_command.specs.Refused.{form_in, form_of};
 ghost use Rattle.msc_command.specs.Words.{format_of_word, format_word, arg_word};
@@ -470,6 +469,16 @@ fn colours_of(words: &ArgMatches, auto: bool) -> bool
     colours_by(words.get_str(ArgName::Color.name()), auto)
 }
 
+/// Whether a format is that of findings as people read them.
+pub(crate) fn is_full(format: Format) -> bool
+    ensures { result ≡ is_full format }
+{
+    match format {
+        Format::Full => true,
+        Format::Text | Format::Count | Format::Lines => false,
+    }
+}
+
 /// The number of races of a chart, or of first sticks, with runs in this format, without `--show`: all,
 /// but of findings as people read them none.
 fn runs_in(format: Format) -> u32
@@ -692,12 +701,16 @@ fn is_limit(limit: u32) -> bool
     1 <= limit && limit <= GREATEST_LIMIT
 }
 
-/// The number of races of a diagram with runs, without `--show`: all if runs are in words or short,
-/// otherwise none.
-fn shown_by(in_words: bool, short: bool) -> u32
-    ensures { result ≡ cond (in_words || short) unlimited 0 }
+/// The number of races of a diagram with runs in this format, without `--show`: all if runs are in
+/// words or short, otherwise none; of findings as people read them none.
+fn shown_by(format: Format, in_words: bool, short: bool) -> u32
+    ensures { result ≡ shown_by format (in_words || short) }
 {
-    if in_words || short { u32::MAX } else { 0 }
+    if (in_words || short) && !is_full(format) {
+        u32::MAX
+    } else {
+        0
+    }
 }
 
 /// The number of races of a diagram with runs by these words, without `--show`.
@@ -706,7 +719,7 @@ fn runs_shown(words: &ArgMatches) -> u32
 {
     let in_words = is_given(words, ArgName::Words);
     let short = is_given(words, ArgName::Short);
-    shown_by(in_words, short)
+    shown_by(format_asked(words), in_words, short)
 }
 
 /// The word of `--rounds`, if it is given.
@@ -767,16 +780,6 @@ fn scenarios_of<'w>(
     }))
 }
 
-/// Whether a format is that of findings as people read them.
-fn is_full(format: Format) -> bool
-    ensures { result ≡ is_full format }
-{
-    match format {
-        Format::Full => true,
-        Format::Text | Format::Count | Format::Lines => false,
-    }
-}
-
 /// The task of `msc check`.
 fn check_of<'w>(queues: Queues, words: &'w ArgMatches, auto: bool) -> Result<Task<'w>, Misuse<'w>>
     ensures task { architecture (found_of words.entry.now) ≡ Some queues
@@ -788,9 +791,6 @@ fn check_of<'w>(queues: Queues, words: &'w ArgMatches, auto: bool) -> Result<Tas
         return Err(Misuse::NoDiagram);
     }
     if is_of_scenarios(words) {
-        if is_full(format_asked(words)) {
-            return Err(Misuse::FullOfDiagrams);
-        }
         return scenarios_of(queues, words, auto);
     }
     Ok(chart_check_of(queues, words, auto))
@@ -988,25 +988,14 @@ fn ready_args_of<'w>(queues: Queues, words: &'w ArgMatches, auto: bool) -> Ready
     }
 }
 
-/// Whether the words of `msc ready` request findings on a diagram as people read them.
-fn is_full_of_diagram(words: &ArgMatches) -> bool
-    ensures { result ≡ is_full_of_diagram (found_of words.now) }
-{
-    is_of_scenarios(words) && is_full(format_of_sticks(words))
-}
-
 /// The task of `msc ready`; `auto` says whether there are colours without `--color`.
 fn ready_of<'w>(queues: Queues, words: &'w ArgMatches, auto: bool) -> Result<Task<'w>, Misuse<'w>>
     ensures task { architecture (found_of words.entry.now) ≡ Some queues
         → IfOk result (AsksFor CommandName.Ready (found_of words.entry.now)) }
-    ensures misuse { IfErr result (IsReadyMisuse (found_of words.entry.now)) }
+    ensures misuse { IfErr result (IsOriginMisuse (found_of words.entry.now)) }
 {
-    let text_args = text_args_of(words)?;
-    if is_full_of_diagram(words) {
-        return Err(Misuse::FullOfDiagrams);
-    }
     let ready_args = ready_args_of(queues, words, auto);
-    Ok(Task::Chart(ChartCommand::Ready(ready_args), text_args))
+    Ok(Task::Chart(ChartCommand::Ready(ready_args), text_args_of(words)?))
 }
 
 /// The language that the words name.

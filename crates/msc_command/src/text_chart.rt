@@ -6,7 +6,7 @@ ghost use Rattle.msc_command.specs.Charted.{of_diagram, of_text, IsCharted};
 ghost use Rattle.msc_command.specs.Sited.{HasEventPositions};
 ghost use Rattle.msc_source.specs.declared.language.Language.TheVariants.{MscPr};
 
-use crate::importing::chart_of;
+use crate::importing::{ImportedDiagram, chart_of};
 use msc_chart::Chart;
 use msc_import::Imported;
 use msc_place::EventPositions;
@@ -19,7 +19,7 @@ use std::marker::Model;
 pub(crate) struct TextChart<'t, 'i> {
     text: &'t [u8],
     chart: Chart,
-    imported: Option<&'i Imported>,
+    drawing: Option<&'i ImportedDiagram>,
 }
 
 impl<'t, 'i> Model for TextChart<'t, 'i> {
@@ -28,10 +28,10 @@ impl<'t, 'i> Model for TextChart<'t, 'i> {
 
     ghost Value = { ChartedText };
 
-    ghost view = { λ t. charted t.text.now t.chart (option_map (λ i. i.now) t.imported) };
+    ghost view = { λ t. charted t.text.now t.chart (option_map (λ i. i.now) t.drawing) };
 
     ghost invariant = { λ t.
-        IsCharted (charted t.text.now t.chart (option_map (λ i. i.now) t.imported)) };
+        IsCharted (charted t.text.now t.chart (option_map (λ i. i.now) t.drawing)) };
 }
 
 impl<'t, 'i> TextChart<'t, 'i> {
@@ -44,7 +44,7 @@ impl<'t, 'i> TextChart<'t, 'i> {
         TextChart {
             text: source.text(),
             chart: source.into_chart(),
-            imported: None,
+            drawing: None,
         }
     }
 
@@ -53,16 +53,16 @@ impl<'t, 'i> TextChart<'t, 'i> {
     pub fn of_import(
         alloc: Global,
         text: &'t [u8],
-        imported: &'i Imported,
+        drawing: &'i ImportedDiagram,
     ) -> Result<TextChart<'t, 'i>, AllocError>
-        requires { IsFaultless imported.now.draft }
-        ensures { IfOk result (λ t. t ≡ of_diagram text.now imported.now) }
+        requires { IsFaultless drawing.now.imported.draft }
+        ensures { IfOk result (λ t. t ≡ of_diagram text.now drawing.now) }
     {
-        match chart_of(alloc, &imported.draft) {
+        match chart_of(alloc, &drawing.imported.draft) {
             Ok(chart) => Ok(TextChart {
                 text,
                 chart,
-                imported: Some(imported),
+                drawing: Some(drawing),
             }),
             Err(_) => Err(AllocError),
         }
@@ -86,7 +86,17 @@ impl<'t, 'i> TextChart<'t, 'i> {
     pub fn imported(&self) -> Option<&'i Imported>
         ensures { option_map (λ i. i.now) result ≡ self.entry.now.imported }
     {
-        self.imported
+        match self.drawing {
+            Some(drawing) => Some(&drawing.imported),
+            None => None,
+        }
+    }
+
+    /// The diagram and its import, if the text is a diagram. It takes no memory.
+    pub fn drawing(&self) -> Option<&'i ImportedDiagram>
+        ensures { option_map (λ i. i.now) result ≡ self.entry.now.drawing }
+    {
+        self.drawing
     }
 
     /// The facts that hold for every text with its chart. It does nothing when it runs.

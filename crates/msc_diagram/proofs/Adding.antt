@@ -52,7 +52,7 @@ place_equiv =
     (both_equiv (λ (p : EventPlace). p.acts) (λ (p : EventPlace). p) beq (λ (a b : EventPlace). nat_eq a.line b.line && nat_eq a.column b.column) bool_eq_equiv
     (both_equiv (λ (p : EventPlace). p.line) (λ (p : EventPlace). p.column) nat_eq nat_eq nat_eq_equiv nat_eq_equiv))
 
-places_equiv : IsEquivalence same_places
+pub places_equiv : IsEquivalence same_places
 places_equiv = both_equiv (λ (p : EventPlace × EventPlace). p.0) (λ (p : EventPlace × EventPlace). p.1) same_place same_place place_equiv place_equiv
 
 -- a race of a scenario is at these places

@@ -1,7 +1,7 @@
 -- Races that are new by the places of their events, some behind others.
-use Rattle.std.proofs.Common.{◌≡◌, zero, suc, ℕ, ◌+◌, Bool, true, false, not, cond, List, [], ◌∷◌, ◌++◌, length, map, refl, sym, ap, ap₂, ◌∙◌, subst, append_assoc, arith}
+use Rattle.std.proofs.Common.{◌≡◌, zero, suc, ℕ, Bool, true, false, not, cond, List, [], ◌∷◌, ◌++◌, map, refl, sym, ap, ap₂, ◌∙◌, subst, append_assoc}
 use Rattle.std.specs.List.{list_any}
-use Rattle.std.proofs.lemmas.List.{append-nil, length-append, length-map, map-append}
+use Rattle.std.proofs.lemmas.List.{append-nil, map-append}
 use Rattle.msc_chart.specs.Lists.{Occurs}
 use Rattle.msc_diagram.specs.Places.{above_with, fresh, places_in, same_places}
 use Rattle.msc_diagram.specs.declared.place.EventPlace.{EventPlace}

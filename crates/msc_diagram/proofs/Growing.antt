@@ -13,8 +13,8 @@ use Rattle.msc_print.specs.declared.page.WriteFault.TheVariants.{Memory, Device}
 use Rattle.msc_judge.specs.declared.options.CheckOptions.{CheckOptions}
 use Rattle.msc_diagram.specs.Places.{above_with}
 use Rattle.msc_reason.specs.declared.kinds.KindSet.{KindSet}
-use Rattle.msc_diagram.specs.Scenarios.{asked_of, case_text, cases_text, counting_of, passed_of, places_from, AreCases, Case, IsCase, Telling}
-use Rattle.msc_diagram.specs.Telling.{telling_by, PutsCase, PutsCases, TellsCase, TellsCases}
+use Rattle.msc_diagram.specs.Scenarios.{asked_of, case_text, cases_text, counting_of, new_in, passed_of, places_from, AreCases, AreTextsIf, AreTold, Case, IsCase, TextsOf}
+use Rattle.msc_diagram.specs.Telling.{has_heads, AreTextsBy, IsTold, PutsCase, PutsCases, TellsCase, TellsCases}
 use Rattle.msc_diagram.specs.declared.cases.Asked.{Asked}
 use Rattle.msc_diagram.specs.declared.place.EventPlace.{EventPlace}
 use Rattle.msc_diagram.specs.declared.scenario.Scenario.{Scenario}
@@ -26,7 +26,7 @@ places_more pairs above [] c = refl
 places_more pairs above (d ∷ cases) c = places_more pairs (above_with d.scenario above (pairs d)) cases c
 
 -- what is written of one scenario more
-pub cases_more : (t : Telling) (queues : Queues) (q : CheckOptions) (i j : ℕ) (above : List (EventPlace × EventPlace)) (cases : List Case) (c : Case) → j ≡ i + length cases
+pub cases_more : (t : Bool) (queues : Queues) (q : CheckOptions) (i j : ℕ) (above : List (EventPlace × EventPlace)) (cases : List Case) (c : Case) → j ≡ i + length cases
     → cases_text t queues q i above (cases ++ c ∷ [])
     ≡ cases_text t queues q i above cases ++ case_text t queues q j (places_from (asked_of queues q) above cases) c
 cases_more t queues q i j above [] c is =
@@ -36,6 +36,19 @@ cases_more t queues q i j above (d ∷ cases) c is =
     ap (λ (text : List ℕ). case_text t queues q i above d ++ text) (cases_more t queues q (i + 1) j (above_with d.scenario above (asked_of queues q d)) cases c (omega (arith, is)))
     ∙ sym (append_assoc (case_text t queues q i above d) (cases_text t queues q (i + 1) (above_with d.scenario above (asked_of queues q d)) cases)
     (case_text t queues q j (places_from (asked_of queues q) (above_with d.scenario above (asked_of queues q d)) cases) c))
+
+-- what is known of the texts of one scenario more
+pub told_more : (are : TextsOf) (queues : Queues) (q : CheckOptions) (i j : ℕ) (above : List (EventPlace × EventPlace)) (cases : List Case) (c : Case) → j ≡ i + length cases
+    → AreTold are queues q i above cases
+    → AreTextsIf are j (length (places_from (asked_of queues q) above cases)) (new_in queues q (places_from (asked_of queues q) above cases) c) c.scenario c.texts
+    → AreTold are queues q i above (cases ++ c ∷ [])
+told_more are queues q i j above [] c is told its =
+    let same : j ≡ i = omega (arith, is) in
+    (subst (λ (n : ℕ). AreTextsIf are n (length above) (new_in queues q above c) c.scenario c.texts) same its, tt)
+told_more are queues q i j above (d ∷ cases) c is told its = (
+  told.0,
+  told_more are queues q (i + 1) j (above_with d.scenario above (asked_of queues q d)) cases c (omega (arith, is)) told.1 its,
+)
 
 -- one scenario more has no race that counts, or has some
 pub passed_more : (queues : Queues) (kinds : KindSet) (cases : List Case) (c : Case)
@@ -74,7 +87,7 @@ module _ (a : Asked) (scenarios : List Scenario) (k : ℕ) (d : Scenario) (withi
       → PutsCases a (take (k + 1) scenarios) above later before after old new more
   cases_grow later new passed count more p c is =
       let q = a.options in
-      let t = telling_by a.format in
+      let t = has_heads a.format in
       let many = so_many p.cases p.are in
       let number : k + 1 ≡ 1 + length p.cases = omega (arith, many) in
       record {
@@ -83,6 +96,8 @@ module _ (a : Asked) (scenarios : List Scenario) (k : ℕ) (d : Scenario) (withi
         counted = is ∙ ap₂ (λ (x r : ℕ). x + cond (nat_eq r 0) 1 0) p.counted c.counted ∙ sym (passed_more a.queues q.allowed p.cases c.known);
         reported = c.reported ∙ ap (λ (l : List (EventPlace × EventPlace)). above_with c.known.scenario l (asked_of a.queues q c.known)) p.reported
             ∙ sym (places_more (asked_of a.queues q) above p.cases c.known);
+        told = told_more (AreTextsBy a.format a.queues) a.queues q 1 (k + 1) above p.cases c.known number p.told
+            (subst (λ (l : List (EventPlace × EventPlace)). IsTold a (k + 1) l c.known) p.reported c.told);
         put = subst (Pages before after old new) (sym (cases_more t a.queues q 1 (k + 1) above p.cases c.known number))
             (pages_then before mid after old one new (cases_text t a.queues q 1 above p.cases) (case_text t a.queues q (k + 1) (places_from (asked_of a.queues q) above p.cases) c.known)
             p.put (subst (λ (l : List (EventPlace × EventPlace)). Pages mid after one new (case_text t a.queues q (k + 1) l c.known)) p.reported c.put));
@@ -103,24 +118,27 @@ module _ (a : Asked) (scenarios : List Scenario) (k : ℕ) (d : Scenario) (withi
       → TellsCase a (k + 1) (get_or scenarios k d) now later mid after one new (Err f)
       → TellsCases a scenarios above below before after old last (Err f)
   cases_stop later below new last passed Memory p (inl begun) =
-      let t = telling_by a.format in
+      let t = has_heads a.format in
       let text = cases_text t a.queues a.options 1 above p.cases in
       record {
         first = k;
         cases = p.cases;
         are = p.are;
+        told = p.told;
         begun = subst (λ (x : List ℕ). WritesBeginning before after (old ++ x)) (append-nil text)
             (begins_behind text [] p.put (subst (WritesBeginning mid after) (sym (append-nil one)) begun));
       }
-  cases_stop later below new last passed Memory p (inr (c, same, is, begun)) =
+  cases_stop later below new last passed Memory p (inr (c, same, is, told, begun)) =
       let q = a.options in
-      let t = telling_by a.format in
+      let t = has_heads a.format in
       let many = so_many p.cases p.are in
       let number : k + 1 ≡ 1 + length p.cases = omega (arith, many) in
       record {
         first = k + 1;
         cases = p.cases ++ c ∷ [];
         are = known_more a.queues q.short scenarios k p.cases c d p.are is within same;
+        told = told_more (AreTextsBy a.format a.queues) a.queues q 1 (k + 1) above p.cases c number p.told
+            (subst (λ (l : List (EventPlace × EventPlace)). IsTold a (k + 1) l c) p.reported told);
         begun = subst (λ (x : List ℕ). WritesBeginning before after (old ++ x)) (sym (cases_more t a.queues q 1 (k + 1) above p.cases c number))
             (begins_behind (cases_text t a.queues q 1 above p.cases) (case_text t a.queues q (k + 1) (places_from (asked_of a.queues q) above p.cases) c) p.put
             (subst (λ (l : List (EventPlace × EventPlace)). WritesBeginning mid after (one ++ case_text t a.queues q (k + 1) l c)) p.reported begun));

@@ -9,3 +9,5 @@ pub mod Same
 pub mod Above
 pub mod Adding
 pub mod Answering
+pub mod Tallying
+pub mod Seen

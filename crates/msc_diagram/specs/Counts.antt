@@ -1,6 +1,6 @@
 -- How many places of races the scenarios of a diagram have. A place is a pair of places of events:
 -- the instance, and both arrows with the end of each. This project's own numbers.
-use Rattle.std.specs.Prelude.{◌≡◌, ℕ, Bool, ◌&&◌, ◌||◌, not, cond, List, [], ◌++◌, Option, None, Some, codes, length, nat_eq}
+use Rattle.std.specs.Prelude.{◌≡◌, ℕ, Bool, ◌&&◌, ◌||◌, not, cond, List, [], ◌++◌, Option, None, Some, codes, count_by, length, map, nat_eq}
 use Rattle.std.specs.Fmt.{decimal}
 use Rattle.std.specs.List.{filter, list_any}
 use Rattle.msc_chart.specs.declared.queue.Queues.{Queues}
@@ -8,7 +8,7 @@ use Rattle.msc_judge.specs.declared.options.CheckOptions.{CheckOptions}
 use Rattle.msc_reason.specs.Kinds.{is_empty}
 use Rattle.msc_reason.specs.declared.kinds.KindSet.{KindSet}
 use Rattle.msc_report.specs.Texts.{text_line}
-use Rattle.msc_diagram.specs.Places.{same_places}
+use Rattle.msc_diagram.specs.Places.{places_in, same_places}
 use Rattle.msc_diagram.specs.Scenarios.{all_of, asked_of, counting_of, places_from, AreCases, Case}
 use Rattle.msc_diagram.specs.declared.numbers.PlaceCounts.{PlaceCounts}
 use Rattle.msc_diagram.specs.declared.place.EventPlace.{EventPlace}
@@ -29,6 +29,14 @@ counting_places queues kinds cases = places_from (counting_of queues kinds) [] c
 -- those at which a race is listed: one that counts, or a closest one, in some scenario
 abbrev pub listed_places : Queues → CheckOptions → List Case → List (EventPlace × EventPlace)
 listed_places queues q cases = places_from (asked_of queues q) [] cases
+
+-- a race of a scenario counts at these places
+abbrev pub counts_at : Queues → KindSet → EventPlace × EventPlace → Case → Bool
+counts_at queues kinds places c = list_any (same_places places) (map (places_in c.scenario) (counting_of queues kinds c))
+
+-- in how many scenarios one does
+abbrev pub counted_in : Queues → KindSet → List Case → EventPlace × EventPlace → ℕ
+counted_in queues kinds cases places = count_by (counts_at queues kinds places) cases
 
 -- the places of the first list that are not in the second
 abbrev pub without : List (EventPlace × EventPlace) → List (EventPlace × EventPlace) → List (EventPlace × EventPlace)
@@ -61,6 +69,12 @@ counts_of_all races = record { races = races; allowed = None; closest = None; li
 abbrev pub AreCountsOf : List Scenario → Queues → CheckOptions → PlaceCounts → Type 0
 AreCountsOf scenarios queues q counts =
     (cases : List Case) × AreCases queues q.short scenarios cases × (counts ≡ place_counts queues q cases)
+
+-- these are the numbers, by place, of the scenarios in which a race counts there
+abbrev pub AreCountedIn : List Scenario → Queues → CheckOptions → (EventPlace × EventPlace → ℕ) → Type 0
+AreCountedIn scenarios queues q counted =
+    (cases : List Case) × AreCases queues q.short scenarios cases
+    × ((places : EventPlace × EventPlace) → counted places ≡ counted_in queues q.allowed cases places)
 
 -- the line of a word and a number
 abbrev pub number_line : List ℕ → ℕ → List ℕ

@@ -7,3 +7,7 @@ pub mod Judging
 pub mod Telling
 pub mod Laws
 pub mod Lent
+pub mod Arrows
+pub mod Tallies
+pub mod Full
+pub mod Closing

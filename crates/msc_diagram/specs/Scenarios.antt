@@ -21,12 +21,13 @@ use Rattle.msc_diagram.specs.Places.{above_with, fresh}
 use Rattle.msc_diagram.specs.declared.place.EventPlace.{EventPlace}
 use Rattle.msc_diagram.specs.declared.scenario.Scenario.{Scenario}
 
--- what is known of a scenario: an order of its chart's events, and of each two events the run that
--- shows them
+-- what is known of a scenario: an order of its chart's events, of each two events the run that shows
+-- them, and the texts of its races
 pub record Case : Type 0 where
   pub scenario : Scenario
   pub order : Table
   pub runs : ℕ × ℕ → List ℕ
+  pub texts : Texts
 
 -- its chart under an architecture
 abbrev pub judged_in : Queues → Case → EnforcedChart
@@ -84,24 +85,41 @@ abbrev pub told_text : (ℕ → ℕ × ℕ → List ℕ) → List ℕ → ℕ �
 told_text text head most n [] = []
 told_text text head most n (p ∷ pairs) = head ++ told_from text most n (p ∷ pairs)
 
--- how scenarios are told: by which texts, and whether with heads
-pub record Telling : Type 0 where
-  pub texts : Scenario → Texts
-  pub heads : Bool
+-- the races of a scenario that are asked for and whose places none of these races has
+abbrev pub new_in : Queues → CheckOptions → List (EventPlace × EventPlace) → Case → List (ℕ × ℕ)
+new_in queues q above c = fresh c.scenario above (asked_of queues q c)
 
--- what is written of a scenario by its number, below races of these places
-abbrev pub case_text : Telling → Queues → CheckOptions → ℕ → List (EventPlace × EventPlace) → Case → List ℕ
-case_text t queues q i above c =
-    told_text (race_text (t.texts c.scenario) (judged_in queues c) q c.runs)
-    (head_text (cond t.heads (Some i) None) c.scenario.choices (length (all_of queues c)))
-    q.most (length above) (fresh c.scenario above (asked_of queues q c))
+-- what is written of a scenario by its number, with a head or without, below races of these places
+abbrev pub case_text : Bool → Queues → CheckOptions → ℕ → List (EventPlace × EventPlace) → Case → List ℕ
+case_text heads queues q i above c =
+    told_text (race_text c.texts (judged_in queues c) q c.runs)
+    (head_text (cond heads (Some i) None) c.scenario.choices (length (all_of queues c)))
+    q.most (length above) (new_in queues q above c)
 
 -- what is written of these scenarios, numbered from here on
-abbrev pub cases_text : Telling → Queues → CheckOptions → ℕ → List (EventPlace × EventPlace) → List Case → List ℕ
-cases_text t queues q i above [] = []
-cases_text t queues q i above (c ∷ cases) =
-    case_text t queues q i above c
-    ++ cases_text t queues q (i + 1) (above_with c.scenario above (asked_of queues q c)) cases
+abbrev pub cases_text : Bool → Queues → CheckOptions → ℕ → List (EventPlace × EventPlace) → List Case → List ℕ
+cases_text heads queues q i above [] = []
+cases_text heads queues q i above (c ∷ cases) =
+    case_text heads queues q i above c
+    ++ cases_text heads queues q (i + 1) (above_with c.scenario above (asked_of queues q c)) cases
+
+-- texts of the races of a scenario, of which this is known: the number of the scenario, that of the
+-- first of these races, and they
+abbrev pub TextsOf : Type 1
+TextsOf = ℕ → ℕ → List (ℕ × ℕ) → Scenario → Texts → Type 0
+
+-- texts are known of races, if there are some
+abbrev pub AreTextsIf : TextsOf → ℕ → ℕ → List (ℕ × ℕ) → Scenario → Texts → Type 0
+AreTextsIf are i first [] s texts = Unit {0}
+AreTextsIf are i first (p ∷ pairs) s texts = are i first (p ∷ pairs) s texts
+
+-- the texts of these scenarios, numbered from here on and below races of these places, are those of
+-- their new races
+abbrev pub AreTold : TextsOf → Queues → CheckOptions → ℕ → List (EventPlace × EventPlace) → List Case → Type 0
+AreTold are queues q i above [] = Unit {0}
+AreTold are queues q i above (c ∷ cases) =
+    AreTextsIf are i (length above) (new_in queues q above c) c.scenario c.texts
+    × AreTold are queues q (i + 1) (above_with c.scenario above (asked_of queues q c)) cases
 
 -- how many scenarios have no race that counts
 abbrev pub passed_of : Queues → KindSet → List Case → ℕ

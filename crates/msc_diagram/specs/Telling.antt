@@ -1,27 +1,63 @@
 -- What goes out of scenarios in pages.
-use Rattle.std.specs.Prelude.{◌≡◌, ◌⊎◌, ℕ, true, false, List, [], ◌++◌, Option, None, Some, Result, Ok, Err, length, take}
+use Rattle.std.specs.Prelude.{◌≡◌, ◌⊎◌, ℕ, ◌+◌, Bool, cond, true, false, List, [], ◌++◌, Option, None, Some, Result, Ok, Err, length, take}
+use Rattle.std.specs.String.{string_bytes}
 use Rattle.msc_chart.specs.declared.queue.Queues.{Queues}
-use Rattle.msc_print.specs.Pages.{Pages, WritesBeginning}
+use Rattle.msc_judge.specs.Findings.{Texts}
+use Rattle.msc_print.specs.Pages.{Pages, Puts, WritesBeginning}
 use Rattle.msc_reason.specs.Kinds.{is_empty}
+use Rattle.msc_shown_diagram.specs.Choices.{AreChoicesSaid}
 use Rattle.msc_print.specs.declared.page.WriteFault.{WriteFault}
 use Rattle.msc_print.specs.declared.page.WriteFault.TheVariants.{Memory, Device}
 use Rattle.msc_judge.specs.declared.options.CheckOptions.{CheckOptions}
-use Rattle.msc_diagram.specs.Counts.{chooses, counts_text, AreCountsOf}
-use Rattle.msc_diagram.specs.Judging.{editors_in, lines_in}
+use Rattle.msc_diagram.specs.Counts.{chooses, counted_in, counts_at, counts_of, counts_text, place_counts, AreCountsOf}
+use Rattle.msc_diagram.specs.Full.{AreEventsOf, AreFullTexts}
+use Rattle.msc_diagram.specs.Judging.{editors_of, lines_of}
 use Rattle.msc_diagram.specs.Places.{above_with}
-use Rattle.msc_diagram.specs.Scenarios.{all_of, asked_of, case_text, cases_text, counting_of, passed_of, places_from, AreCases, Case, IsCase, Telling}
+use Rattle.msc_diagram.specs.Scenarios.{all_of, asked_of, case_text, cases_text, counting_of, passed_of, places_from, new_in, AreCases, AreTextsIf, AreTold, Case, IsCase, TextsOf}
+use Rattle.msc_diagram.specs.Tallies.{counts_of as counts_at_places, tally_at}
 use Rattle.msc_diagram.specs.declared.answer.Answer.{Answer}
 use Rattle.msc_diagram.specs.declared.cases.Asked.{Asked}
 use Rattle.msc_diagram.specs.declared.cases.RaceFormat.{RaceFormat}
-use Rattle.msc_diagram.specs.declared.cases.RaceFormat.TheVariants.{Lines, Editor}
+use Rattle.msc_diagram.specs.declared.cases.RaceFormat.TheVariants.{Lines, Editor, Full}
+use Rattle.msc_diagram.specs.declared.full.CaseWords.{CaseWords}
+use Rattle.msc_diagram.specs.declared.full.FullAsked.{FullAsked}
 use Rattle.msc_diagram.specs.declared.numbers.PlaceCounts.{PlaceCounts}
 use Rattle.msc_diagram.specs.declared.place.EventPlace.{EventPlace}
 use Rattle.msc_diagram.specs.declared.scenario.Scenario.{Scenario}
 
--- how scenarios are told in a format
-abbrev pub telling_by : RaceFormat → Telling
-telling_by (Lines words) = lines_in words
-telling_by Editor = editors_in
+-- scenarios have heads in a format
+abbrev pub has_heads : RaceFormat → Bool
+has_heads (Lines words) = true
+has_heads Editor = false
+has_heads (Full f) = false
+
+-- these are the texts of the new races of a scenario in a format
+abbrev pub AreTextsBy : RaceFormat → Queues → TextsOf
+AreTextsBy (Lines words) queues i first new s texts = texts ≡ lines_of words s
+AreTextsBy Editor queues i first new s texts = texts ≡ editors_of s
+AreTextsBy (Full f) queues i first new s texts =
+    AreFullTexts f.shown f.scenarios queues i first (counts_at_places f.tally.now s new) s texts
+
+-- what is known of the texts of a scenario by its number, below races of these places
+abbrev pub IsTold : Asked → ℕ → List (EventPlace × EventPlace) → Case → Type 0
+IsTold a i above c = AreTextsIf (AreTextsBy a.format a.queues) i (length above) (new_in a.queues a.options above c) c.scenario c.texts
+
+abbrev pub AreToldBy : Asked → List (EventPlace × EventPlace) → List Case → Type 0
+AreToldBy a above cases = AreTold (AreTextsBy a.format a.queues) a.queues a.options 1 above cases
+
+-- these are the words of these races of a scenario: those of its events, its choices, and how many
+-- scenarios count at each place
+pub record AreCaseWords (a : FullAsked) (pairs : List (ℕ × ℕ)) (s : Scenario) (w : CaseWords) : Type 0 where
+  pub events : AreEventsOf a.races.shown a.queues s w.events
+  pub choices : AreChoicesSaid a.races.shown.diagram.now a.races.shown.text.now s.choices (string_bytes w.choices)
+  pub counts : w.counts.items ≡ counts_at_places a.races.tally.now s pairs
+
+-- What a text of some races says was put behind a page, with texts of races of which this is known; or
+-- memory ran out before there were any.
+abbrev pub PutsNew : (Texts → Type 0) → (Texts → List ℕ) → Result (Unit {0}) WriteFault → Option (List ℕ) → Option (List ℕ) → List ℕ → List ℕ → Type 0
+PutsNew are text result before after old new =
+    ((texts : Texts) × are texts × Puts result before after old new (text texts))
+    ⊎ ((result ≡ Err Memory) × WritesBeginning before after old)
 
 -- A scenario of which so many races count was put behind a page by its number, below races of these
 -- places, which those that were listed join: of the page and its text a beginning went out.
@@ -31,14 +67,15 @@ pub record PutsCase (a : Asked) (i : ℕ) (s : Scenario) (above below : List (Ev
   pub is : IsCase a.queues a.options.short known
   pub counted : counting ≡ length (counting_of a.queues a.options.allowed known)
   pub reported : below ≡ above_with known.scenario above (asked_of a.queues a.options known)
-  pub put : Pages before after old new (case_text (telling_by a.format) a.queues a.options i above known)
+  pub told : IsTold a i above known
+  pub put : Pages before after old new (case_text (has_heads a.format) a.queues a.options i above known)
 
 -- memory ran out: a beginning of the page went out, or of the page and the text of the scenario
 abbrev pub StopsCase : Asked → ℕ → Scenario → List (EventPlace × EventPlace) → Option (List ℕ) → Option (List ℕ) → List ℕ → Type 0
 StopsCase a i s above before after old =
     WritesBeginning before after old
-    ⊎ ((c : Case) × (c.scenario ≡ s) × IsCase a.queues a.options.short c
-    × WritesBeginning before after (old ++ case_text (telling_by a.format) a.queues a.options i above c))
+    ⊎ ((c : Case) × (c.scenario ≡ s) × IsCase a.queues a.options.short c × IsTold a i above c
+    × WritesBeginning before after (old ++ case_text (has_heads a.format) a.queues a.options i above c))
 
 -- it was put, or memory ran out, or the writer failed
 abbrev pub TellsCase : Asked → ℕ → Scenario → List (EventPlace × EventPlace) → List (EventPlace × EventPlace) → Option (List ℕ) → Option (List ℕ) → List ℕ → List ℕ → Result ℕ WriteFault → Type 0
@@ -52,14 +89,16 @@ pub record PutsCases (a : Asked) (scenarios : List Scenario) (above below : List
   pub are : AreCases a.queues a.options.short scenarios cases
   pub counted : passed ≡ passed_of a.queues a.options.allowed cases
   pub reported : below ≡ places_from (asked_of a.queues a.options) above cases
-  pub put : Pages before after old new (cases_text (telling_by a.format) a.queues a.options 1 above cases)
+  pub told : AreToldBy a above cases
+  pub put : Pages before after old new (cases_text (has_heads a.format) a.queues a.options 1 above cases)
 
 -- memory ran out: of the page and the text of the first scenarios a beginning went out
 pub record StopsCases (a : Asked) (scenarios : List Scenario) (above : List (EventPlace × EventPlace)) (before after : Option (List ℕ)) (old : List ℕ) : Type 0 where
   pub first : ℕ
   pub cases : List Case
   pub are : AreCases a.queues a.options.short (take first scenarios) cases
-  pub begun : WritesBeginning before after (old ++ cases_text (telling_by a.format) a.queues a.options 1 above cases)
+  pub told : AreToldBy a above cases
+  pub begun : WritesBeginning before after (old ++ cases_text (has_heads a.format) a.queues a.options 1 above cases)
 
 -- they were put, or memory ran out, or the writer failed
 abbrev pub TellsCases : Asked → List Scenario → List (EventPlace × EventPlace) → List (EventPlace × EventPlace) → Option (List ℕ) → Option (List ℕ) → List ℕ → List ℕ → Result ℕ WriteFault → Type 0
@@ -78,19 +117,29 @@ above_text q None = []
 above_text q (Some counts) = counts_text q counts
 
 -- the races of a scenario joined the places of all races, of those that count if some kinds are
--- left out, and of those that are listed
-pub record SeesCase (s : Scenario) (queues : Queues) (q : CheckOptions) (old new : Answer) : Type 0 where
+-- left out, and of those that are listed; and the scenario was counted for the places of those that
+-- count, if that is asked for
+pub record SeesCase (s : Scenario) (queues : Queues) (q : CheckOptions) (tallies : Bool) (old new : Answer) : Type 0 where
   pub known : Case
   pub scenario : known.scenario ≡ s
   pub is : IsCase queues q.short known
   pub all : new.all ≡ above_with s old.all (all_of queues known)
   pub counting : is_empty q.allowed ≡ false → new.counting ≡ above_with s old.counting (counting_of queues q.allowed known)
   pub listed : new.listed ≡ above_with s old.listed (asked_of queues q known)
+  pub tally : tallies ≡ true → (p : EventPlace × EventPlace) → tally_at new.tally p ≡ tally_at old.tally p + cond (counts_at queues q.allowed p known) 1 0
 
 -- the same of all scenarios
-pub record SeesCases (scenarios : List Scenario) (queues : Queues) (q : CheckOptions) (old new : Answer) : Type 0 where
+pub record SeesCases (scenarios : List Scenario) (queues : Queues) (q : CheckOptions) (tallies : Bool) (old new : Answer) : Type 0 where
   pub cases : List Case
   pub are : AreCases queues q.short scenarios cases
   pub all : new.all ≡ places_from (all_of queues) old.all cases
   pub counting : is_empty q.allowed ≡ false → new.counting ≡ places_from (counting_of queues q.allowed) old.counting cases
   pub listed : new.listed ≡ places_from (asked_of queues q) old.listed cases
+  pub tally : tallies ≡ true → (p : EventPlace × EventPlace) → tally_at new.tally p ≡ tally_at old.tally p + counted_in queues q.allowed cases p
+
+-- these are the places of the races of scenarios, and the numbers of scenarios in which one counts
+pub record IsAnswerOf (scenarios : List Scenario) (queues : Queues) (q : CheckOptions) (answer : Answer) : Type 0 where
+  pub cases : List Case
+  pub are : AreCases queues q.short scenarios cases
+  pub counts : counts_of q answer.all answer.counting answer.listed ≡ place_counts queues q cases
+  pub counted : (p : EventPlace × EventPlace) → tally_at answer.tally p ≡ counted_in queues q.allowed cases p

@@ -3,9 +3,12 @@
 ghost use Rattle.std.specs.Prelude.{◌≡◌, [], None, Some, cond, length};
 ghost use Rattle.msc_reason.specs.Kinds.{is_empty};
 ghost use Rattle.msc_diagram.specs.Counts.{counts_of, without};
+ghost use Rattle.msc_diagram.specs.Tallies.{tally_at};
+ghost use Rattle.msc_diagram.specs.declared.place.EventPlace.{EventPlace};
 
 use crate::numbers::PlaceCounts;
 use crate::reported::ReportedRaces;
+use crate::tally::PlaceTally;
 use msc_judge::CheckOptions;
 use std::alloc::Global;
 
@@ -18,6 +21,8 @@ pub(crate) struct Answer {
     pub counting: ReportedRaces,
     /// The places of races that are listed.
     pub listed: ReportedRaces,
+    /// In how many scenarios a race counts at each place, if that is asked for.
+    pub tally: PlaceTally,
 }
 
 impl Answer {
@@ -26,11 +31,13 @@ impl Answer {
         ensures all { result.all ≡ [] }
         ensures counting { result.counting ≡ [] }
         ensures listed { result.listed ≡ [] }
+        ensures tally { (places : EventPlace × EventPlace) → tally_at result.tally places ≡ 0 }
     {
         Answer {
             all: ReportedRaces::new(alloc),
             counting: ReportedRaces::new(alloc),
             listed: ReportedRaces::new(alloc),
+            tally: PlaceTally::new(alloc),
         }
     }
 

@@ -1,18 +1,19 @@
 //! All scenarios, one below the other.
 
-ghost use Rattle.std.specs.Prelude.{◌≡◌, ◌++◌, ℕ, List, None, OnOk, Some, cond, length};
+ghost use Rattle.std.specs.Prelude.{◌≡◌, ◌++◌, ◌<◌, ℕ, List, None, OnOk, Some, cond, length};
+ghost use Rattle.std.specs.List.{All};
 ghost use Rattle.msc_race.specs.Views.{wiring_of, AreRacesOf};
 ghost use Rattle.msc_reason.specs.Counting.{listed};
 ghost use Rattle.msc_reason.specs.Marked.{cause_in};
 ghost use Rattle.msc_judge.specs.Findings.{AreShown};
-ghost use Rattle.msc_print.specs.Pages.{Puts};
 ghost use Rattle.msc_judge.specs.Telling.{race_text, told_from};
-ghost use Rattle.msc_diagram.specs.Places.{above_with, fresh};
-ghost use Rattle.msc_diagram.specs.Scenarios.{head_text, told_text};
-ghost use Rattle.msc_diagram.specs.Telling.{telling_by, TellsCase, TellsCases};
+ghost use Rattle.msc_diagram.specs.Places.{above_with, fresh, AreAllPlaces};
+ghost use Rattle.msc_diagram.specs.Scenarios.{head_text, told_text, AreTextsIf};
+ghost use Rattle.msc_diagram.specs.Telling.{has_heads, AreTextsBy, PutsNew, TellsCase, TellsCases};
 
 use crate::counting::new_listed;
-use crate::place::places_of;
+use crate::full::{FullAsked, FullRaces, print_full};
+use crate::place::{EventPlace, places_of};
 use crate::reported::ReportedRaces;
 use crate::scenario::Scenario;
 use crate::source::Source;
@@ -27,27 +28,29 @@ use msc_report::{Editor, Lines, Style};
 use std::alloc::Global;
 use std::io::Write;
 
-/// How scenarios are printed: in lines, with runs in words or by numbers; or in lines for editors.
+/// How scenarios are printed: in lines, with runs in words or by numbers; in lines for editors; or
+/// as people read them.
 #[derive(Clone, Copy)]
-pub(crate) enum RaceFormat {
+pub(crate) enum RaceFormat<'f, 'w> {
     Lines(bool),
     Editor,
+    Full(FullRaces<'f, 'w>),
 }
 
 /// The options of a check of scenarios under an architecture, and the format of its answer.
 #[derive(Clone, Copy)]
-pub(crate) struct Asked {
+pub(crate) struct Asked<'f, 'w> {
     pub queues: Queues,
     pub options: CheckOptions,
-    pub format: RaceFormat,
+    pub format: RaceFormat<'f, 'w>,
 }
 
 /// A scenario with its number, from 1, and the number of its races.
 #[derive(Clone, Copy)]
-struct Numbered<'s, 'f> {
-    scenario: &'s Scenario<'f>,
-    number: usize,
-    races: u32,
+pub(crate) struct Numbered<'s, 'f> {
+    pub scenario: &'s Scenario<'f>,
+    pub number: usize,
+    pub races: u32,
 }
 
 /// Appends the head of a scenario and its new races to a page in a format. Full pages go to the
@@ -57,20 +60,25 @@ fn print_new<W: Write>(
     writer: &mut W,
     page: &mut Page,
     new: NewPairs<'_>,
+    places: &[EventPlace],
     listing: &Listing<'_>,
-    asked: Asked,
+    asked: Asked<'_, '_>,
     numbered: Numbered<'_, '_>,
 ) -> Result<(), WriteFault>
     requires chart { listing.now.judged.chart ≡ numbered.scenario.now.chart }
     requires races { AreRacesOf listing.now.judged new.pairs.now }
+    requires places { AreAllPlaces numbered.scenario.now places.now }
+    requires within { All (λ p. (p.0 < length places.now) × (p.1 < length places.now)) new.pairs.now }
     ensures { (runs : ℕ × ℕ → List ℕ)
-        → AreShown asked.options.short (wiring_of listing.now.judged) runs
-        → Puts result (W.contents writer.old) (W.contents writer.new)
-        page.old.bytes.items page.new.bytes.items
-        (head_text (cond (telling_by asked.format).heads (Some numbered.entry.number) None)
+        → AreShown asked.entry.options.short (wiring_of listing.now.judged) runs
+        → PutsNew (AreTextsBy asked.entry.format asked.entry.queues numbered.entry.number
+        new.entry.first new.entry.pairs.now numbered.entry.scenario.now)
+        (λ texts. head_text (cond (has_heads asked.entry.format) (Some numbered.entry.number) None)
         numbered.entry.scenario.now.choices numbered.entry.races
-        ++ told_from (race_text ((telling_by asked.format).texts numbered.entry.scenario.now)
-        listing.now.judged asked.options runs) asked.options.most new.entry.first new.entry.pairs.now) }
+        ++ told_from (race_text texts listing.now.judged asked.entry.options runs)
+        asked.entry.options.most new.entry.first new.entry.pairs.now)
+        result (W.contents writer.old) (W.contents writer.new)
+        page.old.bytes.items page.new.bytes.items }
 {
     let Numbered {
         scenario,
@@ -109,6 +117,14 @@ fn print_new<W: Write>(
             };
             print_scenario(alloc, writer, page, &rows, new, scenario, head)
         }
+        RaceFormat::Full(races) => {
+            let asked = FullAsked {
+                queues: asked.queues,
+                options,
+                races,
+            };
+            print_full(alloc, writer, page, new, places, listing, asked, numbered)
+        }
     }
 }
 
@@ -120,7 +136,7 @@ fn print_in_format<W: Write>(
     page: &mut Page,
     reported: &mut ReportedRaces,
     listing: &Listing<'_>,
-    asked: Asked,
+    asked: Asked<'_, '_>,
     numbered: Numbered<'_, '_>,
 ) -> Result<(), WriteFault>
     requires chart { listing.now.judged.chart ≡ numbered.scenario.now.chart }
@@ -128,16 +144,19 @@ fn print_in_format<W: Write>(
         (listed listing.now.judged listing.now.allowed listing.now.closest
         (cause_in listing.now.judged))) }
     ensures put { (runs : ℕ × ℕ → List ℕ)
-        → AreShown asked.options.short (wiring_of listing.now.judged) runs
-        → Puts result (W.contents writer.old) (W.contents writer.new)
-        page.old.bytes.items page.new.bytes.items (told_text
-        (race_text ((telling_by asked.format).texts numbered.entry.scenario.now)
-        listing.now.judged asked.options runs)
-        (head_text (cond (telling_by asked.format).heads (Some numbered.entry.number) None)
-        numbered.entry.scenario.now.choices numbered.entry.races)
-        asked.options.most (length reported.old) (fresh numbered.entry.scenario.now reported.old
+        → AreShown asked.entry.options.short (wiring_of listing.now.judged) runs
+        → PutsNew (AreTextsIf (AreTextsBy asked.entry.format asked.entry.queues)
+        numbered.entry.number (length reported.old) (fresh numbered.entry.scenario.now reported.old
         (listed listing.now.judged listing.now.allowed listing.now.closest
-        (cause_in listing.now.judged)))) }
+        (cause_in listing.now.judged))) numbered.entry.scenario.now)
+        (λ texts. told_text (race_text texts listing.now.judged asked.entry.options runs)
+        (head_text (cond (has_heads asked.entry.format) (Some numbered.entry.number) None)
+        numbered.entry.scenario.now.choices numbered.entry.races)
+        asked.entry.options.most (length reported.old) (fresh numbered.entry.scenario.now reported.old
+        (listed listing.now.judged listing.now.allowed listing.now.closest
+        (cause_in listing.now.judged))))
+        result (W.contents writer.old) (W.contents writer.new)
+        page.old.bytes.items page.new.bytes.items }
 {
     listing.enforced().facts();
     let places = places_of(alloc, numbered.scenario)?;
@@ -150,7 +169,16 @@ fn print_in_format<W: Write>(
         pairs: new.as_slice(),
         first,
     };
-    print_new(alloc, writer, page, new, listing, asked, numbered)
+    print_new(
+        alloc,
+        writer,
+        page,
+        new,
+        places.as_slice(),
+        listing,
+        asked,
+        numbered,
+    )
 }
 
 /// Appends the scenario of this number to a page, and returns how many of its races count.
@@ -159,11 +187,11 @@ fn print_case<W: Write>(
     writer: &mut W,
     page: &mut Page,
     reported: &mut ReportedRaces,
-    asked: Asked,
+    asked: Asked<'_, '_>,
     scenario: &Scenario<'_>,
     number: usize,
 ) -> Result<u32, WriteFault>
-    ensures { TellsCase asked number scenario.now reported.old reported.new
+    ensures { TellsCase asked.entry number scenario.now reported.old reported.new
         (W.contents writer.old) (W.contents writer.new)
         page.old.bytes.items page.new.bytes.items result }
 {
@@ -191,10 +219,10 @@ pub(crate) fn print_cases<S: Source, W: Write>(
     writer: &mut W,
     page: &mut Page,
     reported: &mut ReportedRaces,
-    asked: Asked,
+    asked: Asked<'_, '_>,
     scenarios: &S,
 ) -> Result<usize, WriteFault>
-    ensures { TellsCases asked (S.scenarios scenarios.now) reported.old reported.new
+    ensures { TellsCases asked.entry (S.scenarios scenarios.now) reported.old reported.new
         (W.contents writer.old) (W.contents writer.new)
         page.old.bytes.items page.new.bytes.items result }
 {

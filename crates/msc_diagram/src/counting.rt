@@ -1,6 +1,6 @@
 //! Counts the places of races in scenarios.
 
-ghost use Rattle.std.specs.Prelude.{◌≡◌, IfOk, OnOk, false, length};
+ghost use Rattle.std.specs.Prelude.{◌≡◌, ◌+◌, IfOk, OnOk, [], count_by, false, length, true};
 ghost use Rattle.std.specs.List.{filter};
 ghost use Rattle.msc_race.specs.Views.{races_of, AreRacesOf};
 ghost use Rattle.msc_reason.specs.Counting.{counting, counts, listed};
@@ -8,8 +8,10 @@ ghost use Rattle.msc_reason.specs.Kinds.{is_empty};
 ghost use Rattle.msc_reason.specs.LeftOut.{of_kinds};
 ghost use Rattle.msc_reason.specs.Marked.{cause_in};
 ghost use Rattle.msc_diagram.specs.Counts.{AreCountsOf};
-ghost use Rattle.msc_diagram.specs.Places.{above_with, fresh, AreAllPlaces};
-ghost use Rattle.msc_diagram.specs.Telling.{SeesCase, SeesCases};
+ghost use Rattle.msc_diagram.specs.Places.{above_with, fresh, same_places, AreAllPlaces};
+ghost use Rattle.msc_diagram.specs.Tallies.{tally_at};
+ghost use Rattle.msc_diagram.specs.Telling.{IsAnswerOf, SeesCase, SeesCases};
+ghost use Rattle.msc_diagram.specs.declared.place.EventPlace.{EventPlace};
 ghost use Rattle.msc_diagram.specs.declared.scenario.Scenario.{Scenario};
 
 use crate::answer::Answer;
@@ -18,6 +20,7 @@ use crate::place::{EventPlace, places_of};
 use crate::reported::ReportedRaces;
 use crate::scenario::Scenario;
 use crate::source::Source;
+use crate::tally::PlaceTally;
 use msc_chart::{Event, Queues};
 use msc_judge::CheckOptions;
 use msc_race::laws::{short_witnesses_show, the_witness_reverses};
@@ -155,16 +158,39 @@ fn see_some(
     see_counting(alloc, reported, enforced, left, places)
 }
 
+/// Counts one more scenario for the places of its races that count, if that is asked for.
+fn see_tally(
+    alloc: Global,
+    tally: &mut PlaceTally,
+    tallies: bool,
+    enforced: &Enforced<'_>,
+    left: LeftOut<'_>,
+    places: &[EventPlace],
+) -> Result<(), AllocError>
+    requires { length places.now ≡ length enforced.now.chart.events }
+    ensures { (s : Scenario) → AreAllPlaces s places.now → tallies ≡ true
+        → (p : EventPlace × EventPlace) → OnOk result (tally_at tally.new p ≡ tally_at tally.old p
+        + count_by (same_places p) (above_with s [] (counting enforced.now left.entry (cause_in enforced.now)))) }
+{
+    if !tallies {
+        return Ok(());
+    }
+    let mut own = ReportedRaces::new(alloc);
+    see_counting(alloc, &mut own, enforced, left, places)?;
+    tally.add_all(&own)
+}
+
 /// Adds the places of the races of a scenario: of all, of those that count if some kinds are left
-/// out, and of those that are listed.
+/// out, and of those that are listed; and counts the scenario for its places if that is asked for.
 fn see_case(
     alloc: Global,
     answer: &mut Answer,
     scenario: &Scenario<'_>,
     queues: Queues,
     options: CheckOptions,
+    tallies: bool,
 ) -> Result<(), AllocError>
-    ensures { OnOk result (SeesCase scenario.now queues options answer.old answer.new) }
+    ensures { OnOk result (SeesCase scenario.now queues options tallies answer.old answer.new) }
 {
     the_witness_reverses();
     short_witnesses_show();
@@ -180,6 +206,14 @@ fn see_case(
         places.as_slice(),
     )?;
     let left = LeftOut::of_kinds(options.allowed);
+    see_tally(
+        alloc,
+        &mut answer.tally,
+        tallies,
+        &enforced,
+        left,
+        places.as_slice(),
+    )?;
     let listing = Listing::of(alloc, enforced, left, options.closest)?;
     see_listed(alloc, &mut answer.listed, &listing, places.as_slice())
 }
@@ -191,13 +225,14 @@ fn see_cases<S: Source>(
     scenarios: &S,
     queues: Queues,
     options: CheckOptions,
+    tallies: bool,
 ) -> Result<(), AllocError>
     ensures { OnOk result
-        (SeesCases (S.scenarios scenarios.now) queues options answer.old answer.new) }
+        (SeesCases (S.scenarios scenarios.now) queues options tallies answer.old answer.new) }
 {
     for i in 0..scenarios.len() {
         let scenario = scenarios.scenario(alloc, i)?;
-        see_case(alloc, answer, scenario.get(), queues, options)?;
+        see_case(alloc, answer, scenario.get(), queues, options, tallies)?;
     }
     Ok(())
 }
@@ -212,6 +247,21 @@ pub(crate) fn count_places<S: Source>(
     ensures { IfOk result (AreCountsOf (S.scenarios scenarios.now) queues options) }
 {
     let mut answer = Answer::new(alloc);
-    see_cases(alloc, &mut answer, scenarios, queues, options)?;
+    see_cases(alloc, &mut answer, scenarios, queues, options, false)?;
     Ok(answer.counts(options))
+}
+
+/// The places of the races of these scenarios, and in how many of them a race counts at each place.
+pub(crate) fn answer_of<S: Source>(
+    alloc: Global,
+    scenarios: &S,
+    queues: Queues,
+    options: CheckOptions,
+) -> Result<Answer, AllocError>
+    ensures { IfOk result (λ answer.
+        IsAnswerOf (S.scenarios scenarios.now) queues options answer) }
+{
+    let mut answer = Answer::new(alloc);
+    see_cases(alloc, &mut answer, scenarios, queues, options, true)?;
+    Ok(answer)
 }

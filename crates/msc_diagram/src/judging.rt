@@ -1,15 +1,19 @@
 //! Writes the races of all scenarios of a diagram.
 
-ghost use Rattle.std.specs.Prelude.{◌≡◌, ℕ, List, ◌++◌, IfOk, OnOk};
+ghost use Rattle.std.specs.Prelude.{◌≡◌, ℕ, List, ◌++◌, IfOk, OnOk, length};
+ghost use Rattle.msc_judge.specs.Options.{for_people};
 ghost use Rattle.msc_report.specs.Counts.{tally_line};
-ghost use Rattle.msc_diagram.specs.Counts.{diagram_end};
+ghost use Rattle.msc_diagram.specs.Counts.{diagram_end, AreCountedIn, AreCountsOf};
 ghost use Rattle.msc_diagram.specs.Scenarios.{diagram_head};
 ghost use Rattle.msc_diagram.specs.Judging.{tallied, BeginsScenarios, JudgesScenarios};
 ghost use Rattle.msc_diagram.specs.Judging.{TellsScenarios};
+ghost use Rattle.msc_diagram.specs.Tallies.{tally_at};
 ghost use Rattle.msc_diagram.specs.Telling.{above_text, IsCountedAbove};
 
 use crate::cases::{Asked, RaceFormat, print_cases};
-use crate::counting::count_places;
+use crate::closing::print_closing;
+use crate::counting::{answer_of, count_places};
+use crate::full::{FullDiagram, FullRaces};
 use crate::heads::{write_counts, write_diagram_end, write_diagram_head};
 use crate::numbers::{PlaceCounts, chooses, counts_from};
 use crate::reported::ReportedRaces;
@@ -32,7 +36,7 @@ pub struct DiagramStyle {
 
 /// The form of an answer on the races of scenarios.
 #[derive(Clone, Copy)]
-pub enum DiagramFormat<'f> {
+pub enum DiagramFormat<'f, 'w> {
     /// Lines above and below the scenarios, and of each scenario with a listed race.
     Lines(DiagramStyle),
     /// One line for the file of this name, with the number of places that have a race, and of those
@@ -40,6 +44,8 @@ pub enum DiagramFormat<'f> {
     Count(&'f [u8]),
     /// The lines for editors of each listed race.
     Editor,
+    /// The closest races as people read them, and a closing line.
+    Full(FullDiagram<'f, 'w>),
 }
 
 /// The numbers of places of races, if options select races.
@@ -210,6 +216,66 @@ fn write_count<S: Source, W: Write>(
     Ok(counts.listed)
 }
 
+/// Writes the closest races of all scenarios as people read them, and a closing line with these
+/// numbers of places. Returns how many are listed.
+fn write_found<S: Source, W: Write>(
+    alloc: Global,
+    scenarios: &S,
+    queues: Queues,
+    options: CheckOptions,
+    races: FullRaces<'_, '_>,
+    counts: PlaceCounts,
+    writer: &mut W,
+) -> Result<u32, WriteFault>
+    requires number { races.scenarios ≡ length (S.scenarios scenarios.now) }
+    requires counted { AreCountedIn (S.scenarios scenarios.now) queues (for_people options)
+        (tally_at races.tally.now) }
+    requires counts { AreCountsOf (S.scenarios scenarios.now) queues (for_people options) counts }
+    ensures { (top : List ℕ) → TellsScenarios W.contents
+        (JudgesScenarios top (S.scenarios scenarios.now) queues options (DiagramFormat.Full races.entry.shown))
+        (BeginsScenarios top (S.scenarios scenarios.now) queues options (DiagramFormat.Full races.entry.shown))
+        result writer.old writer.new }
+{
+    let asked = Asked {
+        queues,
+        options: options.for_people(),
+        format: RaceFormat::Full(races),
+    };
+    let mut page = Page::new(alloc);
+    let mut reported = ReportedRaces::new(alloc);
+    let passed = print_cases(alloc, writer, &mut page, &mut reported, asked, scenarios)?;
+    let (shown, count) = (races.shown, races.scenarios);
+    print_closing(alloc, &mut page, shown, counts, options.most, count, passed)?;
+    writer.write_all(page.bytes.as_slice())?;
+    Ok(counts.listed)
+}
+
+/// Writes the closest races of all scenarios as people read them, and a closing line. Returns how
+/// many are listed.
+fn write_full<S: Source, W: Write>(
+    alloc: Global,
+    scenarios: &S,
+    queues: Queues,
+    options: CheckOptions,
+    shown: FullDiagram<'_, '_>,
+    writer: &mut W,
+) -> Result<u32, WriteFault>
+    ensures { (top : List ℕ) → TellsScenarios W.contents
+        (JudgesScenarios top (S.scenarios scenarios.now) queues options (DiagramFormat.Full shown.entry))
+        (BeginsScenarios top (S.scenarios scenarios.now) queues options (DiagramFormat.Full shown.entry))
+        result writer.old writer.new }
+{
+    let asked = options.for_people();
+    let answer = answer_of(alloc, scenarios, queues, asked)?;
+    let races = FullRaces {
+        shown,
+        scenarios: scenarios.len(),
+        tally: &answer.tally,
+    };
+    let counts = answer.counts(asked);
+    write_found(alloc, scenarios, queues, options, races, counts, writer)
+}
+
 /// Writes the races of all scenarios of a diagram in a form, each race once: a race is not listed
 /// again if an earlier one has the places of its events. Lines begin with `top`
 /// ([`write_diagram_top`](crate::write_diagram_top)). Returns how many are listed.
@@ -222,7 +288,7 @@ pub fn judge_scenarios<S: Source, W: Write>(
     scenarios: &S,
     queues: Queues,
     options: CheckOptions,
-    form: DiagramFormat<'_>,
+    form: DiagramFormat<'_, '_>,
     writer: &mut W,
 ) -> Result<u32, WriteFault>
     ensures { TellsScenarios W.contents
@@ -244,5 +310,6 @@ pub fn judge_scenarios<S: Source, W: Write>(
         }
         DiagramFormat::Count(file) => write_count(alloc, scenarios, queues, options, file, writer),
         DiagramFormat::Editor => write_editor(alloc, top, scenarios, queues, options, writer),
+        DiagramFormat::Full(shown) => write_full(alloc, scenarios, queues, options, shown, writer),
     }
 }

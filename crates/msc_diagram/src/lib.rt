@@ -25,9 +25,12 @@
 #![tactic(auto)]
 
 mod answer;
+mod arrows;
 mod cases;
+mod closing;
 mod counting;
 mod fault;
+mod full;
 mod heads;
 mod judging;
 pub mod laws;
@@ -38,9 +41,12 @@ mod place;
 mod reported;
 mod scenario;
 mod source;
+mod tally;
 mod telling;
 
+pub use arrows::{arrows_of, rounds_of};
 pub use fault::write_import_fault;
+pub use full::{Following, FullDiagram};
 pub use heads::write_diagram_top;
 pub use judging::{DiagramFormat, DiagramStyle, judge_scenarios};
 pub use lent::Lent;

@@ -52,6 +52,13 @@ impl ReportedRaces {
         self.pairs.len() as u32
     }
 
+    /// The places of these races. It takes no memory.
+    pub fn as_slice(&self) -> &[(EventPlace, EventPlace)]
+        ensures { result.now ≡ self.now }
+    {
+        self.pairs.as_slice()
+    }
+
     /// The number of races that are here and not there. It takes no memory.
     pub fn count_without(&self, other: &ReportedRaces) -> u32
         ensures { result ≡ length (without self.now other.now) }

@@ -17,3 +17,4 @@ mod met;
 mod tests;
 
 pub use marked::{DrawnScenario, with_marks};
+pub use met::statement_at;

@@ -26,8 +26,8 @@ fn is_whole(whole: Span, placed: &Placed) -> bool
     placed.whole == whole
 }
 
-/// The statement with these bytes, if there is one.
-pub(crate) fn statement_at(statements: &[Placed], whole: Span) -> Option<usize>
+/// The number of the statement with these bytes, if there is one. It takes no memory.
+pub fn statement_at(statements: &[Placed], whole: Span) -> Option<usize>
     ensures { result ≡ position (is_whole whole) statements.now }
 {
     statements.iter().position(|placed| is_whole(whole, placed))

@@ -1,3 +1,4 @@
 -- what is promised
 pub mod Places
 pub mod Plain
+pub mod Spans

@@ -1,5 +1,5 @@
 -- The text of a diagram as its places count it, and whether a text has a sequence diagram.
-use Rattle.std.specs.Prelude.{ℕ, ◌+◌, ◌-◌, ◌++◌, Bool, false, cond, not, ◌||◌, ◌==◌, nat_le, nat_lt, List, [], ◌∷◌, length, replicate, Option, None, Some, Result, Ok, Err}
+use Rattle.std.specs.Prelude.{ℕ, ◌+◌, ◌-◌, ◌++◌, Bool, false, cond, not, ◌||◌, ◌==◌, nat_le, nat_lt, List, [], ◌∷◌, length, replicate, take, Option, None, Some, Result, Ok, Err}
 use Rattle.std.specs.List.{join_with_byte, slice_get}
 use Rattle.msc_markdown.specs.Markdowns.{Found, block_parts, markdown}
 use Rattle.msc_mermaid.specs.declared.fault.ImportFault.{ImportFault}
@@ -13,6 +13,10 @@ joined lines = join_with_byte 10 lines
 -- a text with one LF for each end of a line, and without a byte order mark
 abbrev pub plain : List ℕ → List ℕ
 plain text = joined (lines_of text)
+
+-- a place of a text, in the text with one LF for each end of a line
+abbrev pub plain_place : List ℕ → ℕ → ℕ
+plain_place text at = length (plain (take at text))
 
 -- what ends the line before the line of an index, from 0
 abbrev pub line_end : ℕ → List ℕ

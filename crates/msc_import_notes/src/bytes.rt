@@ -1,5 +1,7 @@
 //! Bytes of statements: white space, entities, arrows and runs of bytes that look like arrows.
 
+ghost use Rattle.std.specs.Prelude.{◌≡◌, take};
+
 use msc_mermaid::{is_word_byte, trimmed};
 use std::alloc::{AllocError, Global};
 
@@ -21,7 +23,9 @@ pub(crate) fn behind(bytes: &[u8], count: usize) -> &[u8] {
 }
 
 /// The first `count` bytes, or all.
-pub(crate) fn front(bytes: &[u8], count: usize) -> &[u8] {
+pub(crate) fn front(bytes: &[u8], count: usize) -> &[u8]
+    ensures { result.now ≡ take count bytes.now }
+{
     bytes.get(..count).unwrap_or(bytes)
 }
 

@@ -38,5 +38,5 @@ pub use blocks::{with_block_notes, with_whole_lines};
 pub use other_way::{is_sequence_diagram, tell_other_way};
 pub use plain::{block_text, with_plain_lines};
 pub use scenarios::tell_scenarios;
-pub use spans::{ToldText, import_spans};
+pub use spans::{ToldText, import_spans, line_span};
 pub use tell::{fault_line, tell_import};

@@ -1,10 +1,16 @@
 //! What is underlined of a refused import.
 
-use crate::bytes::run_around;
+ghost use Rattle.std.specs.Prelude.{◌≡◌, IfOk, map};
+ghost use Rattle.msc_import_notes.specs.Plain.{plain_place};
+ghost use Rattle.msc_import_notes.specs.Spans.{first_places};
+
+use crate::bytes::{front, run_around};
 use crate::hints::{ARROWS, found_part, what_stands};
 use crate::names::name_length;
+use crate::plain::with_plain_lines;
 use crate::statement::{Statement, line_rest};
-use msc_mermaid::{Expectation, ImportFault, Span};
+use msc_fault_words::{Span, note_place};
+use msc_mermaid::{Expectation, ImportFault};
 use msc_notes::{FaultNotes, Note, Tag};
 use std::alloc::{AllocError, Global};
 
@@ -104,19 +110,38 @@ pub fn import_spans(
     texts: ToldText<'_>,
     fault: ImportFault,
     name: &[u8],
-) -> Result<Vec<Span>, AllocError> {
+) -> Result<Vec<Span>, AllocError>
+    ensures { IfOk result (λ spans. map (λ span. span.first) spans.items
+        ≡ first_places texts.entry.told.now.place texts.entry.told.now.notes) }
+{
+    let notes = texts.told.notes.as_slice();
     let mut spans = Vec::new(alloc);
     if let Some(first) = texts.told.place {
         let past = fault_past(alloc, texts, first, fault, name)?;
         spans.push(Span { first, past })?;
     }
-    if let Some(Some(first)) = note_of(texts.told, Tag::Opened).map(|note| note.place) {
+    if let Some(first) = note_place(notes, Tag::Opened) {
         let past = first.saturating_add(line_rest(texts.whole, first).len());
         spans.push(Span { first, past })?;
     }
-    if let Some(Some(first)) = note_of(texts.told, Tag::Inside).map(|note| note.place) {
+    if let Some(first) = note_place(notes, Tag::Inside) {
         let past = statement_past(alloc, texts, first)?;
         spans.push(Span { first, past })?;
     }
     Ok(spans)
+}
+
+/// The rest of a line of a diagram, from a place of its text on. The span is one of the text with one
+/// LF at each end of a line. The only error is want of memory.
+pub fn line_span(alloc: Global, text: &[u8], at: usize) -> Result<Span, AllocError>
+    ensures { IfOk result (λ span. span.first ≡ plain_place text.now at) }
+{
+    let before = with_plain_lines(alloc, front(text, at))?;
+    let plain = with_plain_lines(alloc, text)?;
+    let first = before.len();
+    let length = line_rest(plain.as_slice(), first).len();
+    Ok(Span {
+        first,
+        past: first.saturating_add(length),
+    })
 }

@@ -1,5 +1,5 @@
-"""What `msc check --from` prints of random diagrams with marks, with `--accept`, `--choose` and
-each form, and what `msc import` makes of them. The program does not have these yet.
+"""What `msc check --from` prints of random diagrams with `--format full`, and what `msc import` makes
+of their marks. The program does not have `--accept` and `--choose` of diagrams yet.
 """
 import pathlib
 import re
@@ -13,7 +13,6 @@ from models.answers import diagram_check_answer, import_answer
 NEEDS_PROGRAM = True
 HEAD = re.compile(rb"^(?:\x1b\[[0-9;]*m)?(?:error|warning)\[(\w+)", re.MULTILINE)
 OPTIONS = {"number": 300, "uniform": False}
-CHOICES = ["main", "0", "1", "0,1", "1,1", "2", "2,0,1"]
 
 
 def tried(pick, is_uniform):
@@ -23,12 +22,7 @@ def tried(pick, is_uniform):
     if "--format" in words:
         at = words.index("--format")
         del words[at:at + 2]
-    form = pick.choice(["full", "full", "full", "text", "lines", "count"])
-    words += ["--format", form]
-    words += ["--color", pick.choice(["always", "never"])] * (form == "full")
-    words += ["--accept"] * (pick.random() < 0.6)
-    words += ["--choose", pick.choice(CHOICES)] * (pick.random() < 0.15)
-    return text, words
+    return text, [*words, "--format", "full", "--color", pick.choice(["always", "never"])]
 
 
 def compare(trial):

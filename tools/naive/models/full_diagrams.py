@@ -1,5 +1,4 @@
-"""What `msc check --from` is to print of diagrams with `--format full`. The program does not have
-this form yet.
+"""What `msc check --from` prints of diagrams with `--format full`.
 
 scenarios.py finds the races and the stale marks. wording.py makes blocks of races, with the speech
 of diagrams that is here, and import_refusals.py makes blocks of faults.
@@ -151,9 +150,8 @@ def where(verdict, at, race):
 
 def label_of_file(source, text):
     """FILE, or in Markdown FILE:LINE with the first line of the block."""
-    in_block = text is not None and text.number is not None and text.rows
     file = page_of(source).file
-    return f"{file}:{text.rows[0].number}" if in_block else file
+    return f"{file}:{text.line}" if text is not None and text.number is not None else file
 
 
 class FullOutput:
@@ -188,8 +186,7 @@ class FullOutput:
         self.most -= len(told)
         self.lines += printed(page, blocks, self.colours)
         said = self.verdict(verdict, len(listed), len(told))
-        idents = [cut(spoken(ident)) for ident in verdict.diagram.names.idents]
-        said = closing.verdict_on(said, verdict.queues, idents)
+        said = closing.verdict_on(said, verdict.queues, verdict.names)
         self.close(label_of_file(text.source, text), said, is_all)
         self.has_races |= bool(listed)
         self.has_mark |= bool(verdict.marks)

@@ -1,5 +1,4 @@
-"""What `msc ready --format full` is to print of a chart: sticks, those between two rounds, and
-races that are left.
+"""What `msc ready --format full` prints: sticks, those between two rounds, and races that are left.
 """
 from models import closing
 from models.chart import Chart
@@ -67,15 +66,21 @@ def stick_blocks(speech, system, sticks, runs, has_rounds=False):
         yield stick_block(Pair(speech, system.drawn, e, f, has_rounds), more)
 
 
-def ready_lines(text, page, queues, options):
-    """The lines for a chart, and the exit status."""
-    found, runs = Sticks(text.decode("latin-1"), queues, options), Runs(options.show)
-    speech = ChartSpeech(found.drawn, text, page)
+def lines_of(found, speech, page, file, options):
+    """The lines for sticks with this speech, in a file of this name."""
+    runs = Runs(options.show)
     blocks = list(stick_blocks(speech, found.system, found.sticks, runs))
     if found.two:
         rounds = RoundSpeech(speech, found.two)
         blocks += stick_blocks(rounds, found.double, found.between, runs, True)
     blocks += [left_block(LeftPair(speech, found.drawn, e, f)) for e, f in found.left]
-    verdict = closing.verdict_on(found.verdict(options), queues, found.drawn.names)
+    verdict = closing.verdict_on(found.verdict(options), found.drawn.queues, found.drawn.names)
     lines = printed(page, blocks, options.colours)
-    return [*lines, closing.closing(page.file, verdict, options.colours)], found.status
+    return [*lines, closing.closing(file, verdict, options.colours)]
+
+
+def ready_lines(text, page, queues, options):
+    """The lines for a chart, and the exit status."""
+    found = Sticks(text.decode("latin-1"), queues, options)
+    speech = ChartSpeech(found.drawn, text, page)
+    return lines_of(found, speech, page, page.file, options), found.status

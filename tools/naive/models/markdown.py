@@ -51,11 +51,12 @@ class Start:
 
 
 class Block:
-    """A marked block: its lines, and whether a browser reads it before Mermaid does. Of one line
-    outside of all blocks `stray` is the place of its first word."""
+    """A marked block: its first line and all that are read, and whether a browser reads it before
+    Mermaid does. Of one line outside of all blocks `stray` is the place of its first word."""
 
-    def __init__(self, number, rows, in_markup=False, stray=None):
-        self.number, self.rows, self.in_markup, self.stray = number, rows, in_markup, stray
+    def __init__(self, number, line, rows, in_markup=False, stray=None):
+        self.number, self.line, self.rows = number, line, rows
+        self.in_markup, self.stray = in_markup, stray
 
 
 def fence_start(quotes, held, at):
@@ -164,12 +165,13 @@ def blocks_of(source):
             at = QUOTED.match(rows[i].held).end()
             if is_word(rows[i].held, HEAD, at):
                 stray = rows[i].start + at
-                strays.append((i, Block(None, [rows[i]], stray=stray)))
+                strays.append((i, Block(None, rows[i].number, [rows[i]], stray=stray)))
             i += 1
             continue
         own, behind = rows_of(rows, i, start)
         if start.is_marked:
-            found.append((i, Block(None, own, start.in_markup)))
+            line = rows[i].number + (not start.in_markup)
+            found.append((i, Block(None, line, own, start.in_markup)))
         i = behind
     if not found:
         return []

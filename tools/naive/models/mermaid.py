@@ -104,7 +104,7 @@ class Text:
 
     def __init__(self, source, rows, block=None, notes=(), others=()):
         self.source, self.rows, self.notes, self.others = source, rows, notes, others
-        self.number = block and block.number
+        self.number, self.line = block and block.number, block and block.line
         self.in_markup = block is not None and block.in_markup
         self.stray = block and block.stray
 

@@ -7,11 +7,10 @@
                                    [--self action|message] [--cross lost|arrives] [--par drawn]
                                    [--fence N] [--accept] [--choose C] [--color always|never] FILE
 
-prints what `msc check --from` prints, and what it is to print with --accept, --choose, --color and
-the format `full`, which the program does not have yet: the scenarios, and their races, each by its
-two arrows once; or on standard error the line of the first fault, and with `--format lines` on
-standard output too. With `--format full` all is told on standard output, as full_diagrams.py has
-it. The scenarios are those of courses.py, their races and what is told of them those of chart.py
+prints what `msc check --from` prints, and what it is to print with --accept and --choose, which the
+program does not have yet: the scenarios, and their races, each by its two arrows once; or on
+standard error the line of the first fault, and with `--format lines` on standard output too. With
+`--format full` all is told on standard output, as full_diagrams.py has it. The scenarios are those of courses.py, their races and what is told of them those of chart.py
 and races.py, and marks those of diagram_marks.py. It shares nothing with the crates. The exit
 status is 0, 1 if a race or a stale mark is listed, or 2 if a diagram is refused.
 """
@@ -266,7 +265,8 @@ def number_of(text, is_all):
 
 def answer(text, options):
     """What goes to both streams, and the exit status."""
-    output = FullOutput(options) if options.format == "full" else Output(options)
+    is_full = options.format == "full" and not options.quiet
+    output = FullOutput(options) if is_full else Output(options)
     source = Source(b"", options.file)
     try:
         source = source_of(text, options.file)

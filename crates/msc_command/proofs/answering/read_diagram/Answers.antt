@@ -7,14 +7,14 @@ use Rattle.msc_command.specs.declared.tasks.Task.TheVariants as tasks
 use Rattle.std.proofs.Common.{Some}
 use Rattle.msc_command.proofs.answering.read_diagram.Goals as goal
 
-pub returns-in_err-imported : goal.returns-in_err-imported
-returns-in_err-imported g c = λ file.
+pub returns-in_err-drawing : goal.returns-in_err-drawing
+returns-in_err-drawing g c = λ file.
     let p = err_from_is_err_and c.from_residual.result c.from_residual.ensures.1 in
-    rw (p.1, p.2) (no_import g.O.Write.contents file c.args.text.now c.args.chosen _ c.args.output.now c.in_err-imported.ensures)
+    rw (p.1, p.2) (no_import g.O.Write.contents file c.args.text.now c.args.chosen _ c.args.output.now c.in_err-drawing.ensures)
 
 pub returns : goal.returns
 returns g c = λ file.
     let task = tasks.Read (Some c.args.chosen) in
-    let is = c.in_ok-imported.imported in
+    let drawing = c.in_ok-drawing.drawing in
     print_so g.O.Write.contents (Prints task file c.args.text.now) (Refuses task c.args.text.now)
-    _ _ (is.draft, (is, c.in_ok-imported.ensures, refl), refl, c.in_ok-bytes.ensures.text) c.put.result _ _ c.put.ensures
+    _ _ (drawing.imported.draft, (drawing, c.in_ok-drawing.ensures, refl), refl, c.in_ok-bytes.ensures.text) c.put.result _ _ c.put.ensures

@@ -10,7 +10,14 @@ returns-in_err-diagram c =
     let given = option_map (λ c. c.now) c.args.choices in
     rw (p.1, p.2) (not_read c.reading_comes_first.ensures (wanted_with c.args.words given) c.args.text.now _ (c.in_err-diagram.ensures given))
 
+pub returns-in_err-imported : goal.returns-in_err-imported
+returns-in_err-imported c =
+    let p = err_from_is_err_and c.from_residual-in_err-imported.result c.from_residual-in_err-imported.ensures.1 in
+    let given = option_map (λ c. c.now) c.args.choices in
+    rw (p.1, p.2) (c.in_err-imported.ensures c.args.text.now (c.in_ok-diagram.ensures given))
+
 pub returns : goal.returns
 returns c =
     let given = option_map (λ c. c.now) c.args.choices in
-    c.drawn_of.ensures c.args.text.now (c.in_ok-diagram.ensures given)
+    let is = c.in_ok-imported.ensures c.args.text.now (c.in_ok-diagram.ensures given) in
+    record { imported_is = is.0; again = is.1; diagram_is = c.in_ok-diagram.ensures given; number_is = c.fence_of.ensures }

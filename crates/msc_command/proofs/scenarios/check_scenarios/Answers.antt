@@ -1,9 +1,9 @@
-use Rattle.std.proofs.Common.{map, subst, rules}
+use Rattle.std.proofs.Common.{ℕ, Option, ◌∙◌, ap, refl}
 use Rattle.std.proofs.lemmas.Result.{err_from_is_err_and}
-use Rattle.msc_command.proofs.Surveyed.{all_charts, none_drawn, none_linked, none_read, told_of_text}
-use Rattle.msc_command.specs.Answering.{AnswersWith}
-use Rattle.msc_command.specs.Charting.{with_chart}
-use Rattle.msc_command.specs.Scenarios.{BeginsAll, BeginsScenarios, PrintsAll, PrintsScenarios}
+use Rattle.msc_diagram.specs.declared.full.Following.TheVariants.{Help}
+use Rattle.msc_command.proofs.Surveyed.{all_charts, drawn_so, none_drawn, none_linked, none_read, told_by}
+use Rattle.msc_command.specs.Scenarios.{BeginsAll, BeginsScenarios, IsToldOf, PrintsAll, PrintsScenarios}
+use Rattle.msc_command.specs.ShownDiagrams.{line_in}
 use Rattle.msc_command.specs.declared.tasks.ScenarioArgs.{ScenarioArgs}
 use Rattle.msc_command.proofs.scenarios.check_scenarios.Goals as goal
 
@@ -35,12 +35,20 @@ returns-in_err-linked g c =
 
 pub returns : goal.returns
 returns g c =
-    let x = c.args.words in let file = c.args.file.now in let all = c.in_ok-all.all in
+    let x = c.args.words in let file = c.args.file.now in let text = c.args.text.now in let all = c.in_ok-all.all in
     let linked = c.in_ok-linked.ensures in
-    let y = c.in_ok-linked.linked in
-    let said : AnswersWith g.O.Write.contents (PrintsAll y.quiet y.check_args file all.name all.drawn (map (with_chart file) all.list))
-    (BeginsAll y.quiet y.check_args file all.name all.drawn (map (with_chart file) all.list)) (λ refusal. ⊥) c.tell_all.result c.args.output.now c.tell_all.new.output = search rules in
-    let told = subst (λ (z : ScenarioArgs). AnswersWith g.O.Write.contents (PrintsAll z.quiet z.check_args file all.name all.drawn (map (with_chart file) all.list))
-    (BeginsAll z.quiet z.check_args file all.name all.drawn (map (with_chart file) all.list)) (λ refusal. ⊥) c.tell_all.result c.args.output.now c.tell_all.new.output) linked.2 said in
-    told_of_text g.O.Write.contents (λ k. PrintsAll x.quiet k file) (λ k. BeginsAll x.quiet k file)
-    c.imports_are_charts.ensures.all x file c.args.text.now all (c.in_ok-all.ensures c.args.text.now x.diagram.fence c.in_ok-diagram.ensures) linked.0 linked.1 _ _ _ told
+    let is = c.in_ok-all.ensures text x.diagram.fence c.in_ok-diagram.ensures in
+    told_by g.O.Write.contents (λ name t. IsToldOf x file text name file (line_in x.diagram.fence text) Help t) PrintsAll BeginsAll
+    c.imports_are_charts.ensures.all x file text all is linked.0 linked.1
+    c.in_ok-linked.linked.quiet (ap (λ (z : ScenarioArgs). z.quiet) linked.2) c.in_ok-linked.linked.check_args (ap (λ (z : ScenarioArgs). z.check_args) linked.2)
+    c.in_ok-charts.charts c.in_ok-charts.ensures _ c.tell_all.result c.args.output.now c.tell_all.new.output c.tell_all.ensures
+    (record {
+      file_is = refl;
+      text_is = refl;
+      read_as = c.in_ok-diagram.ensures;
+      line_is = c.in_ok-line_in.ensures ∙ ap (λ (n : Option ℕ). line_in n text) c.fence_of.ensures;
+      name_is = c.as_slice.ensures;
+      counted_is = c.as_bytes.ensures.value;
+      drawn_is = drawn_so x text all is;
+      following_is = refl;
+    })

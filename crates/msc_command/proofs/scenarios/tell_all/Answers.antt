@@ -9,7 +9,7 @@ returns-in-Ok g c =
 
 pub returns-in-Err : goal.returns-in-Err
 returns-in-Err g c =
-    let x = c.args.words in let file = c.args.file.now in let name = c.args.name.now in let scenarios = c.args.scenarios.now in
-    refused_so g.O.Write.contents (PrintsCounted x.quiet x.check_args file name c.args.drawn scenarios) (PrintsAll x.quiet x.check_args file name c.args.drawn scenarios)
-    (BeginsAll x.quiet x.check_args file name c.args.drawn scenarios) (BeginsAll x.quiet x.check_args file name c.args.drawn scenarios) (λ r. ⊥) (λ r. ⊥)
+    let x = c.args.words in let t = c.args.told in let scenarios = c.args.scenarios.now in
+    refused_so g.O.Write.contents (PrintsCounted x.quiet x.check_args t scenarios) (PrintsAll x.quiet x.check_args t scenarios)
+    (BeginsAll x.quiet x.check_args t scenarios) (BeginsAll x.quiet x.check_args t scenarios) (λ r. ⊥) (λ r. ⊥)
     (λ printed begins. begins) (λ r said. said) c.in-Err.refusal _ _ c.in-Err.ensures

@@ -1,9 +1,9 @@
-use Rattle.std.proofs.Common.{◌≡◌, ◌∙◌, Some, map, subst}
+use Rattle.std.proofs.Common.{◌≡◌, ◌∙◌, Some, ap, refl, sym}
 use Rattle.std.proofs.lemmas.Result.{err_from_is_err_and}
-use Rattle.msc_command.proofs.Surveyed.{all_charts, none_drawn, none_linked_in, none_read, told_of_text}
-use Rattle.msc_command.specs.Answering.{AnswersWith}
-use Rattle.msc_command.specs.Charting.{with_chart}
-use Rattle.msc_command.specs.Scenarios.{BeginsAll, PrintsCounted}
+use Rattle.msc_diagram.specs.declared.full.Following.TheVariants.{Blank}
+use Rattle.msc_command.proofs.Surveyed.{all_charts, drawn_so, none_drawn, none_linked_in, none_read, told_by}
+use Rattle.msc_command.specs.Scenarios.{BeginsAll, IsToldOf, PrintsCounted}
+use Rattle.msc_command.specs.ShownDiagrams.{line_by, line_in}
 use Rattle.msc_command.specs.declared.tasks.ScenarioArgs.{ScenarioArgs}
 use Rattle.msc_command.specs.Surveys.{at_block, numbered, BeginsBlock, PrintsBlock}
 use Rattle.msc_command.proofs.surveying.check_block.Goals as goal
@@ -37,16 +37,22 @@ returns-in_err-linked g c =
 
 pub returns : goal.returns
 returns g c =
-    let x = c.args.words in let n = c.args.number in let file = c.args.file.now in let all = c.in_ok-all.all in
+    let x = c.args.words in let n = c.args.number in let file = c.args.file.now in let text = c.args.found.now.text in let all = c.in_ok-all.all in
     let linked = rw c.text.ensures at c.in_ok-linked.ensures in
-    let y = c.in_ok-linked.linked in
-    let name : c.as_slice-name.result.now ≡ numbered all.name n = c.as_slice-name.ensures.value ∙ (rw c.as_slice.ensures at c.in_ok-name.ensures) in
-    let shown : c.as_slice-shown.result.now ≡ numbered file n = c.as_slice-shown.ensures.value ∙ (rw c.as_bytes.ensures.value at c.in_ok-shown.ensures) in
-    let charts : c.in_ok-charts.charts ≡ map (with_chart file) all.list = c.in_ok-charts.ensures in
-    let said : AnswersWith g.O.Write.contents (PrintsCounted y.quiet y.check_args (numbered file n) (numbered all.name n) all.drawn (map (with_chart file) all.list))
-    (BeginsAll y.quiet y.check_args (numbered file n) (numbered all.name n) all.drawn (map (with_chart file) all.list)) (λ refusal. ⊥) c.tell.result c.args.output.now c.tell.new.output = rw (name, shown, charts) at c.tell.ensures in
-    let told = subst (λ (z : ScenarioArgs). AnswersWith g.O.Write.contents (PrintsCounted z.quiet z.check_args (numbered file n) (numbered all.name n) all.drawn (map (with_chart file) all.list))
-    (BeginsAll z.quiet z.check_args (numbered file n) (numbered all.name n) all.drawn (map (with_chart file) all.list)) (λ refusal. ⊥) c.tell.result c.args.output.now c.tell.new.output) linked.2 said in
-    told_of_text g.O.Write.contents (λ k name. PrintsCounted x.quiet k (numbered file n) (numbered name n))
-    (λ k name. BeginsAll x.quiet k (numbered file n) (numbered name n))
-    c.imports_are_charts.ensures.all (at_block x n) file c.args.found.now.text all (c.in_ok-all.ensures c.args.found.now.text (Some n) c.in_ok-diagram.ensures) linked.0 linked.1 _ _ _ told
+    let is = c.in_ok-all.ensures text (Some n) c.in_ok-diagram.ensures in
+    let name : c.as_slice-2.result.now ≡ numbered all.name n = c.as_slice-2.ensures.value ∙ (rw c.as_slice.ensures at c.in_ok-name.ensures) in
+    let shown : c.as_slice-3.result.now ≡ numbered file n = c.as_slice-3.ensures.value ∙ (rw c.as_bytes.ensures.value at c.in_ok-shown.ensures) in
+    told_by g.O.Write.contents (λ name t. IsToldOf (at_block x n) file text (numbered name n) (numbered file n) (line_in (Some n) text) Blank t) PrintsCounted BeginsAll
+    c.imports_are_charts.ensures.all (at_block x n) file text all is linked.0 linked.1
+    c.in_ok-linked.linked.quiet (ap (λ (z : ScenarioArgs). z.quiet) linked.2) c.in_ok-linked.linked.check_args (ap (λ (z : ScenarioArgs). z.check_args) linked.2)
+    c.in_ok-charts.charts c.in_ok-charts.ensures _ c.tell.result c.args.output.now c.tell.new.output c.tell.ensures
+    (record {
+      file_is = refl;
+      text_is = c.text-2.ensures;
+      read_as = c.in_ok-diagram.ensures;
+      line_is = c.block_line.ensures ∙ sym (ap (line_by (Some n)) c.requires);
+      name_is = name;
+      counted_is = shown;
+      drawn_is = drawn_so (at_block x n) text all is;
+      following_is = refl;
+    })

@@ -58,6 +58,7 @@ loop-i-init g c = record {
     are = record { each = refl; all = λ k d within. absurd (omega (arith, within)) };
     counted = refl;
     reported = refl;
+    told = tt;
     put = pages_in (g.W.Write.contents c.args.writer.now) c.args.page.now.bytes.items c.args.page.now.bytes.items [] (sym (append-nil c.args.page.now.bytes.items));
   };
 }

@@ -1,6 +1,7 @@
-use Rattle.std.proofs.Common.{◌≡◌, ◌<◌, ℕ, List, [], ◌∷◌, ◌++◌, get_or, length, Some, sym, ap, ap₂, subst, ◌∙◌}
+use Rattle.std.proofs.Common.{◌≡◌, ◌<◌, arith, ℕ, List, [], ◌∷◌, ◌++◌, get_or, length, Some, sym, ap, ap₂, subst, ◌∙◌}
 use Rattle.std.proofs.lemmas.Option.{get_or_from_slice_get}
 use Rattle.msc_diagram.proofs.Growing.{known_more, places_more}
+use Rattle.msc_diagram.proofs.Tallying.{counted_more}
 use Rattle.msc_diagram.specs.Places.{above_with}
 use Rattle.msc_diagram.specs.Scenarios.{all_of, asked_of, counting_of, Case}
 use Rattle.msc_diagram.specs.declared.place.EventPlace.{EventPlace}
@@ -28,4 +29,7 @@ loop-i-preserved g c =
       counting = λ some. one.counting some ∙ ap₂ (joins (counting_of queues q.allowed)) (so_far.counting some) (sym one.scenario)
           ∙ sym (places_more (counting_of queues q.allowed) old.counting so_far.cases k);
       listed = one.listed ∙ ap₂ (joins (asked_of queues q)) so_far.listed (sym one.scenario) ∙ sym (places_more (asked_of queues q) old.listed so_far.cases k);
+      tally = λ on p.
+          let here = one.tally on p in let before = so_far.tally on p in let more = counted_more queues q.allowed so_far.cases k p in
+          omega (arith, here, before, more);
     }

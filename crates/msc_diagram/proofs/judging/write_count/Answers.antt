@@ -1,9 +1,11 @@
-use Rattle.std.proofs.Common.{ℕ, List, ◌++◌, ap, ◌∙◌, subst}
+use Rattle.std.proofs.Common.{ℕ, List, [], length, ◌++◌, ap, ◌∙◌, subst}
 use Rattle.std.specs.Io.KnownBytes.{Appends}
 use Rattle.msc_judge.specs.declared.options.CheckOptions.{CheckOptions}
 use Rattle.msc_report.specs.Counts.{tally_line}
 use Rattle.msc_diagram.specs.Counts.{AreCountsOf}
-use Rattle.msc_diagram.specs.Judging.{tallied}
+use Rattle.msc_diagram.proofs.Told.{all_told}
+use Rattle.msc_diagram.specs.Judging.{asked, tallied, AreTextsIn}
+use Rattle.msc_diagram.specs.declared.judging.DiagramFormat.TheVariants as formats
 use Rattle.msc_diagram.specs.declared.numbers.PlaceCounts.{PlaceCounts}
 use Rattle.msc_diagram.proofs.judging.write_count.Goals as goal
 
@@ -16,6 +18,9 @@ returns g c top =
       record {
         cases = its.0;
         are = its.1;
+        counted = λ p. 0;
+        are_counted = tt;
+        told = all_told (AreTextsIn (formats.Count c.args.file) queues (length (g.S.Source.scenarios c.args.scenarios.now)) (λ p. 0)) (λ i first new s texts. tt) queues (asked (formats.Count c.args.file) c.args.options) 1 [] its.0;
         answered = ap (λ (n : PlaceCounts). n.listed) its.2;
         text = c.in_ok-print_tally.ensures ∙ ap (λ (t : List ℕ). t ++ tally_line c.args.file.now (tallied queues k.races k.listed)) c.new-page.ensures
             ∙ ap (λ (n : PlaceCounts). tally_line c.args.file.now (tallied queues n.races n.listed)) its.2;

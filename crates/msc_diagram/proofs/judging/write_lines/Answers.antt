@@ -1,10 +1,9 @@
-use Rattle.std.proofs.Common.{◌≡◌, ℕ, List, [], ◌++◌, Err, length, sym, ap, ap₂, ◌∙◌, subst}
+use Rattle.std.proofs.Common.{◌≡◌, ℕ, true, List, [], ◌++◌, Err, length, sym, ap, ap₂, ◌∙◌, subst}
 use Rattle.std.specs.Io.KnownBytes.{Appends}
 use Rattle.std.proofs.lemmas.Result.{err_from_is_err_and}
 use Rattle.msc_diagram.proofs.Answering.{all_end, all_stop, all_stop_below}
 use Rattle.msc_diagram.proofs.Above.{above_agrees, above_begins, counts_agree}
 use Rattle.msc_diagram.specs.Counts.{counts_text, diagram_end, place_counts}
-use Rattle.msc_diagram.specs.Judging.{lines_in}
 use Rattle.msc_diagram.specs.Scenarios.{cases_text, diagram_head}
 use Rattle.msc_diagram.specs.Telling.{above_text, PutsCases, TellsCases}
 use Rattle.msc_diagram.specs.declared.cases.Asked.{Asked}
@@ -30,9 +29,9 @@ returns-in_err-passed g c =
     let head : List ℕ = diagram_head c.args.top.now (length scenarios) in
     let top = c.in_ok-print_top.ensures ∙ ap (λ (t : List ℕ). t ++ diagram_head c.args.top.now c.len-count.result) c.new-page.ensures ∙ ap (λ (n : ℕ). diagram_head c.args.top.now n) c.len-count.ensures in
     let begins = above_begins scenarios queues q diagram_style c.in_ok-above.above c.in_ok-above.ensures in
-    rw (exit.1, exit.2) (all_stop g.W.Write.contents c.args.top.now scenarios queues q (formats.Lines diagram_style) a page (λ l cases are. are) begins.0 begins.1
+    rw (exit.1, exit.2) (all_stop g.W.Write.contents c.args.top.now scenarios queues q (formats.Lines diagram_style) a page (λ l cases are. are) (λ p. 0) tt (λ cases told. told) begins.0 begins.1
     (λ cases. headed page c.print_top.new.page.bytes.items head (above_text q c.in_ok-above.above) (counts_text q begins.0) c.in_ok-print_counts.ensures top begins.2
-    (cases_text (lines_in diagram_style.words) queues q 1 [] cases))
+    (cases_text true queues q 1 [] cases))
     f c.args.writer.now c.print_cases.new.writer c.print_cases.new.reported last
     (subst (λ (above : List (EventPlace × EventPlace)). TellsCases a scenarios above c.print_cases.new.reported (g.W.Write.contents c.args.writer.now) (g.W.Write.contents c.print_cases.new.writer) page last (Err f))
     c.new-reported.ensures c.in_err-passed.ensures))
@@ -47,9 +46,9 @@ returns-in_err-print_bottom g c =
     let head : List ℕ = diagram_head c.args.top.now (length scenarios) in
     let top = c.in_ok-print_top.ensures ∙ ap (λ (t : List ℕ). t ++ diagram_head c.args.top.now c.len-count.result) c.new-page.ensures ∙ ap (λ (n : ℕ). diagram_head c.args.top.now n) c.len-count.ensures in
     let begins = above_begins scenarios queues q diagram_style c.in_ok-above.above c.in_ok-above.ensures in
-    rw (exit.1, exit.2) (all_stop_below g.W.Write.contents c.args.top.now scenarios queues q (formats.Lines diagram_style) a page (λ l cases are. are) begins.0 begins.1
+    rw (exit.1, exit.2) (all_stop_below g.W.Write.contents c.args.top.now scenarios queues q (formats.Lines diagram_style) a page (λ l cases are. are) (λ p. 0) tt (λ cases told. told) begins.0 begins.1
     (λ cases. headed page c.print_top.new.page.bytes.items head (above_text q c.in_ok-above.above) (counts_text q begins.0) c.in_ok-print_counts.ensures top begins.2
-    (cases_text (lines_in diagram_style.words) queues q 1 [] cases))
+    (cases_text true queues q 1 [] cases))
     c.args.writer.now c.print_cases.new.writer c.print_cases.new.reported last c.in_ok-passed.passed
     (subst (λ (above : List (EventPlace × EventPlace)). PutsCases a scenarios above c.print_cases.new.reported (g.W.Write.contents c.args.writer.now) (g.W.Write.contents c.print_cases.new.writer) page last c.in_ok-passed.passed)
     c.new-reported.ensures c.in_ok-passed.ensures))
@@ -69,10 +68,10 @@ returns g c =
     let p = subst (λ (above : List (EventPlace × EventPlace)). PutsCases a scenarios above c.print_cases.new.reported (g.W.Write.contents c.args.writer.now) (g.W.Write.contents c.print_cases.new.writer) page last passed)
     c.new-reported.ensures c.in_ok-passed.ensures in
     let same = c.counts_from-counts.ensures ∙ counts_agree scenarios queues q above p.cases c.len.result c.in_ok-above.ensures p.are (c.len.ensures.value ∙ ap length p.reported) in
-    all_end g.W.Write.contents c.args.top.now scenarios queues q (formats.Lines diagram_style) a page (λ l cases are. are)
+    all_end g.W.Write.contents c.args.top.now scenarios queues q (formats.Lines diagram_style) a page (λ l cases are. are) (λ p. 0) tt (λ cases told. told)
     c.args.writer.now c.print_cases.new.writer c.write_all.new.self c.print_cases.new.reported last final (diagram_end diagram_style.drawn counts passed) passed _
     p (headed page c.print_top.new.page.bytes.items head (above_text q above) (counts_text q (place_counts queues q p.cases)) c.in_ok-print_counts.ensures top
-    (above_agrees scenarios queues q above p.cases c.in_ok-above.ensures p.are) (cases_text (lines_in diagram_style.words) queues q 1 [] p.cases))
+    (above_agrees scenarios queues q above p.cases c.in_ok-above.ensures p.are) (cases_text true queues q 1 [] p.cases))
     c.in_ok-print_bottom.ensures
     (ap₂ (λ (k : PlaceCounts) (m : ℕ). diagram_end diagram_style.drawn k m) same p.counted)
     (ap (λ (k : PlaceCounts). k.listed) same)

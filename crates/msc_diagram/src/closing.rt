@@ -1,0 +1,102 @@
+//! What closes the findings of a diagram as people read them.
+
+ghost use Rattle.std.specs.Prelude.{◌≡◌, ◌++◌, OnOk};
+ghost use Rattle.msc_findings.specs.Closing.{marked_help};
+ghost use Rattle.msc_wording.specs.declared.closing.MarkedText.TheVariants.{Diagram};
+ghost use Rattle.msc_diagram.specs.Closing.{check_of, closing_text, following_by, found_of};
+ghost use Rattle.msc_diagram.specs.Closing.{shown_of};
+
+use crate::full::{Following, FullDiagram};
+use crate::numbers::PlaceCounts;
+use msc_findings::print_diagram_help;
+use msc_print::Page;
+use msc_wording::{RacesFound, SpokenCheck};
+use std::alloc::{AllocError, Global};
+
+/// The races that were found in so many scenarios, of which so many have none that counts.
+fn found_of(listed: u32, scenarios: usize, passed: usize) -> RacesFound
+    ensures { result ≡ found_of listed scenarios passed }
+{
+    let races = listed as usize;
+    if scenarios == 1 {
+        return RacesFound::InOneScenario(races);
+    }
+    RacesFound::InScenarios {
+        races,
+        scenarios,
+        free: passed,
+    }
+}
+
+/// How many findings are printed, if at most so many are and that is not all.
+fn shown_of(listed: u32, most: u32) -> Option<usize>
+    ensures { result ≡ shown_of listed most }
+{
+    if listed <= most {
+        return None;
+    }
+    Some(most as usize)
+}
+
+/// What a check of so many scenarios found, of which so many have no race that counts, if at most
+/// `most` findings are printed.
+fn check_of(counts: PlaceCounts, most: u32, scenarios: usize, passed: usize) -> SpokenCheck
+    ensures { result ≡ check_of counts most scenarios passed }
+{
+    let left_out = counts.allowed.unwrap_or(0);
+    let wider = counts
+        .races
+        .saturating_sub(left_out)
+        .saturating_sub(counts.listed);
+    SpokenCheck {
+        found: found_of(counts.listed, scenarios, passed),
+        wider: wider as usize,
+        left_out: left_out as usize,
+        accepted: 0,
+        stale: 0,
+        shown: shown_of(counts.listed, most),
+        can_happen: true,
+    }
+}
+
+/// Appends what follows the closing line of a diagram with so many listed races.
+fn print_following(
+    alloc: Global,
+    page: &mut Page,
+    shown: FullDiagram<'_, '_>,
+    listed: u32,
+) -> Result<(), AllocError>
+    ensures { OnOk result (page.new.bytes.items ≡ page.old.bytes.items
+        ++ following_by shown.entry.following listed
+        (marked_help Diagram shown.entry.names.colours)) }
+{
+    match shown.following {
+        Following::Help => {
+            if listed == 0 {
+                return Ok(());
+            }
+            print_diagram_help(alloc, page, shown.names.colours)
+        }
+        Following::Blank => page.bytes.extend_from_slice(b"\n"),
+        Following::Nothing => Ok(()),
+    }
+}
+
+/// Appends the closing line of a diagram of so many scenarios, of which so many have no race that
+/// counts, and what follows it.
+pub(crate) fn print_closing(
+    alloc: Global,
+    page: &mut Page,
+    shown: FullDiagram<'_, '_>,
+    counts: PlaceCounts,
+    most: u32,
+    scenarios: usize,
+    passed: usize,
+) -> Result<(), AllocError>
+    ensures { OnOk result (page.new.bytes.items ≡ page.old.bytes.items
+        ++ closing_text shown.entry counts most scenarios passed) }
+{
+    let check = check_of(counts, most, scenarios, passed);
+    shown.names.print_check(alloc, page, check)?;
+    print_following(alloc, page, shown, counts.listed)
+}
