@@ -198,7 +198,7 @@ impl<'f> Source for Charts<'f> {
     }
 }
 
-/// What is printed about a diagram besides its races.
+/// What an answer says of a diagram besides its races.
 #[derive(Clone, Copy)]
 pub(crate) struct Told<'d> {
     pub diagram: DiagramText<'d>,

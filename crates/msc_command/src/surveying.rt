@@ -249,7 +249,7 @@ pub(crate) fn refused_page(
     }
 }
 
-/// Whether races are listed, of diagrams before or so many of the next one.
+/// Whether a diagram before has a listed race, or the next one, which has `listed` of them.
 pub(crate) fn lists_races(before: bool, listed: u32) -> bool
     ensures { result ≡ (before || nat_lt 0 listed) }
 {

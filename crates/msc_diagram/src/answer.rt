@@ -21,7 +21,7 @@ pub(crate) struct Answer {
     pub counting: ReportedRaces,
     /// The places of races that are listed.
     pub listed: ReportedRaces,
-    /// In how many scenarios a race counts at each place, if that is asked for.
+    /// The number of scenarios in which a race counts at each place, if the caller wants it.
     pub tally: PlaceTally,
 }
 

@@ -13,7 +13,7 @@ use msc_print::Page;
 use msc_wording::{RacesFound, SpokenCheck};
 use std::alloc::{AllocError, Global};
 
-/// The races that were found in so many scenarios, of which so many have none that counts.
+/// The races found in `scenarios` scenarios, of which `passed` have none that counts.
 fn found_of(listed: u32, scenarios: usize, passed: usize) -> RacesFound
     ensures { result ≡ found_of listed scenarios passed }
 {
@@ -28,7 +28,7 @@ fn found_of(listed: u32, scenarios: usize, passed: usize) -> RacesFound
     }
 }
 
-/// How many findings are printed, if at most so many are and that is not all.
+/// The number of printed findings, if `most` leaves some of the `listed` ones out.
 fn shown_of(listed: u32, most: u32) -> Option<usize>
     ensures { result ≡ shown_of listed most }
 {
@@ -38,8 +38,8 @@ fn shown_of(listed: u32, most: u32) -> Option<usize>
     Some(most as usize)
 }
 
-/// What a check of so many scenarios found, of which so many have no race that counts, if at most
-/// `most` findings are printed.
+/// What a check of `scenarios` scenarios found, of which `passed` have no race that counts. It
+/// prints at most `most` findings.
 fn check_of(counts: PlaceCounts, most: u32, scenarios: usize, passed: usize) -> SpokenCheck
     ensures { result ≡ check_of counts most scenarios passed }
 {
@@ -59,7 +59,7 @@ fn check_of(counts: PlaceCounts, most: u32, scenarios: usize, passed: usize) -> 
     }
 }
 
-/// Appends what follows the closing line of a diagram with so many listed races.
+/// Appends what follows the closing line of a diagram with `listed` listed races.
 fn print_following(
     alloc: Global,
     page: &mut Page,
@@ -82,8 +82,8 @@ fn print_following(
     }
 }
 
-/// Appends the closing line of a diagram of so many scenarios, of which so many have no race that
-/// counts, and what follows it.
+/// Appends the closing line of a diagram of `scenarios` scenarios, of which `passed` have no race
+/// that counts, and what follows it.
 pub(crate) fn print_closing(
     alloc: Global,
     page: &mut Page,

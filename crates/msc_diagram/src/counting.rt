@@ -158,7 +158,7 @@ fn see_some(
     see_counting(alloc, reported, enforced, left, places)
 }
 
-/// Counts one more scenario for the places of its races that count, if that is asked for.
+/// Counts one more scenario for the places of its races that count, if the caller wants it.
 fn see_tally(
     alloc: Global,
     tally: &mut PlaceTally,
@@ -181,7 +181,7 @@ fn see_tally(
 }
 
 /// Adds the places of the races of a scenario: of all, of those that count if some kinds are left
-/// out, and of those that are listed; and counts the scenario for its places if that is asked for.
+/// out, and of those that are listed. Counts the scenario for its places if the caller wants it.
 fn see_case(
     alloc: Global,
     answer: &mut Answer,
