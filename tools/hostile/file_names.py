@@ -54,6 +54,8 @@ DIAGRAMS = {
     "flow": b"flowchart TD\nA-->B", "front": b"---\ntitle: x", "nothing": b"",
     "queues": DIAGRAM + b"%% queues pair; pair A; single A", "slip": DIAGRAM + b"%% queues pairs",
     "links": DIAGRAM + b"%% queues pair; mailbox B",
+    "stale": DIAGRAM + b"%% race ok: a", "reason": DIAGRAM + b"%% race ok",
+    "unread": DIAGRAM + b"%% race ok with: a",
     "page": b"```mermaid\n" + DIAGRAM + b"```\n\n~~~mermaid\nsequenceDiagram\nA->B\n~~~\n",
 }
 ON_CHARTS = (
@@ -79,6 +81,8 @@ ON_DIAGRAMS = (
     ["check", "--from", "any", "--queues", "mailbox", "--format", "count"],
     ["check", "--from", "any", "--queues", "own", "--name", "t", "--places"],
     ["check", "--from", "any", "--queues", "own", "--format", "lines", "--single", "B"],
+    ["check", "--from", "any", "--queues", "pair", "--name", "t", "--places", "--accept"],
+    ["check", "--from", "any", "--queues", "pair", "--format", "lines", "--accept"],
     ["import", "--name", "t", "--places"], ["import", "--name", "t", "--list"],
     ["import", "--name", "t", "--fence", "3", "--places"],
     ["check", "--queues", "pair", "--places"],

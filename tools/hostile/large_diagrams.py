@@ -210,9 +210,35 @@ def bytes_that_are_no_text():
         yield text, CHECK, passes()
 
 
+def stale(*lines):
+    """The answer on a diagram without races whose marks in these lines accept none."""
+    told = "".join(f"stale\nat -:{line}:1\n" for line in lines)
+    return Answer(f"diagram diagram\nqueues pair\nscenarios 1\npass\naccepted 0\n{told}".encode(),
+                  b"", 1)
+
+
+def marks():
+    """Diagrams with many marks, or long ones."""
+    accept, mark, behind = [*CHECK, "--accept"], b"%% race ok: x\n", b"\n" + ARROW
+    text = filled(HEAD + ARROW + b"\n", mark)
+    yield text, accept, stale(*range(3, last_line(text)))
+    yield filled(HEAD, mark, ARROW), accept, fault("accept fault 4 at 3: a second mark for one arrow")
+    yield HEAD + (mark + ARROW + b"\n") * 1024, accept, stale(*range(2, 2050, 2))
+    for some in (b" ", b"x", b"\xff", b"#", b"&", b":"):
+        yield filled(HEAD + b"%% race ok: x", some, behind), accept, stale(2)
+    for front, some in ((b"in pair", b", pair"), (b"with 1", b"; 1")):
+        begin = HEAD + b"%% race ok " + front
+        yield filled(begin, some, b": x" + behind), accept, stale(2)
+        yield filled(begin, some, behind), accept, fault("accept fault 2 at 2: no reason")
+    begin, some = HEAD + b"%% race ok with \"a", b"\"; \"a"
+    yield filled(begin, some, b"\": x" + behind), accept, stale(2)
+    unread = fault("accept fault 1 at 2: expected in, with or a reason")
+    yield filled(begin, some, behind), accept, unread
+
+
 def tried():
     """Texts, words and answers of all kinds."""
-    kinds = texts_of_one_thing, long_lines, many_lines, choices, pages, comments
+    kinds = texts_of_one_thing, long_lines, many_lines, choices, pages, comments, marks
     for kind in (*kinds, bytes_that_are_no_text):
         yield from kind()
 

@@ -68,6 +68,7 @@ def imports(wanted):
         yield [*check, "mailbox", "--closest", "--why", "--show", "1", "--rounds", "1", "-"]
         # (the places of all races that are listed may take more than the limits are about)
         yield [*check, "single", "--closest", "--format", "lines", "--limit", "2", "-"]
+        yield [*check, "pair", "--accept", "--choose", "main", "-"]
 
 
 def commands_on(chart, text, wanted):

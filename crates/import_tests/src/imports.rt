@@ -213,6 +213,7 @@ fn importing_all<'r>(
         fence,
         cross: None,
         manner: MANNER,
+        choose: None,
         rounds,
         limit,
         name: b"t",

@@ -1,5 +1,5 @@
 -- The arrows whose races marks accept, under an architecture.
-use Rattle.std.specs.Prelude.{◌≡◌, ℕ, ◌<◌, Bool, true, false, ◌&&◌, ◌||◌, ◌==◌, List, [], Option, None, Some, drop, encode_utf8_all, find, get_or, length, map}
+use Rattle.std.specs.Prelude.{◌≡◌, ℕ, ◌<◌, Bool, true, false, ◌&&◌, ◌||◌, ◌==◌, List, [], Option, None, Some, drop, encode_utf8_all, find, get_or, length, map, nat_lt}
 use Rattle.std.specs.Fmt.{decimal}
 use Rattle.std.specs.List.{list_any, prefix_len}
 use Rattle.std.specs.Str.{bytes_eq}
@@ -89,7 +89,8 @@ acceptance text marks statements usual = record { text = text; marks = marks; st
 
 -- the mark of statement i accepts races with statement j
 abbrev pub accepts_from : Acceptance → ℕ → ℕ → Bool
-accepts_from a i j = get_or (row_at a.marks (map (spoken_arrow a.text) a.statements) a.usual i) j false
+accepts_from a i j =
+    nat_lt i (length a.statements) && get_or (row_at a.marks (map (spoken_arrow a.text) a.statements) a.usual i) j false
 
 -- a race of both is accepted: by the mark of either
 abbrev pub accepts : Acceptance → ℕ → ℕ → Bool

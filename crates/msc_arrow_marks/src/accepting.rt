@@ -275,6 +275,13 @@ impl<'m> AcceptedArrows<'m> {
         })
     }
 
+    /// The text of the diagram.
+    pub fn text(&self) -> &'m [u8]
+        ensures { result.now ≡ self.now.text }
+    {
+        self.text
+    }
+
     /// The marks of the diagram.
     pub fn marks(&self) -> &'m [ArrowMark]
         ensures { result.now ≡ self.now.marks }
@@ -282,11 +289,11 @@ impl<'m> AcceptedArrows<'m> {
         self.marks
     }
 
-    /// The number of its statements. It takes no memory.
-    pub fn statements(&self) -> usize
-        ensures { result ≡ length self.now.statements }
+    /// The statements of the diagram.
+    pub fn statements(&self) -> &'m [Placed]
+        ensures { result.now ≡ self.now.statements }
     {
-        self.statements.len()
+        self.statements
     }
 
     /// Whether a mark is for the architecture. It takes no memory.
@@ -299,9 +306,11 @@ impl<'m> AcceptedArrows<'m> {
     /// Whether the mark of statement `i` accepts races with statement `j`: it is for the
     /// architecture, and `j` is an arrow that it names, or it names none. It takes no memory.
     pub fn accepts_from(&self, i: usize, j: usize) -> bool
-        requires { i < length self.now.statements }
         ensures { result ≡ accepts_from self.now i j }
     {
+        if i >= self.rows.len() {
+            return false;
+        }
         match self.rows[i].as_slice().get(j) {
             Some(accepts) => *accepts,
             None => false,
@@ -311,8 +320,6 @@ impl<'m> AcceptedArrows<'m> {
     /// Whether a race of the arrows `i` and `j`, which are statements, is accepted: by the mark of
     /// either. It takes no memory.
     pub fn accepts(&self, i: usize, j: usize) -> bool
-        requires first { i < length self.now.statements }
-        requires second { j < length self.now.statements }
         ensures { result ≡ accepts self.now i j }
     {
         self.accepts_from(i, j) || self.accepts_from(j, i)

@@ -71,6 +71,7 @@ module _ {W : Type 0} (contents : W → Option (List ℕ)) (x : ScenarioArgs) (f
     spent_block (refusals.Fault Device) old new spent does = tt
     spent_block (refusals.Pair f) old new spent does = absurd cc
     spent_block (refusals.Mark f) old new spent does = absurd cc
+    spent_block (refusals.ArrowMark f) old new spent does = absurd cc
     spent_block (refusals.Instance name) old new spent does = absurd cc
     spent_block (refusals.Link fault) old new spent does = absurd cc
     spent_block (refusals.Rounds f) old new spent does = absurd cc
@@ -87,6 +88,7 @@ module _ {W : Type 0} (contents : W → Option (List ℕ)) (x : ScenarioArgs) (f
     refused_block (refusals.Fault Device) old new refused does = absurd cc
     refused_block (refusals.Pair f) old new refused does = does
     refused_block (refusals.Mark f) old new refused does = does
+    refused_block (refusals.ArrowMark f) old new refused does = does
     refused_block (refusals.Instance name) old new refused does = does
     refused_block (refusals.Link fault) old new refused does = does
     refused_block (refusals.Rounds f) old new refused does = does
@@ -95,7 +97,7 @@ module _ {W : Type 0} (contents : W → Option (List ℕ)) (x : ScenarioArgs) (f
     module _ (refusal : Refusal) (old mid new : W) (said : RefusesScenarios (at_block x n) text refusal × (mid ≡ old)) where
       -- then it was told
       pub surveyed_refused : (u : Unit {0}) → TellsBlock contents x file text n refusal (Ok u) mid new
-          → AnswersWith contents (SurveysOne x file text n) (BeginsOne x file text n) (λ r. ⊥) (Ok (record { status = Refused; listed = 0 })) old new
+          → AnswersWith contents (SurveysOne x file text n) (BeginsOne x file text n) (λ r. ⊥) (Ok (record { status = Refused; listed = 0; marked = false })) old new
       surveyed_refused u (lines, are, wrote) = (
         refused_text x file n ++ (lines ++ refused_end x),
         inr (record { refusal = refusal; refused = said.0; ends = refl; lines = lines; are = are; text_is = refl }),
@@ -122,24 +124,24 @@ module _ {W : Type 0} (contents : W → Option (List ℕ)) (x : ScenarioArgs) (f
 
   module _ (ns : List ℕ) where
     -- what is printed of the diagrams of these numbers follows what was printed
-    abbrev pub Follows : ScenarioArgs → Bool → Status → List ℕ → List ℕ → Type 0
-    Follows now is_listed worst rest done =
-        ((status : Status) (more : List ℕ) → Surveys now file text rest is_listed worst status more → Surveys x file text ns false Done status (done ++ more))
+    abbrev pub Follows : ScenarioArgs → Bool → Bool → Status → List ℕ → List ℕ → Type 0
+    Follows now is_listed is_marked worst rest done =
+        ((status : Status) (more : List ℕ) → Surveys now file text rest is_listed is_marked worst status more → Surveys x file text ns false false Done status (done ++ more))
         × ((more : List ℕ) → BeginsSurvey now file text rest more → BeginsSurvey x file text ns (done ++ more))
 
     -- that went behind the known bytes of a writer
-    abbrev pub SoFar : ScenarioArgs → Bool → Status → List ℕ → W → W → Type 0
-    SoFar now is_listed worst rest old new = (done : List ℕ) × Follows now is_listed worst rest done × Appends (contents old) (contents new) done
+    abbrev pub SoFar : ScenarioArgs → Bool → Bool → Status → List ℕ → W → W → Type 0
+    SoFar now is_listed is_marked worst rest old new = (done : List ℕ) × Follows now is_listed is_marked worst rest done × Appends (contents old) (contents new) done
 
     -- nothing was printed yet
-    pub none_so_far : (old : W) → SoFar x false Done ns old old
+    pub none_so_far : (old : W) → SoFar x false false Done ns old old
     none_so_far old = ([], ((λ status more says. says), (λ more begins. begins)), nothing_more _)
 
-    module _ (now : ScenarioArgs) (is_listed : Bool) (worst : Status) (n : ℕ) (rest : List ℕ) where
+    module _ (now : ScenarioArgs) (is_listed is_marked : Bool) (worst : Status) (n : ℕ) (rest : List ℕ) where
       -- what is printed of one and of those behind it is printed of all of them
       one_more : (one : Surveyed) (first : List ℕ) → SurveysOne now file text n one first → (status : Status) (more : List ℕ)
-          → Surveys (behind now one.listed) file text rest (is_listed || nat_lt 0 one.listed) (worse worst one.status) status more
-          → Surveys now file text (n ∷ rest) is_listed worst status (first ++ more)
+          → Surveys (behind now one.listed) file text rest (is_listed || nat_lt 0 one.listed) (is_marked || one.marked) (worse worst one.status) status more
+          → Surveys now file text (n ∷ rest) is_listed is_marked worst status (first ++ more)
       unfolding Surveys
       one_more one first is status more says = (one, first, more, is, says, refl)
 
@@ -158,13 +160,13 @@ module _ {W : Type 0} (contents : W → Option (List ℕ)) (x : ScenarioArgs) (f
       begun_none = inl refl
 
       -- one more was printed
-      pub more_so_far : (one : Surveyed) (old mid new : W) → SoFar now is_listed worst (n ∷ rest) old mid
+      pub more_so_far : (one : Surveyed) (old mid new : W) → SoFar now is_listed is_marked worst (n ∷ rest) old mid
           → AnswersWith contents (SurveysOne now file text n) (BeginsOne now file text n) (λ r. ⊥) (Ok one) mid new
-          → SoFar (behind now one.listed) (is_listed || nat_lt 0 one.listed) (worse worst one.status) rest old new
+          → SoFar (behind now one.listed) (is_listed || nat_lt 0 one.listed) (is_marked || one.marked) (worse worst one.status) rest old new
       more_so_far one old mid new (done, follows, wrote) (first, is, more_wrote) = (
         done ++ first,
         (
-          (λ status more says. subst (λ (p : List ℕ). Surveys x file text ns false Done status p) (sym (append_assoc done first more))
+          (λ status more says. subst (λ (p : List ℕ). Surveys x file text ns false false Done status p) (sym (append_assoc done first more))
               (follows.0 status (first ++ more) (one_more one first is status more says))),
           (λ more begins. subst (λ (p : List ℕ). BeginsSurvey x file text ns p) (sym (append_assoc done first more))
               (follows.1 (first ++ more) (one_begun one first is more begins))),
@@ -173,9 +175,9 @@ module _ {W : Type 0} (contents : W → Option (List ℕ)) (x : ScenarioArgs) (f
       )
 
       -- one was not, so they are not
-      pub failed_so_far : (r : Refusal) (old mid new : W) → SoFar now is_listed worst (n ∷ rest) old mid
+      pub failed_so_far : (r : Refusal) (old mid new : W) → SoFar now is_listed is_marked worst (n ∷ rest) old mid
           → AnswersWith contents (SurveysOne now file text n) (BeginsOne now file text n) (λ r. ⊥) (Err r) mid new
-          → AnswersWith contents (Surveys x file text ns false Done) (BeginsSurvey x file text ns) (λ r. ⊥) (Err r) old new
+          → AnswersWith contents (Surveys x file text ns false false Done) (BeginsSurvey x file text ns) (λ r. ⊥) (Err r) old new
       failed_so_far (refusals.Fault Memory) old mid new (done, follows, wrote) (inl same) = inr (
         done ++ [],
         follows.1 [] begun_none,
@@ -197,13 +199,14 @@ module _ {W : Type 0} (contents : W → Option (List ℕ)) (x : ScenarioArgs) (f
       failed_so_far (refusals.Fault (NotStarted i)) old mid new so does = absurd does.0
       failed_so_far (refusals.Pair f) old mid new so does = absurd does.0
       failed_so_far (refusals.Mark f) old mid new so does = absurd does.0
+      failed_so_far (refusals.ArrowMark f) old mid new so does = absurd does.0
       failed_so_far (refusals.Instance name) old mid new so does = absurd does.0
       failed_so_far (refusals.Link fault) old mid new so does = absurd does.0
       failed_so_far (refusals.Rounds f) old mid new so does = absurd does.0
       failed_so_far (refusals.Import e) old mid new so does = absurd does.0
 
-    module _ (now : ScenarioArgs) (is_listed : Bool) (worst : Status) where
-      ended : Surveys now file text [] is_listed worst worst (survey_end now is_listed)
+    module _ (now : ScenarioArgs) (is_listed is_marked : Bool) (worst : Status) where
+      ended : Surveys now file text [] is_listed is_marked worst worst (survey_end now is_listed is_marked)
       unfolding Surveys
       ended = (refl, refl)
 
@@ -212,25 +215,25 @@ module _ {W : Type 0} (contents : W → Option (List ℕ)) (x : ScenarioArgs) (f
       begun_all = refl
 
       -- all were printed, and what follows them
-      pub all_so_far : (old mid : W) → SoFar now is_listed worst [] old mid → (answer : Result Status Refusal) (new : W)
-          → IsPut contents (survey_end now is_listed) worst answer mid new
-          → AnswersWith contents (Surveys x file text ns false Done) (BeginsSurvey x file text ns) (λ r. ⊥) answer old new
+      pub all_so_far : (old mid : W) → SoFar now is_listed is_marked worst [] old mid → (answer : Result Status Refusal) (new : W)
+          → IsPut contents (survey_end now is_listed is_marked) worst answer mid new
+          → AnswersWith contents (Surveys x file text ns false false Done) (BeginsSurvey x file text ns) (λ r. ⊥) answer old new
       all_so_far old mid (done, follows, wrote) (Ok status) new (same, ended_so) = (
-        done ++ survey_end now is_listed,
-        follows.0 status _ (subst (λ (s : Status). Surveys now file text [] is_listed worst s (survey_end now is_listed)) (sym same) ended),
-        Appends-append (contents old) (contents mid) (contents new) done (survey_end now is_listed) wrote ended_so,
+        done ++ survey_end now is_listed is_marked,
+        follows.0 status _ (subst (λ (s : Status). Surveys now file text [] is_listed is_marked worst s (survey_end now is_listed is_marked)) (sym same) ended),
+        Appends-append (contents old) (contents mid) (contents new) done (survey_end now is_listed is_marked) wrote ended_so,
       )
       all_so_far old mid so (Err refusal) new device = rw device tt
 
       -- what follows them was not
-      pub no_end : (old new : W) → SoFar now is_listed worst [] old new
-          → AnswersWith contents (Surveys x file text ns false Done) (BeginsSurvey x file text ns) (λ r. ⊥) (Err (refusals.Fault Memory)) old new
+      pub no_end : (old new : W) → SoFar now is_listed is_marked worst [] old new
+          → AnswersWith contents (Surveys x file text ns false false Done) (BeginsSurvey x file text ns) (λ r. ⊥) (Err (refusals.Fault Memory)) old new
       no_end old new (done, follows, wrote) = inr (done ++ [], follows.1 [] begun_all, (done, [], refl, wrote))
 
     -- at a place of the numbers, and behind the last
-    module _ (now : ScenarioArgs) (is_listed : Bool) (worst : Status) (i : ℕ) (old : W) where
-      pub at_place : (e : ℕ) → i < length ns → (mid : W) → SoFar now is_listed worst (drop i ns) old mid → SoFar now is_listed worst (get_or ns i e ∷ drop (i + 1) ns) old mid
-      at_place e inside mid so = subst (λ (rest : List ℕ). SoFar now is_listed worst rest old mid) (drop_more ns i e inside) so
+    module _ (now : ScenarioArgs) (is_listed is_marked : Bool) (worst : Status) (i : ℕ) (old : W) where
+      pub at_place : (e : ℕ) → i < length ns → (mid : W) → SoFar now is_listed is_marked worst (drop i ns) old mid → SoFar now is_listed is_marked worst (get_or ns i e ∷ drop (i + 1) ns) old mid
+      at_place e inside mid so = subst (λ (rest : List ℕ). SoFar now is_listed is_marked worst rest old mid) (drop_more ns i e inside) so
 
-      pub at_end : length ns ≤ i → (new : W) → SoFar now is_listed worst (drop i ns) old new → SoFar now is_listed worst [] old new
-      at_end past new so = subst (λ (rest : List ℕ). SoFar now is_listed worst rest old new) (drop_all i ns past) so
+      pub at_end : length ns ≤ i → (new : W) → SoFar now is_listed is_marked worst (drop i ns) old new → SoFar now is_listed is_marked worst [] old new
+      at_end past new so = subst (λ (rest : List ℕ). SoFar now is_listed is_marked worst rest old new) (drop_all i ns past) so

@@ -117,6 +117,7 @@ module _ {W : Type 0} (contents : W → Option (List ℕ)) where
   refused_so prints so begins begun refuses not_so starts wrong (refusals.Fault (NotStarted i)) old new (fails, same) = (wrong _ fails, same)
   refused_so prints so begins begun refuses not_so starts wrong (refusals.Pair f) old new (fails, same) = (wrong _ fails, same)
   refused_so prints so begins begun refuses not_so starts wrong (refusals.Mark f) old new (fails, same) = (wrong _ fails, same)
+  refused_so prints so begins begun refuses not_so starts wrong (refusals.ArrowMark f) old new (fails, same) = (wrong _ fails, same)
   refused_so prints so begins begun refuses not_so starts wrong (refusals.Instance name) old new (fails, same) = (wrong _ fails, same)
   refused_so prints so begins begun refuses not_so starts wrong (refusals.Link fault) old new (fails, same) = (wrong _ fails, same)
   refused_so prints so begins begun refuses not_so starts wrong (refusals.Rounds f) old new (fails, same) = (wrong _ fails, same)
@@ -225,6 +226,7 @@ module _ {W : Type 0} (contents : W → Option (List ℕ)) where
   told_quietly x file s (Err (refusals.Fault Device)) now says = tt
   told_quietly x file s (Err (refusals.Pair f)) now says = absurd says
   told_quietly x file s (Err (refusals.Mark f)) now says = (says, refl)
+  told_quietly x file s (Err (refusals.ArrowMark f)) now says = (says, refl)
   told_quietly x file s (Err (refusals.Instance name)) now says = absurd says
   told_quietly x file s (Err (refusals.Link fault)) now says = absurd says
   told_quietly x file s (Err (refusals.Rounds f)) now says = (says, refl)
@@ -248,6 +250,7 @@ module _ {W : Type 0} (contents : W → Option (List ℕ)) where
     not_linked (refusals.Fault Device) now said = absurd said
     not_linked (refusals.Pair f) now said = absurd said
     not_linked (refusals.Mark f) now said = absurd said
+    not_linked (refusals.ArrowMark f) now said = absurd said
     not_linked (refusals.Instance name) now said = absurd said
     not_linked (refusals.Link fault) now said = (said, refl)
     not_linked (refusals.Rounds f) now said = absurd said
@@ -269,6 +272,7 @@ module _ {W : Type 0} (contents : W → Option (List ℕ)) where
       refused_under (refusals.Fault Device) fails = absurd fails
       refused_under (refusals.Pair f) fails = (queues, linked, fails)
       refused_under (refusals.Mark f) fails = (queues, linked, fails)
+      refused_under (refusals.ArrowMark f) fails = (queues, linked, fails)
       refused_under (refusals.Instance name) fails = (queues, linked, fails)
       refused_under (refusals.Link fault) fails = absurd fails
       refused_under (refusals.Rounds f) fails = (queues, linked, fails)
@@ -300,6 +304,7 @@ module _ {W : Type 0} (contents : W → Option (List ℕ)) where
     spent_so (refusals.Fault Device) old new spent does = tt
     spent_so (refusals.Pair f) old new spent does = absurd cc
     spent_so (refusals.Mark f) old new spent does = absurd cc
+    spent_so (refusals.ArrowMark f) old new spent does = absurd cc
     spent_so (refusals.Instance name) old new spent does = absurd cc
     spent_so (refusals.Link fault) old new spent does = absurd cc
     spent_so (refusals.Rounds f) old new spent does = absurd cc
@@ -314,6 +319,7 @@ module _ {W : Type 0} (contents : W → Option (List ℕ)) where
     untouched (refusals.Fault Device) old new refused does = absurd cc
     untouched (refusals.Pair f) old new refused does = does.1
     untouched (refusals.Mark f) old new refused does = does.1
+    untouched (refusals.ArrowMark f) old new refused does = does.1
     untouched (refusals.Instance name) old new refused does = does.1
     untouched (refusals.Link fault) old new refused does = does.1
     untouched (refusals.Rounds f) old new refused does = does.1
@@ -329,6 +335,7 @@ module _ {W : Type 0} (contents : W → Option (List ℕ)) where
     told_so (refusals.Fault Device) old mid new refused does tells = absurd cc
     told_so (refusals.Pair f) old mid new refused does tells = (does.0, tells)
     told_so (refusals.Mark f) old mid new refused does tells = (does.0, tells)
+    told_so (refusals.ArrowMark f) old mid new refused does tells = (does.0, tells)
     told_so (refusals.Instance name) old mid new refused does tells = (does.0, tells)
     told_so (refusals.Link fault) old mid new refused does tells = (does.0, tells)
     told_so (refusals.Rounds f) old mid new refused does tells = (does.0, tells)

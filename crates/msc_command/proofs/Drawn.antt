@@ -56,6 +56,7 @@ module _ {W : Type 0} (contents : W → Option (List ℕ)) (drawn : Drawn) (word
   not_linked (refusals.Fault Device) now said = absurd said
   not_linked (refusals.Pair f) now said = absurd said
   not_linked (refusals.Mark f) now said = absurd said
+  not_linked (refusals.ArrowMark f) now said = absurd said
   not_linked (refusals.Instance name) now said = absurd said
   not_linked (refusals.Link fault) now said = (said, refl)
   not_linked (refusals.Rounds f) now said = absurd said
@@ -73,6 +74,7 @@ module _ {W : Type 0} (contents : W → Option (List ℕ)) (drawn : Drawn) (word
     refused_under (refusals.Fault f) fails = (queues, linked, fails)
     refused_under (refusals.Pair f) fails = (queues, linked, fails)
     refused_under (refusals.Mark f) fails = (queues, linked, fails)
+    refused_under (refusals.ArrowMark f) fails = (queues, linked, fails)
     refused_under (refusals.Instance name) fails = (queues, linked, fails)
     refused_under (refusals.Link fault) fails = absurd (no_link_of (drawn_under queues drawn) s fault fails)
     refused_under (refusals.Rounds f) fails = (queues, linked, fails)
@@ -97,6 +99,7 @@ undrawn contents drawn draft s (refusals.Fault (Built f)) now fails = (fails, re
 undrawn contents drawn draft s (refusals.Fault (NotStarted i)) now fails = (fails, refl)
 undrawn contents drawn draft s (refusals.Pair f) now fails = (fails, refl)
 undrawn contents drawn draft s (refusals.Mark f) now fails = (fails, refl)
+undrawn contents drawn draft s (refusals.ArrowMark f) now fails = (fails, refl)
 undrawn contents drawn draft s (refusals.Instance name) now fails = (fails, refl)
 undrawn contents drawn draft s (refusals.Link fault) now fails = (fails, refl)
 undrawn contents drawn draft s (refusals.Rounds f) now fails = (fails, refl)

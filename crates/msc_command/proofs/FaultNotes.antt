@@ -1,5 +1,5 @@
 -- What the status tells of an answer.
-use Rattle.std.proofs.Common.{◌≡◌, ℕ, Bool, true, false, nat_eq, List, Option, Some, None, Result, Ok, Err, inl, inr, refl, sym, subst}
+use Rattle.std.proofs.Common.{◌≡◌, ℕ, Bool, true, false, List, Option, Some, None, Result, Ok, Err, inl, inr, refl, sym, ap, ◌∙◌, subst}
 use Rattle.clap.specs.declared.parser.matches.Found.{Found}
 use Rattle.msc_report.specs.declared.fault.Fault.TheVariants.{Parse, Chart, NotStarted, Memory, Device}
 use Rattle.msc_diagram.specs.declared.scenario.Scenario.{Scenario}
@@ -12,6 +12,7 @@ use Rattle.msc_command.specs.declared.ending.Refusal.{Refusal}
 use Rattle.msc_command.specs.declared.ending.Refusal.TheVariants as refusals
 use Rattle.msc_command.specs.declared.ending.Status.{Status}
 use Rattle.msc_command.specs.declared.ending.Status.TheVariants.{Done, Races, Refused, Unfinished, Failed}
+use Rattle.msc_command.specs.declared.scenarios.Surveyed.{Surveyed}
 use Rattle.msc_command.specs.declared.scenarios.Told.{Told}
 use Rattle.msc_command.specs.declared.tasks.ChartCommand.TheVariants as chart_commands
 use Rattle.msc_command.specs.declared.tasks.ScenarioArgs.{ScenarioArgs}
@@ -36,12 +37,12 @@ never_finished false same = cc
 
 -- and none of scenarios
 never_surveyed : (quiet : Bool) (c : CheckArgs) (t : Told) (ss : List Scenario) (printed : List ℕ) → PrintsAll quiet c t ss Refused printed → ⊥
-never_surveyed true c t ss printed (n, (passed, same, zero, says, none)) = never_ended passed same
-never_surveyed false c t ss printed (n, (format, its, same, says)) = never_ended (nat_eq n 0) same
+never_surveyed true c t ss printed (one, ends, (marks, used, (passed, same, says, none))) = never_ended passed (sym ends ∙ ap (λ (s : Surveyed). s.status) same)
+never_surveyed false c t ss printed (one, ends, (marks, used, (format, its, judged, same, says))) = never_ended _ (sym ends ∙ ap (λ (s : Surveyed). s.status) same)
 
 -- one of several diagrams is refused
 abbrev pub RefusesOne : List ℕ → Type 0
-RefusesOne printed = (x : ScenarioArgs) × (file : List ℕ) × (text : List ℕ) × (f : Markdown) × (many_in x text ≡ Some f) × Surveys x file text f.numbers false Done Refused printed
+RefusesOne printed = (x : ScenarioArgs) × (file : List ℕ) × (text : List ℕ) × (f : Markdown) × (many_in x text ≡ Some f) × Surveys x file text f.numbers false false Done Refused printed
 
 diagram_refused : (many : Option Markdown) (x : ScenarioArgs) (file text printed : List ℕ) → many_in x text ≡ many
     → PrintsDiagrams many x file text Refused printed → RefusesOne printed
@@ -97,9 +98,11 @@ module _ {W : Type 0} (contents : W → Option (List ℕ)) where
   tells task file reads (Err (refusals.Pair f)) old new (inr (never, same)) = absurd never
   tells task file reads (Err (refusals.Mark f)) old new (inl (text, read, (refused, told))) = refused_told (form_of task) file text (refusals.Mark f) old new told
   tells task file reads (Err (refusals.Mark f)) old new (inr (never, same)) = absurd never
+  tells task file reads (Err (refusals.ArrowMark f)) old new (inl (text, read, (refused, told))) = refused_told (form_of task) file text (refusals.ArrowMark f) old new told
+  tells task file reads (Err (refusals.ArrowMark f)) old new (inr (never, same)) = absurd never
   tells task file reads (Err (refusals.Instance name)) old new (inl (text, read, (refused, told))) = refused_told (form_of task) file text (refusals.Instance name) old new told
-  tells task file reads (Err (refusals.Link fault)) old new (inl (text, read, (refused, told))) = refused_told (form_of task) file text (refusals.Link fault) old new told
   tells task file reads (Err (refusals.Instance name)) old new (inr (never, same)) = absurd never
+  tells task file reads (Err (refusals.Link fault)) old new (inl (text, read, (refused, told))) = refused_told (form_of task) file text (refusals.Link fault) old new told
   tells task file reads (Err (refusals.Link fault)) old new (inr (never, same)) = absurd never
   tells task file reads (Err (refusals.Rounds f)) old new (inl (text, read, (refused, told))) = refused_told (form_of task) file text (refusals.Rounds f) old new told
   tells task file reads (Err (refusals.Rounds f)) old new (inr (never, same)) = absurd never

@@ -36,6 +36,7 @@ module _ (says : OwnSaid → Type 0) (shows : ℕ → OwnPlace → Type 0) (are_
   linked_without said names are (Err (refusals.Fault Device)) ruled = absurd ruled
   linked_without said names are (Err (refusals.Pair f)) ruled = absurd ruled
   linked_without said names are (Err (refusals.Mark f)) ruled = absurd ruled
+  linked_without said names are (Err (refusals.ArrowMark f)) ruled = absurd ruled
   linked_without said names are (Err (refusals.Instance name)) ruled = absurd ruled
   linked_without said names are (Err (refusals.Link (Given fault))) ruled = (silent, said, names, are, ruled)
   linked_without said names are (Err (refusals.Link (Text fault place))) ruled = absurd ruled
@@ -55,6 +56,7 @@ module _ (says : OwnSaid → Type 0) (shows : ℕ → OwnPlace → Type 0) (are_
   linked_with own at said shown names are (Err (refusals.Fault Device)) ruled = absurd ruled
   linked_with own at said shown names are (Err (refusals.Pair f)) ruled = absurd ruled
   linked_with own at said shown names are (Err (refusals.Mark f)) ruled = absurd ruled
+  linked_with own at said shown names are (Err (refusals.ArrowMark f)) ruled = absurd ruled
   linked_with own at said shown names are (Err (refusals.Instance name)) ruled = absurd ruled
   linked_with own at said shown names are (Err (refusals.Link (Given fault))) ruled =
       (named at (own_text own.queues), said, names, are, ruled)
@@ -81,6 +83,7 @@ module _ (says : OwnSaid → Type 0) (shows : ℕ → OwnPlace → Type 0) (are_
   not_linked_by (refusals.Fault Device) said = absurd said
   not_linked_by (refusals.Pair f) said = absurd said
   not_linked_by (refusals.Mark f) said = absurd said
+  not_linked_by (refusals.ArrowMark f) said = absurd said
   not_linked_by (refusals.Instance name) said = absurd said
   not_linked_by (refusals.Link (Given fault)) said = absurd said
   not_linked_by (refusals.Link (Text fault place)) said = absurd said
@@ -123,6 +126,7 @@ module _ (usual : LinkKind) (words : LinkWords) (text : List ℕ) where
   first_gives s scenarios (Err (refusals.Fault Device)) said = said
   first_gives s scenarios (Err (refusals.Pair f)) said = said
   first_gives s scenarios (Err (refusals.Mark f)) said = said
+  first_gives s scenarios (Err (refusals.ArrowMark f)) said = said
   first_gives s scenarios (Err (refusals.Instance name)) said = said
   first_gives s scenarios (Err (refusals.Link fault)) said = said
   first_gives s scenarios (Err (refusals.Rounds f)) said = said

@@ -35,6 +35,7 @@ module _ (says_so : OwnSaid → Type 0) (shows : ℕ → OwnPlace → Type 0) wh
   own_by at place shown reading said (Err (refusals.Fault Device)) found = absurd found
   own_by at place shown reading said (Err (refusals.Pair f)) found = absurd found
   own_by at place shown reading said (Err (refusals.Mark f)) found = absurd found
+  own_by at place shown reading said (Err (refusals.ArrowMark f)) found = absurd found
   own_by at place shown reading said (Err (refusals.Instance name)) found = absurd found
   own_by at place shown reading said (Err (refusals.Link (Given fault))) found = absurd found
   own_by at place shown reading said (Err (refusals.Link (Text fault other))) found = absurd found
@@ -86,6 +87,7 @@ module _ (text : List ℕ) (cs : List Span) (i : ℕ) where
       refused_here (refusals.Fault Device) found = absurd found
       refused_here (refusals.Pair f) found = absurd found
       refused_here (refusals.Mark f) found = absurd found
+      refused_here (refusals.ArrowMark f) found = absurd found
       refused_here (refusals.Instance name) found = absurd found
       refused_here (refusals.Link (Given fault)) found = absurd found
       refused_here (refusals.Link (Text fault other)) found = absurd found

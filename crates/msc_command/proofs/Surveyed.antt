@@ -1,10 +1,10 @@
 -- What is answered of all scenarios of a diagram.
-use Rattle.std.proofs.Common.{◌≡◌, ℕ, Bool, true, false, not, ◌&&◌, List, [], ◌∷◌, get_or, nat_eq, slice_get, Option, Some, Result, Ok, Err, is_ok, inl, inr, map, refl, sym, ap, subst, ◌∙◌}
+use Rattle.std.proofs.Common.{◌≡◌, ℕ, Bool, true, false, not, ◌&&◌, List, [], ◌∷◌, get_or, slice_get, Option, Some, Result, Ok, Err, is_ok, inl, inr, map, refl, sym, ap, subst, ◌∙◌}
 use Rattle.std.proofs.lemmas.Option.{slice_get-get_or}
 use Rattle.msc_import.specs.Drafting.{chart_name}
-use Rattle.msc_import.specs.Importing.{answered, diagram_from, found_as, seen, told_of}
+use Rattle.msc_import.specs.Importing.{answered, diagram_from, found_as, read, seen, told_of}
 use Rattle.msc_import.specs.Laws.{ReadingComesFirst}
-use Rattle.msc_import.specs.Whole.{WantedAll, all_of, all_scenarios, draws_branches, imported_all, imported_all_from, may_draw, refusing}
+use Rattle.msc_import.specs.Whole.{WantedAll, all_of, all_scenarios, draws_branches, imported_all, imported_all_from, may_draw, reading_of_all, refusing, wanted_choices}
 use Rattle.msc_import.specs.declared.drawings.Scenario.{Scenario as Drawn}
 use Rattle.msc_import.specs.declared.whole.Scenarios.{Scenarios}
 use Rattle.msc_import_laws.specs.Imports.{ScenariosAreCharts}
@@ -19,7 +19,11 @@ use Rattle.msc_source.specs.declared.fault.SourceFault.TheVariants as sources
 use Rattle.msc_diagram.specs.Judging.{BeginsScenarios as BeginsOf, JudgesScenarios, PassesScenarios, TellsScenarios}
 use Rattle.msc_diagram.specs.declared.full.FullDiagram.{FullDiagram}
 use Rattle.msc_diagram.specs.declared.judging.DiagramFormat.{DiagramFormat as DiagramFormat}
+use Rattle.msc_diagram.specs.Closing.{has_marks}
+use Rattle.msc_diagram.specs.declared.check.ScenarioCheck.{ScenarioCheck}
+use Rattle.msc_diagram.specs.declared.check.UsedMarks.{UsedMarks}
 use Rattle.msc_diagram.specs.declared.judging.DiagramFormat.TheVariants as diagrams
+use Rattle.msc_diagram.specs.declared.judging.Judged.{Judged}
 use Rattle.msc_diagram.specs.declared.scenario.Scenario.{Scenario}
 use Rattle.msc_print.specs.declared.page.WriteFault.{WriteFault}
 use Rattle.msc_print.specs.declared.page.WriteFault.TheVariants as writing
@@ -33,7 +37,8 @@ use Rattle.msc_command.specs.Importing.{IsChartOrFault}
 use Rattle.msc_command.specs.Linked.{AreLinkedIn}
 use Rattle.msc_chart.specs.declared.queue.Queues.{Queues}
 use Rattle.msc_chart.specs.Architectures.{usual_of}
-use Rattle.msc_command.specs.Scenarios.{BeginsAll, IsCharted, IsDiagramOf, IsFirst, IsFormatOf, IsImportOfAll, IsLinkedArgs, OfScenarios, PrintsCounted, RefusesScenarios, TellsFormat, checked_under, top_in, wanted_of, with_fence}
+use Rattle.msc_command.specs.ArrowMarks.{ReadsArrowMarks}
+use Rattle.msc_command.specs.Scenarios.{AreUsed, BeginsAll, IsCharted, IsDiagramOf, IsFirst, IsFormatOf, IsImportOfAll, IsLinkedArgs, OfScenarios, PrintsCounted, RefusesScenarios, TellsFormat, check_of, checked_under, surveyed_of, top_in, wanted_of, with_fence}
 use Rattle.msc_command.specs.Scenarios as of_words
 use Rattle.msc_command.specs.ShownDiagrams.{IsFullDiagram}
 use Rattle.msc_command.specs.declared.ending.Refusal.{Refusal}
@@ -148,6 +153,7 @@ module _ {W A : Type 0} (contents : W → Option (List ℕ)) (prints : A → Lis
   none_drawn (refusals.Fault Device) said = absurd said
   none_drawn (refusals.Pair f) said = absurd said
   none_drawn (refusals.Mark f) said = absurd said
+  none_drawn (refusals.ArrowMark f) said = absurd said
   none_drawn (refusals.Instance name) said = absurd said
   none_drawn (refusals.Link fault) said = absurd said
   none_drawn (refusals.Rounds f) said = absurd said
@@ -163,6 +169,7 @@ module _ {W A : Type 0} (contents : W → Option (List ℕ)) (prints : A → Lis
   none_linked all is (refusals.Fault Device) said = absurd said
   none_linked all is (refusals.Pair f) said = absurd said
   none_linked all is (refusals.Mark f) said = absurd said
+  none_linked all is (refusals.ArrowMark f) said = absurd said
   none_linked all is (refusals.Instance name) said = absurd said
   none_linked all is (refusals.Link fault) said = ((all, is, said), refl)
   none_linked all is (refusals.Rounds f) said = absurd said
@@ -172,6 +179,23 @@ module _ {W A : Type 0} (contents : W → Option (List ℕ)) (prints : A → Lis
   pub none_linked_in : (all : Scenarios) → imported_all (wanted_of x) text ≡ Ok all → (other : List ℕ) → other ≡ text
       → (r : Refusal) → IsLinkedArgs x other all.list (Err r) → AnswersWith contents prints begins (RefusesScenarios x text) (Err r) now now
   none_linked_in all is other same r said = none_linked all is r (subst (λ (t : List ℕ). IsLinkedArgs x t all.list (Err r)) same said)
+
+  -- and where a mark is faulty
+  pub none_marked : (all : Scenarios) → imported_all (wanted_of x) text ≡ Ok all → (queues : Queues) → AreLinkedIn (usual_of x.check_args.queues) x.links text all.list queues
+      → (d : Diagram) → read (reading_of_all (wanted_of x)) text ≡ Ok d → (r : Refusal) → ReadsArrowMarks x.check_args.accept text d (Err r)
+      → AnswersWith contents prints begins (RefusesScenarios x text) (Err r) now now
+  none_marked all is queues linked d its (refusals.Fault (Parse f)) said = absurd said
+  none_marked all is queues linked d its (refusals.Fault (Chart f)) said = absurd said
+  none_marked all is queues linked d its (refusals.Fault (NotStarted i)) said = absurd said
+  none_marked all is queues linked d its (refusals.Fault Memory) said = inl refl
+  none_marked all is queues linked d its (refusals.Fault Device) said = absurd said
+  none_marked all is queues linked d its (refusals.Pair f) said = absurd said
+  none_marked all is queues linked d its (refusals.Mark f) said = absurd said
+  none_marked all is queues linked d its (refusals.ArrowMark r) said = ((all, is, queues, linked, (said.0, d, its, said.1)), refl)
+  none_marked all is queues linked d its (refusals.Instance name) said = absurd said
+  none_marked all is queues linked d its (refusals.Link fault) said = absurd said
+  none_marked all is queues linked d its (refusals.Rounds f) said = absurd said
+  none_marked all is queues linked d its (refusals.Import e) said = absurd said
 
 -- findings as people read them are in a form that is asked for, by the first of the scenarios
 pub full_is : (c : CheckArgs) (t : Told) (ss : List Scenario) (s : Scenario) → IsFirst ss s → c.format ≡ formats.Full → (full : FullDiagram)
@@ -185,36 +209,36 @@ pub first_is : (ss : List Scenario) (s : Scenario) → slice_get ss 0 ≡ Some s
 first_is [] s is = absurd cc
 first_is (first ∷ ss) s is = cc
 
-module _ {W : Type 0} (contents : W → Option (List ℕ)) (c : CheckArgs) (t : Told) (ss : List Scenario) where
+module _ {W : Type 0} (contents : W → Option (List ℕ)) (c : CheckArgs) (t : Told) (marks : Option UsedMarks) (ss : List Scenario) where
   -- what is told by the status alone
-  pub passes_so : (quiet passed : Bool) (now : W) → quiet ≡ true → PassesScenarios ss c.queues c.options.allowed passed
-      → AnswersWith contents (PrintsCounted quiet c t ss) (BeginsAll quiet c t ss) (λ refusal. ⊥) (Ok (record { status = ended_by passed; listed = 0 })) now now
-  passes_so quiet passed now is says = rw is ([], (passed, refl, refl, says, refl), nothing_more _)
+  pub passes_so : AreUsed c t marks → (quiet passed : Bool) (now : W) → quiet ≡ true → PassesScenarios ss (check_of c marks) passed
+      → AnswersWith contents (PrintsCounted quiet c t ss) (BeginsAll quiet c t ss) (λ refusal. ⊥) (Ok (record { status = ended_by passed; listed = 0; marked = false })) now now
+  passes_so used quiet passed now is says = rw is ([], (marks, used, (passed, refl, says, refl)), nothing_more _)
 
   -- what was told in a form, below the first lines of that form
-  pub told_in : (format : DiagramFormat) → IsFormatOf c t ss format → (top : List ℕ) → top ≡ top_in format c t ss → (result : Result ℕ WriteFault) (old new : W)
-      → TellsScenarios contents (JudgesScenarios top ss c.queues c.options format) (BeginsOf top ss c.queues c.options format) result old new
-      → TellsFormat contents c t ss result old new
-  told_in format its top top_is result old new told =
+  pub told_in : (k : ScenarioCheck) → k ≡ check_of c marks → (format : DiagramFormat) → IsFormatOf c t ss format → (top : List ℕ) → top ≡ top_in format c t ss → (result : Result Judged WriteFault) (old new : W)
+      → TellsScenarios contents (JudgesScenarios top ss k format) (BeginsOf top ss k format) result old new
+      → TellsFormat contents c t marks ss result old new
+  told_in k same format its top top_is result old new told =
       inl (
         format,
         its,
-        subst (λ (p : List ℕ). TellsScenarios contents (JudgesScenarios p ss c.queues c.options format) (BeginsOf p ss c.queues c.options format) result old new)
-            top_is told,
+        subst (λ (q : ScenarioCheck). TellsScenarios contents (JudgesScenarios (top_in format c t ss) ss q format) (BeginsOf (top_in format c t ss) ss q format) result old new) same
+            (subst (λ (p : List ℕ). TellsScenarios contents (JudgesScenarios p ss k format) (BeginsOf p ss k format) result old new) top_is told),
       )
 
-  module _ (quiet : Bool) (is : quiet ≡ false) where
+  module _ (used : AreUsed c t marks) (quiet : Bool) (is : quiet ≡ false) where
     -- what was written to its end
-    pub told_all : (listed : ℕ) (old new : W) → TellsFormat contents c t ss (Ok listed) old new
-        → AnswersWith contents (PrintsCounted quiet c t ss) (BeginsAll quiet c t ss) (λ refusal. ⊥) (Ok (record { status = ended_by (nat_eq listed 0); listed = listed })) old new
-    told_all listed old new (inl (format, its, (printed, says, wrote))) = rw is (printed, (format, its, refl, says), wrote)
-    told_all listed old new (inr (never, same)) = absurd cc
+    pub told_all : (judged : Judged) (old new : W) → TellsFormat contents c t marks ss (Ok judged) old new
+        → AnswersWith contents (PrintsCounted quiet c t ss) (BeginsAll quiet c t ss) (λ refusal. ⊥) (Ok (surveyed_of judged (has_marks marks))) old new
+    told_all judged old new (inl (format, its, (printed, says, wrote))) = rw is (printed, (marks, used, (format, its, judged, refl, says)), wrote)
+    told_all judged old new (inr (never, same)) = absurd cc
 
     -- what was not
-    pub not_told : (f : WriteFault) (old new : W) → TellsFormat contents c t ss (Err f) old new
+    pub not_told : (f : WriteFault) (old new : W) → TellsFormat contents c t marks ss (Err f) old new
         → AnswersWith contents (PrintsCounted quiet c t ss) (BeginsAll quiet c t ss) (λ refusal. ⊥) (Err (refusals.Fault (of_writing f))) old new
     not_told writing.Memory old new (inl (format, its, inl same)) = inl same
-    not_told writing.Memory old new (inl (format, its, inr (printed, says, begun))) = inr (printed, rw is (format, its, says), begun)
+    not_told writing.Memory old new (inl (format, its, inr (printed, says, begun))) = inr (printed, rw is (marks, used, format, its, says), begun)
     not_told writing.Memory old new (inr (memory, same)) = inl same
     not_told writing.Device old new told = tt
 
@@ -228,11 +252,12 @@ none_read law x text (refusals.Fault (NotStarted i)) said = absurd said
 none_read law x text (refusals.Import e) said = law.refused (wanted_of x) text (seen e) said
 none_read law x text (refusals.Pair f) said = absurd said
 none_read law x text (refusals.Mark f) said = absurd said
+none_read law x text (refusals.ArrowMark f) said = absurd said
 none_read law x text (refusals.Instance name) said = absurd said
 none_read law x text (refusals.Link fault) said = absurd said
 none_read law x text (refusals.Rounds f) said = absurd said
 
 -- scenarios do not depend on the number of their diagram
 pub any_fence : (fence : Option ℕ) (x : ScenarioArgs) (d : Diagram) → all_of (wanted_of x) d ≡ all_of (wanted_of (with_fence fence x)) d
-unfolding all_of all_scenarios
+unfolding all_of all_scenarios wanted_choices
 any_fence fence x d = refl

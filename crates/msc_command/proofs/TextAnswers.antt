@@ -80,6 +80,7 @@ module _ {W : Type 0} (contents : W → Option (List ℕ)) (text : List ℕ)
       text_refused (refusals.Fault Device) fails = (draft, s, of_text, fails)
       text_refused (refusals.Pair f) fails = (draft, s, of_text, fails)
       text_refused (refusals.Mark f) fails = (draft, s, of_text, fails)
+      text_refused (refusals.ArrowMark f) fails = (draft, s, of_text, fails)
       text_refused (refusals.Instance name) fails = (draft, s, of_text, fails)
       text_refused (refusals.Link fault) fails = (draft, s, of_text, fails)
       text_refused (refusals.Rounds f) fails = (draft, s, of_text, fails)
@@ -102,6 +103,7 @@ module _ {W : Type 0} (contents : W → Option (List ℕ)) (text : List ℕ)
       diagram_refused (refusals.Fault Device) fails = (draft, s, of_diagram, fails)
       diagram_refused (refusals.Pair f) fails = (draft, s, of_diagram, fails)
       diagram_refused (refusals.Mark f) fails = (draft, s, of_diagram, fails)
+      diagram_refused (refusals.ArrowMark f) fails = (draft, s, of_diagram, fails)
       diagram_refused (refusals.Instance name) fails = (draft, s, of_diagram, fails)
       diagram_refused (refusals.Link fault) fails = (draft, s, of_diagram, fails)
       diagram_refused (refusals.Rounds f) fails = (draft, s, of_diagram, fails)
@@ -124,6 +126,7 @@ module _ {W : Type 0} (contents : W → Option (List ℕ)) (text : List ℕ)
   unimported x (refusals.Fault (NotStarted i)) now said = absurd said
   unimported x (refusals.Pair f) now said = absurd said
   unimported x (refusals.Mark f) now said = absurd said
+  unimported x (refusals.ArrowMark f) now said = absurd said
   unimported x (refusals.Instance name) now said = absurd said
   unimported x (refusals.Link fault) now said = absurd said
   unimported x (refusals.Rounds f) now said = absurd said
@@ -167,6 +170,7 @@ module _ {W : Type 0} (contents : W → Option (List ℕ)) (file text : List ℕ
   no_import x (refusals.Fault (NotStarted i)) now said = absurd said
   no_import x (refusals.Pair f) now said = absurd said
   no_import x (refusals.Mark f) now said = absurd said
+  no_import x (refusals.ArrowMark f) now said = absurd said
   no_import x (refusals.Instance name) now said = absurd said
   no_import x (refusals.Link fault) now said = absurd said
   no_import x (refusals.Rounds f) now said = absurd said

@@ -125,7 +125,7 @@ RefusesLinked ask words s refusal =
 -- checked; else of the one
 abbrev pub PrintsDiagrams : Option Found → ScenarioArgs → List ℕ → List ℕ → Status → List ℕ → Type 0
 PrintsDiagrams None x file text status printed = PrintsScenarios x file text status printed
-PrintsDiagrams (Some f) x file text status printed = Surveys x file text f.numbers false Done status printed
+PrintsDiagrams (Some f) x file text status printed = Surveys x file text f.numbers false false Done status printed
 
 -- what begins that, where memory ran out
 abbrev pub BeginsDiagrams : Option Found → ScenarioArgs → List ℕ → List ℕ → List ℕ → Type 0

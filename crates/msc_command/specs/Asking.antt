@@ -368,10 +368,11 @@ pub record IsSurvey (found : Found) (x : ScenarioArgs) : Type 0 where
   pub gives : lacks_rounds (first_value found (arg_word words.Rounds)) ≡ false
   pub limit : IsOptionNumber found (arg_word words.Limit) default_limit x.limit
   pub within : is_limit x.limit ≡ true
+  pub choose : option_map (λ c. c.now) x.choose ≡ first_value found (arg_word words.Choose)
+  pub chooses : lacks_choices (first_value found (arg_word words.Choose)) ≡ false
   pub shown : ℕ
   pub runs : AreRunsShown found shown
   pub check_args : AreCheckArgs found shown x.check_args
-  pub unmarked : x.check_args.accept ≡ false
   pub once : x.check_args.again ≡ false
   pub links : AreLinkWords found x.links
   pub quiet : IsFlag found (arg_word words.Quiet) x.quiet

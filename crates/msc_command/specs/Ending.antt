@@ -6,7 +6,7 @@ use Rattle.msc_report.specs.declared.link.RulesOf.TheVariants as rules
 use Rattle.msc_report.specs.declared.fault.Fault.{Fault}
 use Rattle.msc_report.specs.declared.fault.Fault.TheVariants.{Parse, Chart, NotStarted, Memory, Device}
 use Rattle.msc_report.specs.Texts.{fault_line, instance_fault_line, link_fault_line, mark_fault_line, pair_fault_line, queues_fault_line, unroll_fault_line}
-use Rattle.msc_diagram.specs.Faults.{import_refusal_line}
+use Rattle.msc_diagram.specs.Faults.{accept_fault_line, import_refusal_line}
 use Rattle.msc_import.specs.Importing.{seen}
 use Rattle.msc_mermaid.specs.declared.fault.ImportFault.{ImportFault}
 use Rattle.msc_mermaid.specs.declared.fault.ImportFault.TheVariants as imports
@@ -51,6 +51,7 @@ abbrev pub ends_as : Refusal → Status
 ends_as (refusals.Fault f) = status_of f
 ends_as (refusals.Pair f) = Refused
 ends_as (refusals.Mark f) = Refused
+ends_as (refusals.ArrowMark r) = Refused
 ends_as (refusals.Instance name) = Refused
 ends_as (refusals.Link fault) = Refused
 ends_as (refusals.Rounds f) = Refused
@@ -87,6 +88,7 @@ abbrev pub refusal_line : Refusal → List ℕ
 refusal_line (refusals.Fault f) = fault_line f
 refusal_line (refusals.Pair f) = pair_fault_line f
 refusal_line (refusals.Mark f) = mark_fault_line f
+refusal_line (refusals.ArrowMark r) = accept_fault_line r.fault.slip r.position.line
 refusal_line (refusals.Instance name) = instance_fault_line name.now
 refusal_line (refusals.Link fault) = link_refusal_line fault
 refusal_line (refusals.Rounds f) = unroll_fault_line f

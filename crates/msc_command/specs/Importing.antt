@@ -146,9 +146,13 @@ wanted_with x choices = record {
 abbrev pub reading_in : DiagramArgs → DiagramReading
 reading_in x = record { language = x.language; fence = x.fence; cross = x.cross }
 
+-- the choices in a word, if it is given
+abbrev pub choices_by : Option (List ℕ) → Option (List ℕ)
+choices_by word = option_map choices_in word
+
 -- the choices of the words, if some are given
 abbrev pub choices_of : ChosenArgs → Option (List ℕ)
-choices_of x = option_map (λ c. choices_in c.now) x.choose
+choices_of x = choices_by (option_map (λ c. c.now) x.choose)
 
 -- what is wanted of a text
 abbrev pub wanted_of : ChosenArgs → Wanted

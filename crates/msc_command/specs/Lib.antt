@@ -10,6 +10,7 @@ pub mod Naming
 pub mod Readied
 pub mod Formats
 pub mod Marked
+pub mod ArrowMarks
 pub mod Rounds
 pub mod Drawing
 pub mod Ending

@@ -41,11 +41,6 @@ IsPairMisuse found misuse =
     IsEventMisuse found words.FirstEvent misuse
     ⊎ (((name : EventName) × IsEventWord found (arg_word words.FirstEvent) name) × IsEventMisuse found words.SecondEvent misuse)
 
--- marks cannot be requested of a diagram
-abbrev pub IsMarksMisuse : Found → Misuse → Type 0
-IsMarksMisuse found misuse =
-    (misuse ≡ NotOfDiagrams words.Accept) × IsFlag found (arg_word words.Accept) true
-
 -- rounds of the chart cannot be requested of a diagram
 abbrev pub IsAgainMisuse : Found → Misuse → Type 0
 IsAgainMisuse found misuse =
@@ -65,16 +60,23 @@ pub record IsLimitMisuse (found : Found) (misuse : Misuse) : Type 0 where
   pub given : IsOptionNumber found (arg_word words.Limit) default_limit limit
   pub outside : is_limit limit ≡ false
 
+-- the word for choices gives none
+pub record IsImportMisuse (found : Found) (misuse : Misuse) : Type 0 where
+  pub text : Bor (List ℕ)
+  pub is : misuse ≡ NoChoices text
+  pub given : first_value found (arg_word words.Choose) ≡ Some text.now
+  pub none : gives_choices text.now ≡ false
+
 -- the first of these that is so of a diagram
 pub data IsDiagramMisuse (found : Found) (misuse : Misuse) : Type 0 where
-  marks : IsMarksMisuse found misuse → IsDiagramMisuse found misuse
-  again : IsFlag found (arg_word words.Accept) false → IsAgainMisuse found misuse
-      → IsDiagramMisuse found misuse
-  rounds : IsFlag found (arg_word words.Accept) false → IsFlag found (arg_word words.Again) false
-      → IsRoundsMisuse found misuse → IsDiagramMisuse found misuse
-  limit : IsFlag found (arg_word words.Accept) false → IsFlag found (arg_word words.Again) false
-      → lacks_rounds (first_value found (arg_word words.Rounds)) ≡ false
+  again : IsAgainMisuse found misuse → IsDiagramMisuse found misuse
+  rounds : IsFlag found (arg_word words.Again) false → IsRoundsMisuse found misuse → IsDiagramMisuse found misuse
+  limit : IsFlag found (arg_word words.Again) false → lacks_rounds (first_value found (arg_word words.Rounds)) ≡ false
       → IsLimitMisuse found misuse → IsDiagramMisuse found misuse
+  choices : (limit : ℕ) → IsFlag found (arg_word words.Again) false
+      → lacks_rounds (first_value found (arg_word words.Rounds)) ≡ false
+      → IsOptionNumber found (arg_word words.Limit) default_limit limit → is_limit limit ≡ true
+      → IsImportMisuse found misuse → IsDiagramMisuse found misuse
 
 -- words of diagrams are given to `check` without `--from`, or this is wrong with what it is to do
 -- with a diagram
@@ -82,13 +84,6 @@ abbrev pub IsCheckMisuse : Found → Misuse → Type 0
 IsCheckMisuse found misuse =
     ((misuse ≡ NoDiagram) × (lacks_from found ≡ true))
     ⊎ ((is_of_scenarios found ≡ true) × IsDiagramMisuse found misuse)
-
--- the word for choices gives none
-pub record IsImportMisuse (found : Found) (misuse : Misuse) : Type 0 where
-  pub text : Bor (List ℕ)
-  pub is : misuse ≡ NoChoices text
-  pub given : first_value found (arg_word words.Choose) ≡ Some text.now
-  pub none : gives_choices text.now ≡ false
 
 -- options of diagrams are given without `--from`, or the word for choices gives none
 abbrev pub IsOriginMisuse : Found → Misuse → Type 0

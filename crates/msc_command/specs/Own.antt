@@ -1,5 +1,5 @@
 -- The queues that a text names itself, and where it does.
-use Rattle.std.specs.Prelude.{◌≡◌, ℕ, Bool, true, false, List, [], ◌∷◌, drop, take, MatchResult, Option, None, Some, Result, Ok, Err}
+use Rattle.std.specs.Prelude.{◌≡◌, ℕ, Bool, true, false, List, [], ◌∷◌, drop, MatchResult, Option, None, Some, Result, Ok, Err}
 use Rattle.msc_lexer.specs.declared.token.Token.{Token}
 use Rattle.msc_lexer.specs.Lexing.{HasTokens}
 use Rattle.msc_links.specs.Comments.{OwnText, Reading, says_nothing, unreadable, says, chart_reading_of, own_text, own_reading}
@@ -7,11 +7,10 @@ use Rattle.msc_links.specs.declared.comment.OwnFault.{OwnFault}
 use Rattle.msc_links.specs.declared.comment.OwnFault.TheVariants.{Expected}
 use Rattle.msc_links.specs.declared.comment.OwnQueues.{OwnQueues}
 use Rattle.msc_mark.specs.ChartComments.{PlainComment, chart_comment}
-use Rattle.msc_mermaid.specs.Lines.{lines_of}
-use Rattle.msc_mermaid.specs.Mermaid.{end_of}
 use Rattle.msc_mermaid.specs.declared.statement.Span.{Span}
 use Rattle.msc_notes.specs.Texts.{StandsAt}
 use Rattle.msc_report.specs.declared.fault.Fault.TheVariants.{Memory}
+use Rattle.msc_scenario_marks.specs.Places.{position_at}
 use Rattle.msc_command.specs.Spans.{bytes_at}
 use Rattle.msc_command.specs.declared.ending.Refusal.{Refusal}
 use Rattle.msc_command.specs.declared.ending.Refusal.TheVariants as refusals
@@ -70,7 +69,7 @@ pub record ShowsInChart (text : List ℕ) (at : ℕ) (place : OwnPlace) : Type 0
 -- how it shows a place in a diagram: by its line, and for editors by its line and column
 pub record ShowsInDiagram (text : List ℕ) (at : ℕ) (place : OwnPlace) : Type 0 where
   pub at_is : place.at ≡ at
-  pub position_is : place.position ≡ end_of (lines_of (take at text))
+  pub position_is : place.position ≡ position_at text at
   pub number_is : place.number ≡ place.position.line
 
 -- a comment was read so

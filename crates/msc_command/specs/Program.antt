@@ -98,7 +98,7 @@ Tells contents status old new =
 abbrev pub TellsRefusedDiagram : {W : Type 0} → (W → Option (List ℕ)) → W → W → Type 0
 TellsRefusedDiagram contents old new =
     (x : ScenarioArgs) × (file : List ℕ) × (text : List ℕ) × (f : Markdown) × (many_in x text ≡ Some f) × (printed : List ℕ)
-    × Surveys x file text f.numbers false Done Refused printed × Appends (contents old) (contents new) printed
+    × Surveys x file text f.numbers false false Done Refused printed × Appends (contents old) (contents new) printed
 
 -- where a task is refused the writer has had no call, or has a refusal in some form behind its known
 -- bytes; where one of several diagrams is, it has what is printed of all of them there

@@ -45,11 +45,12 @@ IsLinkPosition (Given fault) p = p ≡ beginning
 IsLinkPosition (Text fault place) p = p ≡ place.position
 IsLinkPosition (Unclear place) p = p ≡ place.position
 
--- this is the position of a refusal of the text: of a fault of an import one on its line; else that
--- of its place, or the beginning of the text where it has none
+-- this is the position of a refusal of the text: of a fault of an import one on its line; of a faulty
+-- mark of a diagram its own; else that of its place, or the beginning of the text where it has none
 abbrev pub IsRefusalPosition : List ℕ → Refusal → Position → Type 0
 IsRefusalPosition text (refusals.Import e) p = p.line ≡ fault_line e.fault
 IsRefusalPosition text (refusals.Link fault) p = IsLinkPosition fault p
+IsRefusalPosition text (refusals.ArrowMark r) p = p ≡ r.position
 IsRefusalPosition text refusal p = (place : Option ℕ) × IsPlaceOf text refusal place × IsFaultPosition text place p
 
 -- The lines of a refusal of the text of a file: the first is its fixed line behind its position;

@@ -2,6 +2,9 @@
 use Rattle.std.specs.Prelude.{◌≡◌, ◌⊎◌, ℕ, Bool, true, false, List, [], ◌++◌, Option, None, Some, codes}
 use Rattle.msc_fault_words.specs.RuleFaults.{instance, link, mark, queues, rounds}
 use Rattle.msc_fault_words.specs.Words.{Words, memory}
+use Rattle.msc_arrow_marks.specs.declared.fault.Slip.{Slip}
+use Rattle.msc_arrow_marks.specs.declared.fault.Slip.TheVariants as arrow_slips
+use Rattle.msc_fault_words.specs.declared.rule_fault.MarkSlip.{MarkSlip}
 use Rattle.msc_fault_words.specs.declared.rule_fault.MarkSlip.TheVariants as slips
 use Rattle.msc_fault_words.specs.declared.words.Span.{Span}
 use Rattle.msc_import.specs.Importing.{short_bytes}
@@ -22,6 +25,7 @@ use Rattle.msc_report.specs.declared.fault.Fault.TheVariants.{Parse, Chart}
 use Rattle.msc_shown_chart.specs.Marks.{text_end}
 use Rattle.msc_shown_chart.specs.Words.{file_said}
 use Rattle.msc_wording.specs.Closing.{closing_line, refused_verdict}
+use Rattle.msc_command.specs.declared.arrow_marks.RefusedMark.{RefusedMark}
 use Rattle.msc_command.specs.declared.ending.Refusal.{Refusal}
 use Rattle.msc_command.specs.declared.ending.Refusal.TheVariants as refusals
 use Rattle.msc_command.specs.ShownDiagrams.{with_line}
@@ -35,6 +39,7 @@ has_words (refusals.Fault (Chart f)) = true
 has_words (refusals.Fault f) = false
 has_words (refusals.Pair f) = false
 has_words (refusals.Mark f) = true
+has_words (refusals.ArrowMark r) = true
 has_words (refusals.Instance name) = true
 has_words (refusals.Link fault) = true
 has_words (refusals.Rounds f) = true
@@ -102,6 +107,18 @@ IsLinkSaid text (links.Text fault place) w =
     (past : ℕ) × (w ≡ link (Some (plain_span text place.at past)) fault)
 IsLinkSaid text (links.Unclear place) w = (past : ℕ) × (w ≡ queues (plain_span text place.at past))
 
+-- what words call the fault of a mark of a diagram
+abbrev pub mark_slip : Slip → MarkSlip
+mark_slip arrow_slips.Part = slips.Part
+mark_slip arrow_slips.Reason = slips.Reason
+mark_slip arrow_slips.Label = slips.Label
+mark_slip arrow_slips.Second = slips.Second
+
+-- these are the words for a faulty mark of a diagram, from its place on
+abbrev pub IsArrowMarkSaid : List ℕ → RefusedMark → Words → Type 0
+IsArrowMarkSaid text r w =
+    (past : ℕ) × (w ≡ mark (mark_slip r.fault.slip) (plain_span text r.fault.span.first past))
+
 -- a chart or a diagram is refused so for a fault without a place
 abbrev pub IsTextSaid : RefusedText → Words → List ℕ → Type 0
 IsTextSaid r w printed = IsRefusal r w printed ⊎ IsDiagramRefusal r w printed
@@ -114,6 +131,7 @@ IsSaidOf r Are printed = (w : Words) × Are w × IsDiagramRefusal r w printed
 abbrev pub IsSaid : RefusedText → Refusal → List ℕ → Type 0
 IsSaid r (refusals.Fault f) printed = IsFaultSaid r f printed
 IsSaid r (refusals.Mark f) printed = IsRefusal r (mark_said r.text.now f) printed
+IsSaid r (refusals.ArrowMark m) printed = IsSaidOf r (IsArrowMarkSaid r.text.now m) printed
 IsSaid r (refusals.Link why) printed =
     IsRefusal r (link_said r.text.now why) printed ⊎ IsSaidOf r (IsLinkSaid r.text.now why) printed
 IsSaid r (refusals.Instance name) printed = IsTextSaid r (instance name.now) printed

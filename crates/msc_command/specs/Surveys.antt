@@ -1,6 +1,6 @@
 -- What is answered of all sequence diagrams of a Markdown text: one after the other, in the order
 -- of their numbers.
-use Rattle.std.specs.Prelude.{◌≡◌, ◌⊎◌, ◌-◌, ◌++◌, ◌||◌, ◌&&◌, ℕ, Bool, cond, not, nat_eq, nat_le, nat_lt, List, [], ◌∷◌, length, map, Option, None, Some, Result, Ok, Err, codes}
+use Rattle.std.specs.Prelude.{◌≡◌, ◌⊎◌, ◌-◌, ◌++◌, ◌||◌, ◌&&◌, ℕ, Bool, false, cond, not, nat_eq, nat_le, nat_lt, List, [], ◌∷◌, length, map, Option, None, Some, Result, Ok, Err, codes}
 use Rattle.std.specs.Fmt.{decimal}
 use Rattle.msc_diagram.specs.declared.full.Following.TheVariants.{Blank}
 use Rattle.msc_findings.specs.Closing.{marked_help}
@@ -85,17 +85,17 @@ refused_text x file n =
 abbrev pub refused_end : ScenarioArgs → List ℕ
 refused_end x = cond (not x.quiet && is_full x.check_args.format) (codes "\n") []
 
--- what follows all diagrams, if races of one of them are listed or not: the help on marks, in findings
--- as people read them
-abbrev pub survey_end : ScenarioArgs → Bool → List ℕ
-survey_end x is_listed =
-    cond (is_listed && (not x.quiet && is_full x.check_args.format)) (marked_help texts.Diagram x.check_args.colours) []
+-- what follows all diagrams, if races of one of them are listed or not, and a mark was met or not: the
+-- help on marks, in findings as people read them
+abbrev pub survey_end : ScenarioArgs → Bool → Bool → List ℕ
+survey_end x is_listed is_marked =
+    cond (is_listed && (not is_marked && (not x.quiet && is_full x.check_args.format))) (marked_help texts.Diagram x.check_args.colours) []
 
 -- the diagram of this number is refused: behind its text stands what the form has of the refusal
 pub record TellsRefusedBlock (x : ScenarioArgs) (file text : List ℕ) (n : ℕ) (one : Surveyed) (printed : List ℕ) : Type 0 where
   pub refusal : Refusal
   pub refused : RefusesScenarios (at_block x n) text refusal
-  pub ends : one ≡ record { status = Refused; listed = 0 }
+  pub ends : one ≡ record { status = Refused; listed = 0; marked = false }
   pub lines : List ℕ
   pub are : AreTold (form_of (tasks.Scenarios x)) file text refusal lines
   pub text_is : printed ≡ refused_text x file n ++ (lines ++ refused_end x)
@@ -118,12 +118,13 @@ abbrev pub worse : Status → Status → Status
 worse one other = cond (nat_le (status_code other) (status_code one)) one other
 
 -- What is printed of the diagrams of these numbers, one after the other, and how the run ends, if
--- races are listed before them or not, and the worst end before them is this one.
-unfoldable pub Surveys : ScenarioArgs → List ℕ → List ℕ → List ℕ → Bool → Status → Status → List ℕ → Type 0
-Surveys x file text [] is_listed worst status printed = (status ≡ worst) × (printed ≡ survey_end x is_listed)
-Surveys x file text (n ∷ ns) is_listed worst status printed =
+-- races are listed before them or not, and a mark was met or not, and the worst end before them is
+-- this one.
+unfoldable pub Surveys : ScenarioArgs → List ℕ → List ℕ → List ℕ → Bool → Bool → Status → Status → List ℕ → Type 0
+Surveys x file text [] is_listed is_marked worst status printed = (status ≡ worst) × (printed ≡ survey_end x is_listed is_marked)
+Surveys x file text (n ∷ ns) is_listed is_marked worst status printed =
     (one : Surveyed) × (first rest : List ℕ) × SurveysOne x file text n one first
-    × Surveys (behind x one.listed) file text ns (is_listed || nat_lt 0 one.listed) (worse worst one.status) status rest × (printed ≡ first ++ rest)
+    × Surveys (behind x one.listed) file text ns (is_listed || nat_lt 0 one.listed) (is_marked || one.marked) (worse worst one.status) status rest × (printed ≡ first ++ rest)
 
 -- what that begins with, where memory ran out: all of some first diagrams, and then nothing or what
 -- begins what is printed of the next

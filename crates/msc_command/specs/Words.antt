@@ -121,7 +121,7 @@ abbrev pub args_of : CommandName → List ArgName
 args_of Read = ScenarioFrom ∷ Choose ∷ Fence ∷ Name ∷ Own ∷ Cross ∷ Par ∷ Places ∷ Plain ∷ File ∷ []
 args_of Check =
     Queues ∷ Pair ∷ Mailbox ∷ Single ∷ Closest ∷ Why ∷ Most ∷ Show ∷ Allow ∷ Accept ∷ Again ∷ ChartFormat ∷ Color ∷ Quiet ∷ Words ∷ Short
-    ∷ ScenariosFrom ∷ Rounds ∷ Limit ∷ Fence ∷ Name ∷ Own ∷ Cross ∷ Par ∷ Places ∷ Plain ∷ File ∷ []
+    ∷ ScenariosFrom ∷ Choose ∷ Rounds ∷ Limit ∷ Fence ∷ Name ∷ Own ∷ Cross ∷ Par ∷ Places ∷ Plain ∷ File ∷ []
 args_of Explain = Queues ∷ Pair ∷ Mailbox ∷ Single ∷ Words ∷ Short ∷ ScenarioFrom ∷ Choose ∷ Fence ∷ Name ∷ Own ∷ Cross ∷ Par ∷ Places ∷ Plain ∷ File ∷ FirstEvent ∷ SecondEvent ∷ []
 args_of Follow = Queues ∷ Pair ∷ Mailbox ∷ Single ∷ Words ∷ ScenarioFrom ∷ Choose ∷ Fence ∷ Name ∷ Own ∷ Cross ∷ Par ∷ Places ∷ Plain ∷ File ∷ []
 args_of Run = Queues ∷ Pair ∷ Mailbox ∷ Single ∷ Patience ∷ ScenarioFrom ∷ Choose ∷ Fence ∷ Name ∷ Own ∷ Cross ∷ Par ∷ Places ∷ Plain ∷ File ∷ []

@@ -45,8 +45,8 @@ use crate::scenarios::{Surveyed, check_scenarios};
 use crate::shown_diagram::{DiagramText, ShownDiagram, line_in};
 use crate::sited::{event_positions_of, positions_of, style_of};
 use crate::surveying::{
-    behind, blocks_of, check_block, end_page, lists_races, of_block, refused_end, refused_page,
-    worse,
+    behind, blocks_of, check_block, end_page, lists_races, met, of_block, refused_end,
+    refused_page, worse,
 };
 use crate::tasks::{
     ChartCommand, CheckArgs, ChosenArgs, Drawn, ExplainArgs, FollowArgs, Format, ImportArgs,
@@ -891,6 +891,7 @@ fn survey_block<'w, O: TellsFailure, E: Write>(
     Ok(Surveyed {
         status: Status::Refused,
         listed: 0,
+        marked: false,
     })
 }
 
@@ -905,7 +906,7 @@ fn survey<'w, O: TellsFailure, E: Write>(
 ) -> Result<Status, Refusal<'w>>
     requires { markdown found.now.text ≡ Ok found.now }
     ensures { AnswersWith O.contents
-        (Surveys words.entry request.entry.file.now found.now.text found.now.numbers false Status.Done)
+        (Surveys words.entry request.entry.file.now found.now.text found.now.numbers false false Status.Done)
         (BeginsSurvey words.entry request.entry.file.now found.now.text found.now.numbers)
         (λ refusal. ⊥) result output.old output.new }
 {
@@ -913,13 +914,15 @@ fn survey<'w, O: TellsFailure, E: Write>(
     let mut words = words;
     let mut worst = Status::Done;
     let mut is_listed = false;
+    let mut is_marked = false;
     for number in numbers {
         let one = survey_block(alloc, request, words, found, *number, output, faults)?;
         worst = worse(worst, one.status);
         is_listed = lists_races(is_listed, one.listed);
+        is_marked = met(is_marked, one.marked);
         words = behind(words, one.listed);
     }
-    let end = end_page(alloc, words, is_listed)?;
+    let end = end_page(alloc, words, is_listed, is_marked)?;
     put(output, &end, worst)
 }
 

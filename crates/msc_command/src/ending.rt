@@ -9,10 +9,11 @@ ghost use Rattle.msc_command.specs.Refused.{is_spent};
 ghost use Rattle.msc_report.specs.Refusals.{of_reading};
 ghost use Rattle.msc_report.specs.Texts.{fault_line};
 
+use crate::arrow_marks::RefusedMark;
 use crate::notes::write_cause;
 use crate::own::LinkRefusal;
 use msc_chart::UnrollFault;
-use msc_diagram::write_import_fault;
+use msc_diagram::{write_accept_fault, write_import_fault};
 use msc_ending::RunFault;
 use msc_import::Refused;
 use msc_mark::MarkFault;
@@ -87,6 +88,8 @@ pub(crate) enum Refusal<'w> {
     Pair(NamedFault),
     /// A comment of the text begins like a mark, and is none.
     Mark(MarkFault),
+    /// A mark of the diagram is faulty. It is the first such mark.
+    ArrowMark(RefusedMark),
     /// No instance has this name. It is the first such name.
     Instance(&'w str),
     /// The command line and the text give no queues.
@@ -208,7 +211,7 @@ pub(crate) fn is_spent(refusal: Refusal<'_>) -> bool
     match refusal {
         Refusal::Fault(Fault::Memory) | Refusal::Fault(Fault::Device) => true,
         Refusal::Fault(_) | Refusal::Pair(_) | Refusal::Mark(_) => false,
-        Refusal::Instance(_) | Refusal::Link(_) => false,
+        Refusal::ArrowMark(_) | Refusal::Instance(_) | Refusal::Link(_) => false,
         Refusal::Rounds(_) | Refusal::Import(_) => false,
     }
 }
@@ -220,7 +223,8 @@ pub(crate) fn ends_as(refusal: Refusal<'_>) -> Status
     match refusal {
         Refusal::Fault(fault) => status_of(fault),
         Refusal::Pair(_) | Refusal::Mark(_) | Refusal::Instance(_) => Status::Refused,
-        Refusal::Link(_) | Refusal::Rounds(_) | Refusal::Import(_) => Status::Refused,
+        Refusal::ArrowMark(_) | Refusal::Link(_) => Status::Refused,
+        Refusal::Rounds(_) | Refusal::Import(_) => Status::Refused,
     }
 }
 
@@ -255,6 +259,9 @@ pub(crate) fn write_refusal<W: Write>(writer: &mut W, refusal: Refusal<'_>) -> i
         Refusal::Fault(fault) => write_fault(writer, &fault),
         Refusal::Pair(fault) => write_pair_fault(writer, fault),
         Refusal::Mark(fault) => write_mark_fault(writer, fault),
+        Refusal::ArrowMark(refused) => {
+            write_accept_fault(writer, refused.fault.slip, refused.position.line)
+        }
         Refusal::Instance(name) => write_instance_fault(writer, name.as_bytes()),
         Refusal::Link(refused) => write_link_refusal(writer, refused),
         Refusal::Rounds(fault) => write_unroll_fault(writer, fault),

@@ -5,7 +5,7 @@ ghost use Rattle.std.specs.Prelude.{◌≡◌, ℕ, List, [], IfOk, Ok, Option, 
 ghost use Rattle.msc_import.specs.Importing.{read, reading_of, Wanted};
 ghost use Rattle.msc_command.specs.Importing.{IsChartOrFault, IsImportedOn, IsPageOf, IsTextOf};
 ghost use Rattle.msc_command.specs.Importing.{IsCommentOf, IsFirstOwn, IsImportAs, first_reading};
-ghost use Rattle.msc_command.specs.Importing.{choices_of, wanted_of, wanted_with};
+ghost use Rattle.msc_command.specs.Importing.{choices_by, choices_of, wanted_of, wanted_with};
 ghost use Rattle.msc_command.specs.Importing.{IsChartImport, IsImportBy, IsReadFor};
 
 use crate::choices::choices_in;
@@ -175,11 +175,15 @@ fn drawn_of(
     Ok(imported)
 }
 
-/// The choices of the words, if some are given.
-fn given_choices(alloc: Global, words: ChosenArgs<'_>) -> Result<Option<Vec<usize>>, AllocError>
-    ensures { IfOk result (λ given. option_map (λ v. v.items) given ≡ choices_of words.entry) }
+/// The choices in the word of `--choose`, if it is given.
+pub(crate) fn given_choices(
+    alloc: Global,
+    choose: Option<&str>,
+) -> Result<Option<Vec<usize>>, AllocError>
+    ensures { IfOk result (λ given. option_map (λ v. v.items) given
+        ≡ choices_by (option_map (λ word. word.now) choose.entry)) }
 {
-    match words.choose {
+    match choose {
         None => Ok(None),
         Some(word) => Ok(Some(choices_in(alloc, word)?)),
     }
@@ -213,7 +217,7 @@ fn import_by(
 ) -> Result<ImportedDiagram, Refusal<'static>>
     ensures { IsImportBy words.entry.diagram.fence (wanted_of words.entry) text.now result }
 {
-    match given_choices(alloc, words)? {
+    match given_choices(alloc, words.choose)? {
         None => import_with(alloc, words.diagram, None, text),
         Some(choices) => import_with(alloc, words.diagram, Some(choices.as_slice()), text),
     }
@@ -289,7 +293,7 @@ pub(crate) fn import_page(
 ) -> Result<Page, Refusal<'static>>
     ensures { IsImportedOn words.entry file.now text.now result }
 {
-    match given_choices(alloc, words.chosen)? {
+    match given_choices(alloc, words.chosen.choose)? {
         None => page_with(alloc, words, None, file, text),
         Some(choices) => page_with(alloc, words, Some(choices.as_slice()), file, text),
     }

@@ -29,6 +29,7 @@
 #![tactic(auto)]
 
 mod answering;
+mod arrow_marks;
 mod choices;
 mod drawing;
 mod ending;

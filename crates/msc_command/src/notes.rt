@@ -128,8 +128,7 @@ fn write_place_notes<E: Write>(
     write_told_of(alloc, faults, file, &lines, &told)
 }
 
-/// Writes the place of a comment in which a diagram names its queues. Its lines may end in other
-/// ways than by LF.
+/// Writes the place of a comment of a diagram. Its lines may end in other ways than by LF.
 fn write_line_notes<E: Write>(
     alloc: Global,
     faults: &mut E,
@@ -267,6 +266,9 @@ pub(crate) fn write_notes<E: Write>(
         Refusal::Fault(Fault::Chart(fault)) => write_chart_notes(alloc, faults, file, text, fault),
         Refusal::Import(refused) => write_import_notes(alloc, faults, request, text, refused),
         Refusal::Mark(fault) => write_place_notes(alloc, faults, file, text, mark_place(fault)),
+        Refusal::ArrowMark(refused) => {
+            write_line_notes(alloc, faults, file, text, refused.fault.span.first)
+        }
         Refusal::Link(refused) => write_link_notes(alloc, faults, request, text, refused),
         _ => Ok(()),
     }

@@ -1,7 +1,7 @@
 //! The queues that a text names itself: in the comment after a chart's name, or in a comment line of
 //! a diagram.
 
-ghost use Rattle.std.specs.Prelude.{◌≡◌, IfOk, drop, take};
+ghost use Rattle.std.specs.Prelude.{◌≡◌, IfOk, drop};
 ghost use Rattle.msc_links.specs.Comments.{Reading};
 ghost use Rattle.msc_command.specs.Own.{IsOwnAt, IsOwnBy, IsReadAs, SaysIf, SaysInChart};
 ghost use Rattle.msc_command.specs.Own.{ShowsInChart, ShowsInDiagram, said_in, said_on_line};
@@ -11,9 +11,10 @@ use crate::ending::Refusal;
 use msc_import::TextSpans;
 use msc_links::{LinkFault, OwnFault, OwnQueues, own_queues_of_chart};
 use msc_mark::chart_comment;
-use msc_mermaid::{Span, end_of, lines_of};
+use msc_mermaid::Span;
 use msc_place::Position;
 use msc_report::Fault;
+use msc_scenario_marks::position_at;
 use std::alloc::{AllocError, Global};
 
 /// The place of a comment in which a text names its queues.
@@ -56,23 +57,11 @@ fn place_in_chart(text: &[u8], at: usize) -> OwnPlace
     }
 }
 
-/// The first bytes of a text, at most all.
-fn first(text: &[u8], count: usize) -> &[u8]
-    ensures { result.now ≡ take count text.now }
-{
-    if count < text.len() {
-        &text[..count]
-    } else {
-        text
-    }
-}
-
 /// How a refusal shows a place in a diagram.
 fn place_in_diagram(alloc: Global, text: &[u8], at: usize) -> Result<OwnPlace, AllocError>
     ensures { IfOk result (ShowsInDiagram text.now at) }
 {
-    let lines = lines_of(alloc, first(text, at))?;
-    let position = end_of(lines.as_slice());
+    let position = position_at(alloc, text, at)?;
     Ok(OwnPlace {
         at,
         number: position.line,

@@ -219,14 +219,19 @@ fn link_position(refused: LinkRefusal<'_>) -> Position
     }
 }
 
-/// The line of why there are no queues.
-fn link_lines(alloc: Global, file: &str, refused: LinkRefusal<'_>) -> Result<Page, AllocError>
-    ensures { IfOk result (λ page. (text : List ℕ) → IsRefusalText file.now text
-        (Refusal.Link refused.entry) page.bytes.items) }
+/// The line of a refusal at this position.
+fn placed_lines(
+    alloc: Global,
+    file: &str,
+    position: Position,
+    refusal: Refusal<'_>,
+) -> Result<Page, AllocError>
+    ensures { IfOk result (λ page. page.bytes.items
+        ≡ error_text file.now position ++ refusal_line refusal.entry) }
 {
     let mut page = Page::new(alloc);
-    print_position(&mut page, file, link_position(refused))?;
-    match write_refusal(&mut page, Refusal::Link(refused)) {
+    print_position(&mut page, file, position)?;
+    match write_refusal(&mut page, refusal) {
         Ok(()) => Ok(page),
         Err(_) => Err(AllocError),
     }
@@ -323,7 +328,8 @@ pub(crate) fn refusal_lines(
         Refusal::Mark(fault) => bare_lines(alloc, file, text, mark_place(fault), refusal),
         Refusal::Pair(_) => bare_lines(alloc, file, text, None, refusal),
         Refusal::Instance(_) => bare_lines(alloc, file, text, None, refusal),
-        Refusal::Link(refused) => link_lines(alloc, file, refused),
+        Refusal::ArrowMark(refused) => placed_lines(alloc, file, refused.position, refusal),
+        Refusal::Link(refused) => placed_lines(alloc, file, link_position(refused), refusal),
         Refusal::Rounds(_) => bare_lines(alloc, file, text, None, refusal),
     }
 }

@@ -6,18 +6,20 @@
 ghost use Rattle.std.specs.Prelude.{◌≡◌, IfOk};
 ghost use Rattle.std.specs.String.{string_bytes};
 ghost use Rattle.msc_command.specs.RefusedWords.{closing_text, comment_span, has_words};
-ghost use Rattle.msc_command.specs.RefusedWords.{link_said, mark_said};
+ghost use Rattle.msc_command.specs.RefusedWords.{link_said, mark_said, mark_slip, IsArrowMarkSaid};
 ghost use Rattle.msc_command.specs.RefusedWords.{AreWords, IsDiagramRefusal, IsFaultSaid};
 ghost use Rattle.msc_command.specs.RefusedWords.{IsImportSaid, IsLabel, IsLinkSaid, IsSaid};
 ghost use Rattle.msc_command.specs.RefusedWords.{IsTextSaid};
 ghost use Rattle.msc_refusals.specs.Answers.{IsBlock, IsPlaceSaid};
 
+use crate::arrow_marks::RefusedMark;
 use crate::ending::Refusal;
 use crate::importing::fence_of;
 use crate::notes::{diagram_text, notes_of_import, notes_of_parse};
 use crate::own::LinkRefusal;
 use crate::shown_diagram::{line_in, with_line};
 use crate::tasks::{DiagramArgs, Task};
+use msc_arrow_marks::{FaultyMark, Slip};
 use msc_chart::ChartFault;
 use msc_diagnostic::{LineEnds, Source};
 use msc_fault_words::{
@@ -45,8 +47,8 @@ pub(crate) fn has_words(refusal: Refusal<'_>) -> bool
     match refusal {
         Refusal::Fault(Fault::Parse(_)) | Refusal::Fault(Fault::Chart(_)) => true,
         Refusal::Fault(_) | Refusal::Pair(_) => false,
-        Refusal::Mark(_) | Refusal::Instance(_) | Refusal::Link(_) => true,
-        Refusal::Rounds(_) | Refusal::Import(_) => true,
+        Refusal::Mark(_) | Refusal::ArrowMark(_) | Refusal::Instance(_) => true,
+        Refusal::Link(_) | Refusal::Rounds(_) | Refusal::Import(_) => true,
     }
 }
 
@@ -240,6 +242,33 @@ fn import_said(
     import_words(alloc, refused.fault, name, &told, spans.as_slice())
 }
 
+/// What words call the fault of a mark of a diagram.
+fn mark_slip(slip: Slip) -> MarkSlip
+    ensures { result ≡ mark_slip slip }
+{
+    match slip {
+        Slip::Part => MarkSlip::Part,
+        Slip::Reason => MarkSlip::Reason,
+        Slip::Label => MarkSlip::Label,
+        Slip::Second => MarkSlip::Second,
+    }
+}
+
+/// The words for a faulty mark of a diagram of this text.
+fn arrow_mark_said(
+    alloc: Global,
+    text: &[u8],
+    refused: RefusedMark,
+) -> Result<FaultWords, AllocError>
+    ensures { IfOk result (IsArrowMarkSaid text.now refused) }
+{
+    let FaultyMark { slip, span } = refused.fault;
+    let first = line_span(alloc, text, span.first)?.first;
+    // it stands on one line, so it has as many bytes in the text with other line ends
+    let past = first.saturating_add(span.past.saturating_sub(span.first));
+    mark_words(alloc, mark_slip(slip), Span { first, past })
+}
+
 /// The words for why there are no queues for a diagram.
 fn diagram_link(
     alloc: Global,
@@ -311,6 +340,10 @@ fn said(
         Refusal::Mark(fault) => {
             let words = mark_said(alloc, refused.text, fault)?;
             words_refusal(alloc, refused, &words)
+        }
+        Refusal::ArrowMark(fault) => {
+            let words = arrow_mark_said(alloc, refused.text, fault)?;
+            diagram_refusal(alloc, task, refused, &words)
         }
         Refusal::Link(why) => queues_said(alloc, task, refused, why),
         Refusal::Instance(name) => {

@@ -1,4 +1,4 @@
-//! Checks of all scenarios of a diagram.
+//! Checks of all scenarios of a diagram, or of a chosen one.
 
 ghost use Rattle.std.specs.Prelude.{◌≡◌, ◌++◌, ◌∷◌, [], map, option_map, IfOk, List, Ok, OnOk, Option, ℕ};
 ghost use Rattle.msc_import.specs.Importing.{read};
@@ -13,18 +13,20 @@ ghost use Rattle.msc_command.specs.Scenarios.{wanted_of, with_fence, IsDiagramOf
 ghost use Rattle.msc_command.specs.Scenarios.{IsImportOfAll, PrintsScenarios, RefusesScenarios};
 ghost use Rattle.msc_command.specs.Scenarios.{top_in, BeginsAll, IsFirst, IsLinkedArgs, PrintsAll};
 ghost use Rattle.msc_command.specs.Scenarios.{TellsFormat};
-ghost use Rattle.msc_command.specs.Scenarios.{PrintsCounted};
+ghost use Rattle.msc_command.specs.Scenarios.{check_of, surveyed_of, AreAccepted, AreUsed, PrintsCounted};
 
+use crate::arrow_marks::arrow_marks;
 use crate::choices::rounds_of;
 use crate::ending::{Refusal, Status, ended_by};
-use crate::importing::{chart_of, fence_of};
+use crate::importing::{chart_of, fence_of, given_choices};
 use crate::links::queues_of_diagram;
 use crate::shown_diagram::{DiagramText, ShownDiagram, line_in};
 use crate::tasks::{CheckArgs, DiagramArgs, Format, ScenarioArgs};
+use msc_arrow_marks::{AcceptedArrows, DiagramMarks};
 use msc_chart::{Chart, Queues};
 use msc_diagram::{
-    DiagramFormat, DiagramStyle, Following, FullDiagram, Lent, Scenario, Source, judge_scenarios,
-    scenarios_pass, write_diagram_top,
+    DiagramFormat, DiagramStyle, Following, FullDiagram, Judged, Lent, Scenario, ScenarioCheck,
+    Source, UsedMarks, has_marks, judge_scenarios, scenarios_pass, write_diagram_top,
 };
 use msc_import::laws::reading_comes_first;
 use msc_import::{
@@ -39,11 +41,12 @@ use std::alloc::{AllocError, Global};
 use std::io::Write;
 use std::marker::Model;
 
-/// The status of the check of a diagram, and the number of its listed races.
+/// The status of the check of a diagram, the number of its listed races, and whether a mark was met.
 #[derive(Clone, Copy)]
 pub(crate) struct Surveyed {
     pub status: Status,
     pub listed: u32,
+    pub marked: bool,
 }
 
 /// Which diagram of a text is read, and how.
@@ -69,7 +72,37 @@ fn diagram_of(
     Ok(diagram)
 }
 
-/// All scenarios of a diagram.
+/// The scenarios of a diagram that the words are for, if loops go these numbers of rounds and these
+/// are the given choices.
+fn scenarios_with<'w>(
+    alloc: Global,
+    words: ScenarioArgs<'w>,
+    rounds: &[usize],
+    choose: Option<&[usize]>,
+    diagram: &'w Diagram,
+) -> Result<Scenarios<'w>, Refusal<'static>>
+    requires rounds { rounds.now ≡ (wanted_of words).rounds }
+    requires choose { option_map (λ c. c.now) choose ≡ (wanted_of words).choose }
+    ensures { (text : List ℕ) (fence : Option ℕ)
+        → read (reading_of_all (wanted_of (with_fence fence words.entry))) text ≡ Ok diagram.entry.now
+        → IsImportOfAll (with_fence fence words.entry) text result }
+{
+    reading_comes_first();
+    let importing = ImportingAll {
+        language: words.diagram.language,
+        fence: fence_of(words.diagram.fence),
+        cross: words.diagram.cross,
+        manner: words.diagram.manner,
+        rounds,
+        limit: words.limit as usize,
+        choose,
+        name: words.diagram.name,
+    };
+    let all = draw_all(alloc, importing, diagram)?;
+    Ok(all)
+}
+
+/// The scenarios of a diagram that the words are for: the chosen one, or all.
 pub(crate) fn scenarios_of<'w>(
     alloc: Global,
     words: ScenarioArgs<'w>,
@@ -79,19 +112,12 @@ pub(crate) fn scenarios_of<'w>(
         → read (reading_of_all (wanted_of (with_fence fence words.entry))) text ≡ Ok diagram.entry.now
         → IsImportOfAll (with_fence fence words.entry) text result }
 {
-    reading_comes_first();
     let rounds = rounds_of(alloc, words.rounds)?;
-    let importing = ImportingAll {
-        language: words.diagram.language,
-        fence: fence_of(words.diagram.fence),
-        cross: words.diagram.cross,
-        manner: words.diagram.manner,
-        rounds: rounds.as_slice(),
-        limit: words.limit as usize,
-        name: words.diagram.name,
-    };
-    let all = draw_all(alloc, importing, diagram)?;
-    Ok(all)
+    let rounds = rounds.as_slice();
+    match given_choices(alloc, words.choose)? {
+        None => scenarios_with(alloc, words, rounds, None, diagram),
+        Some(given) => scenarios_with(alloc, words, rounds, Some(given.as_slice()), diagram),
+    }
 }
 
 /// A scenario with its chart, and with the places of its events in the file of this name; or why it
@@ -208,8 +234,23 @@ pub(crate) struct Told<'d> {
     pub counted: &'d [u8],
     /// Whether parallel branches are drawn one below the other.
     pub drawn: bool,
+    /// Its marks, if they are used.
+    pub marks: Option<&'d DiagramMarks>,
+    /// Whether one of its scenarios alone is checked.
+    pub chosen: bool,
     /// What follows its findings as people read them.
     pub following: Following,
+}
+
+/// The check of scenarios, with these marks.
+fn check_of<'m>(check_args: CheckArgs, marks: Option<UsedMarks<'m>>) -> ScenarioCheck<'m>
+    ensures { result ≡ check_of check_args marks.entry }
+{
+    ScenarioCheck {
+        queues: check_args.queues,
+        options: check_args.options,
+        marks,
+    }
 }
 
 /// The lines of an answer on scenarios.
@@ -260,77 +301,69 @@ fn top_of(
 }
 
 /// Writes the answer on the races of these scenarios in a format that has no words of the diagram.
-/// Returns how many are listed.
 fn tell_in<O: Write>(
     alloc: Global,
     check_args: CheckArgs,
     told: Told<'_>,
+    marks: Option<UsedMarks<'_>>,
     format: DiagramFormat<'_, '_>,
     scenarios: &Charts<'_>,
     output: &mut O,
-) -> Result<u32, WriteFault>
+) -> Result<Judged, WriteFault>
     requires top { top_in format check_args told scenarios.now
         ≡ diagram_top told.name.now (first_chart scenarios.now) check_args.queues }
     requires format { IsFormatOf check_args told scenarios.now format }
-    ensures { TellsFormat O.contents check_args told.entry scenarios.now result
+    ensures { TellsFormat O.contents check_args told.entry marks.entry scenarios.now result
         output.old output.new }
 {
-    let CheckArgs {
-        queues,
-        options,
-        ..
-    } = check_args;
-    let top = top_of(alloc, told.name, scenarios, &queues)?;
+    let top = top_of(alloc, told.name, scenarios, &check_args.queues)?;
     let top = top.bytes.as_slice();
-    judge_scenarios(alloc, top, scenarios, queues, options, format, output)
+    let check = check_of(check_args, marks);
+    judge_scenarios(alloc, top, scenarios, check, format, output)
 }
 
 /// Writes the findings on these scenarios as people read them, by the words of their diagram.
-/// Returns how many races are listed.
 // Apart from `tell_full`, whose words outlast what is lent of them here.
 fn tell_with<'x, O: Write>(
     alloc: Global,
     check_args: CheckArgs,
     told: Told<'x>,
+    marks: Option<UsedMarks<'_>>,
     shown: &'x ShownDiagram,
     first: &Scenario<'_>,
     scenarios: &Charts<'_>,
     output: &mut O,
-) -> Result<u32, WriteFault>
+) -> Result<Judged, WriteFault>
     requires format { check_args.format ≡ Format.Full }
     requires first { IsFirst scenarios.now first.now }
     requires shown { IsShownDiagram told.diagram first.now.spans.shown first.now.chart
         check_args.queues shown.now }
-    ensures { TellsFormat O.contents check_args told.entry scenarios.now result
+    ensures { TellsFormat O.contents check_args told.entry marks.entry scenarios.now result
         output.old output.new }
 {
-    let CheckArgs {
-        queues,
-        options,
-        colours,
-        ..
-    } = check_args;
     let lent = LentDiagram::of(alloc, &shown.words, told.diagram.text)?;
     let format = DiagramFormat::Full(FullDiagram {
         lent: &lent,
         diagram: told.diagram.diagram,
         text: told.diagram.text,
-        names: shown.names(colours),
+        names: shown.names(check_args.colours),
         following: told.following,
     });
-    judge_scenarios(alloc, &[], scenarios, queues, options, format, output)
+    let check = check_of(check_args, marks);
+    judge_scenarios(alloc, &[], scenarios, check, format, output)
 }
 
-/// Writes the findings on these scenarios as people read them. Returns how many races are listed.
+/// Writes the findings on these scenarios as people read them.
 fn tell_full<O: Write>(
     alloc: Global,
     check_args: CheckArgs,
     told: Told<'_>,
+    marks: Option<UsedMarks<'_>>,
     scenarios: &Charts<'_>,
     output: &mut O,
-) -> Result<u32, WriteFault>
+) -> Result<Judged, WriteFault>
     requires { check_args.format ≡ Format.Full }
-    ensures { TellsFormat O.contents check_args told.entry scenarios.now result
+    ensures { TellsFormat O.contents check_args told.entry marks.entry scenarios.now result
         output.old output.new }
 {
     if scenarios.len() == 0 {
@@ -340,35 +373,102 @@ fn tell_full<O: Write>(
     let first = first.get();
     let names = first.spans.shown.as_slice();
     let shown = ShownDiagram::of(alloc, told.diagram, names, &first.chart, check_args.queues)?;
-    tell_with(alloc, check_args, told, &shown, first, scenarios, output)
+    tell_with(
+        alloc, check_args, told, marks, &shown, first, scenarios, output,
+    )
 }
 
-/// Writes the answer on the races of these scenarios. Returns how many are listed.
+/// Writes the answer on the races of these scenarios.
 fn tell_races<O: Write>(
     alloc: Global,
     check_args: CheckArgs,
     told: Told<'_>,
+    marks: Option<UsedMarks<'_>>,
     scenarios: &Charts<'_>,
     output: &mut O,
-) -> Result<u32, WriteFault>
-    ensures { TellsFormat O.contents check_args told.entry scenarios.now result
+) -> Result<Judged, WriteFault>
+    ensures { TellsFormat O.contents check_args told.entry marks.entry scenarios.now result
         output.old output.new }
 {
     match check_args.format {
         Format::Text => {
             let format = DiagramFormat::Lines(style_of(check_args, told.drawn));
-            tell_in(alloc, check_args, told, format, scenarios, output)
+            tell_in(alloc, check_args, told, marks, format, scenarios, output)
         }
         Format::Count => {
             let format = DiagramFormat::Count(told.counted);
-            tell_in(alloc, check_args, told, format, scenarios, output)
+            tell_in(alloc, check_args, told, marks, format, scenarios, output)
         }
         Format::Lines => {
             let format = DiagramFormat::Editor;
-            tell_in(alloc, check_args, told, format, scenarios, output)
+            tell_in(alloc, check_args, told, marks, format, scenarios, output)
         }
-        Format::Full => tell_full(alloc, check_args, told, scenarios, output),
+        Format::Full => tell_full(alloc, check_args, told, marks, scenarios, output),
     }
+}
+
+/// How the check of a diagram ends that was judged so, with marks or without.
+fn surveyed_of(judged: Judged, marked: bool) -> Surveyed
+    ensures { result ≡ surveyed_of judged marked }
+{
+    Surveyed {
+        status: ended_by(judged.listed == 0 && judged.stale == 0),
+        listed: judged.listed,
+        marked,
+    }
+}
+
+/// Writes the answer on the races of these scenarios, with these marks.
+fn tell_marked<O: Write>(
+    alloc: Global,
+    words: ScenarioArgs<'_>,
+    told: Told<'_>,
+    marks: Option<UsedMarks<'_>>,
+    scenarios: &Charts<'_>,
+    output: &mut O,
+) -> Result<Surveyed, Refusal<'static>>
+    requires { AreUsed words.check_args told marks }
+    ensures { AnswersWith O.contents
+        (PrintsCounted words.entry.quiet words.entry.check_args told.entry scenarios.now)
+        (BeginsAll words.entry.quiet words.entry.check_args told.entry scenarios.now)
+        (λ refusal. ⊥) result output.old output.new }
+{
+    let check_args = words.check_args;
+    if words.quiet {
+        let passes = scenarios_pass(alloc, scenarios, check_of(check_args, marks))?;
+        return Ok(Surveyed {
+            status: ended_by(passes),
+            listed: 0,
+            marked: false,
+        });
+    }
+    let judged = tell_races(alloc, check_args, told, marks, scenarios, output)?;
+    Ok(surveyed_of(judged, has_marks(marks)))
+}
+
+/// Writes the answer on the races of these scenarios, with the marks that accept the races of these
+/// arrows.
+// Apart from `tell`, where the arrows outlast what is lent of them here.
+fn tell_accepted<'x, O: Write>(
+    alloc: Global,
+    words: ScenarioArgs<'_>,
+    told: Told<'x>,
+    accepted: &'x AcceptedArrows<'x>,
+    scenarios: &Charts<'_>,
+    output: &mut O,
+) -> Result<Surveyed, Refusal<'static>>
+    requires { AreAccepted words.check_args told accepted.now }
+    ensures { AnswersWith O.contents
+        (PrintsCounted words.entry.quiet words.entry.check_args told.entry scenarios.now)
+        (BeginsAll words.entry.quiet words.entry.check_args told.entry scenarios.now)
+        (λ refusal. ⊥) result output.old output.new }
+{
+    let used = UsedMarks {
+        accepted,
+        file: told.diagram.file,
+        chosen: told.chosen,
+    };
+    tell_marked(alloc, words, told, Some(used), scenarios, output)
 }
 
 /// Writes the answer on the races of these scenarios.
@@ -384,20 +484,15 @@ pub(crate) fn tell<O: Write>(
         (BeginsAll words.entry.quiet words.entry.check_args told.entry scenarios.now)
         (λ refusal. ⊥) result output.old output.new }
 {
-    let check_args = words.check_args;
-    if words.quiet {
-        let allowed = check_args.options.allowed;
-        let passes = scenarios_pass(alloc, scenarios, check_args.queues, allowed)?;
-        return Ok(Surveyed {
-            status: ended_by(passes),
-            listed: 0,
-        });
+    match told.marks {
+        None => tell_marked(alloc, words, told, None, scenarios, output),
+        Some(marks) => {
+            let DiagramText { text, diagram, .. } = told.diagram;
+            let usual = words.check_args.queues.usual();
+            let accepted = AcceptedArrows::of(alloc, text, marks, diagram, usual)?;
+            tell_accepted(alloc, words, told, &accepted, scenarios, output)
+        }
     }
-    let listed = tell_races(alloc, check_args, told, scenarios, output)?;
-    Ok(Surveyed {
-        status: ended_by(listed == 0),
-        listed,
-    })
 }
 
 /// Writes the same, and returns the status.
@@ -457,6 +552,7 @@ pub(crate) fn check_scenarios<'w, O: Write>(
     let diagram = diagram_of(alloc, words, text)?;
     let all = scenarios_of(alloc, words, &diagram)?;
     let linked = linked(alloc, words, text, &all.list)?;
+    let marks = arrow_marks(alloc, words.check_args.accept, text, &diagram)?;
     let charts = Charts::of(alloc, file, all.list)?;
     let told = Told {
         diagram: DiagramText {
@@ -468,6 +564,8 @@ pub(crate) fn check_scenarios<'w, O: Write>(
         name: all.name.as_slice(),
         counted: file.as_bytes(),
         drawn: all.drawn,
+        marks: marks.as_ref(),
+        chosen: words.choose.is_some(),
         following: Following::Help,
     };
     tell_all(alloc, linked, told, &charts, output)

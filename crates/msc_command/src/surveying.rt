@@ -12,6 +12,7 @@ ghost use Rattle.msc_command.specs.Surveys.{options_after};
 ghost use Rattle.msc_command.specs.Surveys.{refused_end, refused_text, survey_end, worse};
 ghost use Rattle.msc_command.specs.Surveys.{BeginsBlock, PrintsBlock};
 
+use crate::arrow_marks::arrow_marks;
 use crate::ending::{Refusal, Status};
 use crate::scenarios::{Charts, Surveyed, Told, linked, reading_of, scenarios_of, tell};
 use crate::shown_diagram::{DiagramText, block_line};
@@ -61,6 +62,7 @@ pub(crate) fn behind(words: ScenarioArgs<'_>, listed: u32) -> ScenarioArgs<'_>
         diagram: words.diagram,
         rounds: words.rounds,
         limit: words.limit,
+        choose: words.choose,
         check_args,
         links: words.links,
         quiet: words.quiet,
@@ -83,6 +85,7 @@ pub(crate) fn of_block(words: ScenarioArgs<'_>, number: usize) -> ScenarioArgs<'
         diagram,
         rounds: words.rounds,
         limit: words.limit,
+        choose: words.choose,
         check_args: words.check_args,
         links: words.links,
         quiet: words.quiet,
@@ -178,6 +181,7 @@ pub(crate) fn check_block<'w, O: Write>(
     let diagram = diagram_at(alloc, words, found, number)?;
     let all = scenarios_of(alloc, words, &diagram)?;
     let linked = linked(alloc, words, found.text(), &all.list)?;
+    let marks = arrow_marks(alloc, words.check_args.accept, found.text(), &diagram)?;
     let charts = Charts::of(alloc, file, all.list)?;
     let name = numbered(alloc, all.name.as_slice(), number)?;
     let shown = numbered(alloc, file.as_bytes(), number)?;
@@ -191,6 +195,8 @@ pub(crate) fn check_block<'w, O: Write>(
         name: name.bytes.as_slice(),
         counted: shown.bytes.as_slice(),
         drawn: all.drawn,
+        marks: marks.as_ref(),
+        chosen: words.choose.is_some(),
         following: Following::Blank,
     };
     tell(alloc, linked, told, &charts, output)
@@ -256,14 +262,15 @@ pub(crate) fn lists_races(before: bool, listed: u32) -> bool
     before || 0 < listed
 }
 
-/// What follows all diagrams, if races of one of them are listed or not: the help on marks, in findings
-/// as people read them.
+/// What follows all diagrams, if races of one of them are listed or not, and a mark was met or not:
+/// the help on marks, in findings as people read them.
 pub(crate) fn end_page(
     alloc: Global,
     words: ScenarioArgs<'_>,
     is_listed: bool,
+    is_marked: bool,
 ) -> Result<Page, AllocError>
-    ensures { IfOk result (λ page. page.bytes.items ≡ survey_end words.entry is_listed) }
+    ensures { IfOk result (λ page. page.bytes.items ≡ survey_end words.entry is_listed is_marked) }
 {
     let mut page = Page::new(alloc);
     let CheckArgs {
@@ -271,10 +278,17 @@ pub(crate) fn end_page(
         colours,
         ..
     } = words.check_args;
-    if is_listed && !words.quiet && is_full(format) {
+    if is_listed && !is_marked && !words.quiet && is_full(format) {
         print_diagram_help(alloc, &mut page, colours)?;
     }
     Ok(page)
+}
+
+/// Whether a mark was met before, or in the next diagram.
+pub(crate) fn met(before: bool, now: bool) -> bool
+    ensures { result ≡ (before || now) }
+{
+    before || now
 }
 
 /// What follows a refused diagram: an empty line, in findings as people read them.

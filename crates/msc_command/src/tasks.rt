@@ -244,8 +244,10 @@ pub(crate) struct ScenarioArgs<'w> {
     pub rounds: Option<&'w str>,
     /// The greatest number of scenarios.
     pub limit: u32,
-    /// The check of each scenario; it has no marks. Its architecture is the kind of all links that
-    /// no rule names, until the names in the rules are known.
+    /// The word of `--choose`: then one scenario alone is checked.
+    pub choose: Option<&'w str>,
+    /// The check of each scenario. Its architecture is the kind of all links that no rule names,
+    /// until the names in the rules are known.
     pub check_args: CheckArgs,
     /// The rules for links.
     pub links: LinkWords<'w>,
@@ -764,9 +766,6 @@ fn scenarios_of<'w>(
         → IfErr result (IsDiagramMisuse (found_of words.entry.now)) }
 {
     let check_args = check_args_of(queues, words, runs_shown(words), auto);
-    if check_args.accept {
-        return Err(Misuse::NotOfDiagrams(ArgName::Accept));
-    }
     if check_args.again {
         return Err(Misuse::NotOfDiagrams(ArgName::Again));
     }
@@ -774,6 +773,7 @@ fn scenarios_of<'w>(
         diagram: diagram_of(words),
         rounds: rounds_word(words)?,
         limit: limit_in(words)?,
+        choose: choices_word(words)?,
         check_args,
         links: link_words_of(words),
         quiet: is_given(words, ArgName::Quiet),

@@ -299,7 +299,7 @@ const READ: [ArgName; 10] = [
 ];
 
 /// The words after `check`, in the order of the help.
-const CHECK: [ArgName; 27] = [
+const CHECK: [ArgName; 28] = [
     ArgName::Queues,
     ArgName::Pair,
     ArgName::Mailbox,
@@ -317,6 +317,7 @@ const CHECK: [ArgName; 27] = [
     ArgName::Words,
     ArgName::Short,
     ArgName::ScenariosFrom,
+    ArgName::Choose,
     ArgName::Rounds,
     ArgName::Limit,
     ArgName::Fence,
@@ -618,14 +619,18 @@ Kinds of races:
 A mark is a comment of an event that says which of its races are meant, and why:
   comment 'race ok: REASON'
   comment 'race ok in pair, single with ID; ID: REASON'
-Without `in` it is for all architectures, without `with` for all other events.
+Without `in` it is for all architectures, without `with` for all other events. In a diagram it is a
+comment line above an arrow; an ID is the label of the other arrow in quotes, or its number:
+  %% race ok: REASON
+  %% race ok in pair, single with \"LABEL\"; 5: REASON
 
 With --again the chart is a round of a protocol that repeats: each instance begins the next one when
 its own line is done, and no one waits for the others. What races between a round and the next is told
 behind all else, by the number of its event in the one and of its event in the next.
 
 With --from the text is a sequence diagram of Mermaid, and all of its scenarios are checked: each way
-through its alternatives, with loops that go 0 and 2 rounds. A race is told once, at its arrows.
+through its alternatives, with loops that go 0 and 2 rounds. A race is told once, at its arrows. With
+--choose one scenario alone is checked.
 
 Exit status:
   0  the chart has no races that count, with --accept no mark that accepts none, and with --again

@@ -1,9 +1,10 @@
 -- Each place of a race is listed or is allowed, and none is both.
 use Rattle.std.proofs.Common.{◌≡◌, ℕ, ◌+◌, Bool, true, false, not, ◌&&◌, ◌||◌, cond, nat_eq, List, [], ◌∷◌, ◌++◌, Some, None, length, unwrap_or, refl, sym, ap, ap₂, ◌∙◌, subst, arith}
 use Rattle.std.specs.Cmp.{bool_eq_equiv, IsEquivalence}
-use Rattle.std.specs.List.{filter, list_any, IsDistinct}
+use Rattle.std.specs.Prelude.{is_some}
+use Rattle.std.specs.List.{filter, list_any, All, IsDistinct}
 use Rattle.std.specs.Set.{is_member}
-use Rattle.std.proofs.Math.Bool.{and-true, or-false, or_assoc}
+use Rattle.std.proofs.Math.Bool.{or-false, or_assoc}
 use Rattle.std.proofs.lemmas.Bool.{and_from, and_parts}
 use Rattle.std.proofs.lemmas.Cmp.{nat_eq_equiv}
 use Rattle.std.proofs.lemmas.List.{append-nil}
@@ -14,23 +15,22 @@ use Rattle.std.proofs.lemmas.Map.Keys.{IsDistinct-push}
 use Rattle.std.proofs.lemmas.Map.Made.{length-IsIntersection}
 use mathlib.Core.Bool.{beq}
 use Rattle.msc_chart.proofs.ListLemmas.{by_test}
-use Rattle.msc_chart.specs.declared.queue.Queues.{Queues}
+use Rattle.msc_chart.specs.Lists.{Occurs}
 use Rattle.msc_race.specs.Views.{races_of}
-use Rattle.msc_reason.proofs.Filtered.{any_in, any_parts, filter_parts}
-use Rattle.msc_reason.specs.Counting.{counting, counts, is_alone, is_listed}
-use Rattle.msc_reason.specs.Kinds.{is_empty}
-use Rattle.msc_reason.specs.LeftOut.{of_kinds}
-use Rattle.msc_reason.specs.Marked.{cause_in}
+use Rattle.msc_reason.proofs.Filtered.{any_in, any_parts, filter_from, filter_parts}
+use Rattle.msc_reason.proofs.Marking.{all_at}
+use Rattle.msc_reason.specs.Counting.{counts}
+use Rattle.msc_reason.specs.Kinds.{has_kind, is_empty}
+use Rattle.msc_reason.specs.LeftOut.{is_accepted, of_kinds}
+use Rattle.msc_reason.specs.Marked.{cause_in, kind_in}
 use Rattle.msc_reason.specs.declared.kinds.KindSet.{KindSet}
-use Rattle.msc_judge.specs.declared.options.CheckOptions.{CheckOptions}
 use Rattle.msc_diagram.proofs.Fresh.{above_first}
-use Rattle.msc_diagram.proofs.Above.{plain_counts}
-use Rattle.msc_diagram.proofs.Same.{filter_agreed}
-use Rattle.msc_diagram.specs.Counts.{chooses, counting_places, listed_places, race_places, without}
+use Rattle.msc_diagram.proofs.Above.{all_named, plain_left, plain_listed, same_places_from}
+use Rattle.msc_diagram.specs.Counts.{counting_places, listed_places, named_places, place_counts, race_places, without}
 use Rattle.msc_diagram.specs.Laws.{PlacesAddUp}
 use Rattle.msc_diagram.specs.Places.{above_with, fresh, places_in, same_place, same_places}
-use Rattle.msc_diagram.specs.Scenarios.{all_of, asked_of, counting_of, judged_in, places_from, Case}
-use Rattle.msc_diagram.specs.declared.numbers.PlaceCounts.{PlaceCounts}
+use Rattle.msc_diagram.specs.Scenarios.{all_of, asked_of, counting_of, judged_in, named_of, places_from, Case, IsCase}
+use Rattle.msc_diagram.specs.declared.check.ScenarioCheck.{ScenarioCheck}
 use Rattle.msc_diagram.specs.declared.place.EventPlace.{EventPlace}
 use Rattle.msc_diagram.specs.declared.scenario.Scenario.{Scenario}
 
@@ -119,17 +119,19 @@ member_from pairs above (c ∷ cases) q =
     ∙ ap (λ (b : Bool). b || at_cases pairs cases q) (member_with c.scenario above (pairs c) q)
     ∙ or_assoc (list_any (same_places q) above) (at_places c.scenario (pairs c) q) (at_cases pairs cases q)
 
-module _ (queues : Queues) (kinds : KindSet) (cases : List Case) where
-  -- where a race counts there is a race
-  some_at : (q : EventPlace × EventPlace) → at_cases (counting_of queues kinds) cases q ≡ true → at_cases (all_of queues) cases q ≡ true
+-- each race of the few is one of the many, in these scenarios
+abbrev AreAmong : (Case → List (ℕ × ℕ)) → (Case → List (ℕ × ℕ)) → List Case → Type 0
+AreAmong few many cases = (c : Case) → Occurs cases c → (p : ℕ × ℕ) → Occurs (few c) p → Occurs (many c) p
+
+module _ (few many : Case → List (ℕ × ℕ)) (cases : List Case) (among : AreAmong few many cases) where
+  -- where one of the few is there is one of the many
+  some_at : (q : EventPlace × EventPlace) → at_cases few cases q ≡ true → at_cases many cases q ≡ true
   some_at q some =
-      let found = any_parts (λ (c : Case). at_places c.scenario (counting_of queues kinds c) q) cases some in
+      let found = any_parts (λ (c : Case). at_places c.scenario (few c) q) cases some in
       let c = found.0 in
-      let e = judged_in queues c in
-      let race = any_parts (λ (p : ℕ × ℕ). same_places q (places_in c.scenario p)) (counting_of queues kinds c) found.2 in
-      let among = filter_parts (counts (of_kinds kinds) (cause_in e)) (races_of e) race.0 race.1 in
-      any_in (λ (b : Case). at_places b.scenario (all_of queues b) q) cases c found.1
-      (any_in (λ (p : ℕ × ℕ). same_places q (places_in c.scenario p)) (races_of e) race.0 among.0 race.2)
+      let race = any_parts (λ (p : ℕ × ℕ). same_places q (places_in c.scenario p)) (few c) found.2 in
+      any_in (λ (b : Case). at_places b.scenario (many b) q) cases c found.1
+      (any_in (λ (p : ℕ × ℕ). same_places q (places_in c.scenario p)) (many c) race.0 (among c found.1 race.0 race.1) race.2)
 
   -- what implies a test changes nothing beside it
   within : (a b : Bool) → (b ≡ true → a ≡ true) → b ≡ (a && b)
@@ -137,42 +139,71 @@ module _ (queues : Queues) (kinds : KindSet) (cases : List Case) where
   within false true then = sym (then refl)
   within false false then = refl
 
-  -- so as many places count as are both
-  both : length (counting_places queues kinds cases) ≡ length (filter (is_member same_places (counting_places queues kinds cases)) (race_places queues cases))
+  -- so as many places are of the few as are of both
+  both : length (places_from few [] cases) ≡ length (filter (is_member same_places (places_from few [] cases)) (places_from many [] cases))
   unfolding IsDistinct
   both =
-      length-IsIntersection places_equiv (race_places queues cases) (counting_places queues kinds cases) (counting_places queues kinds cases)
-      (distinct_from (all_of queues) [] cases tt) (distinct_from (counting_of queues kinds) [] cases tt)
-      (λ q. within (is_member same_places (race_places queues cases) q) (is_member same_places (counting_places queues kinds cases) q)
-      (λ there. member_from (all_of queues) [] cases q ∙ some_at q (sym (member_from (counting_of queues kinds) [] cases q) ∙ there)))
-      ∙ sym (length-filter (is_member same_places (counting_places queues kinds cases)) (race_places queues cases))
+      length-IsIntersection places_equiv (places_from many [] cases) (places_from few [] cases) (places_from few [] cases)
+      (distinct_from many [] cases tt) (distinct_from few [] cases tt)
+      (λ q. within (is_member same_places (places_from many [] cases) q) (is_member same_places (places_from few [] cases) q)
+      (λ there. member_from many [] cases q ∙ some_at q (sym (member_from few [] cases q) ∙ there)))
+      ∙ sym (length-filter (is_member same_places (places_from few [] cases)) (places_from many [] cases))
 
-  -- and the others are allowed
-  all_parts : length (counting_places queues kinds cases) + length (without (race_places queues cases) (counting_places queues kinds cases)) ≡ length (race_places queues cases)
+  -- and the others are of the many alone
+  all_parts : length (places_from few [] cases) + length (without (places_from many [] cases) (places_from few [] cases)) ≡ length (places_from many [] cases)
   all_parts =
-      let some = counting_places queues kinds cases in
-      let split = length-filter_both (is_member same_places some) (λ (p : EventPlace × EventPlace). not (list_any (same_places p) some)) (λ p. refl) (race_places queues cases) in
+      let some = places_from few [] cases in
+      let split = length-filter_both (is_member same_places some) (λ (p : EventPlace × EventPlace). not (list_any (same_places p) some)) (λ p. refl) (places_from many [] cases) in
       let same = both in
       omega (arith, split, same)
 
--- without `closest` those that count are listed
-plain_listed : (queues : Queues) (q : CheckOptions) → q.closest ≡ false → (c : Case) → asked_of queues q c ≡ counting_of queues q.allowed c
-plain_listed queues q off c =
-    let e = judged_in queues c in
-    let left = of_kinds q.allowed in
-    filter_agreed (is_listed e left q.closest (cause_in e)) (counts left (cause_in e)) (races_of e)
-    (λ p there. ap (λ (t : Bool). counts left (cause_in e) p && (not t || is_alone e.chart.events (counting e left (cause_in e)) p)) off
-    ∙ and-true (counts left (cause_in e) p))
+module _ (q : ScenarioCheck) (cases : List Case) (all : All (IsCase q) cases) where
+  -- those of kinds that are not left out are races, and those that count are of such kinds
+  named_are : AreAmong (named_of q) (all_of q) cases
+  named_are c there p is = let e = judged_in q c in (filter_parts (counts (of_kinds q.options.allowed) (cause_in e)) (races_of e) p is).0
+
+  counting_are : AreAmong (counting_of q) (named_of q) cases
+  counting_are c there p is =
+      let e = judged_in q c in
+      let found = filter_parts (counts c.left (cause_in e)) (races_of e) p is in
+      let known = all_at (IsCase q) cases c there all in
+      let parts = and_parts (not (is_accepted c.left p)) (not (has_kind c.left.kinds (kind_in e p.0 p.1))) found.1 in
+      filter_from (counts (of_kinds q.options.allowed) (cause_in e)) (races_of e) p found.0
+      (ap (λ (kinds : KindSet). not (has_kind kinds (kind_in e p.0 p.1))) (sym known.left_is.kinds) ∙ parts.1)
+
+  -- all places are allowed, or of other kinds
+  allowed_parts : length (race_places q cases) ≡ unwrap_or (place_counts q cases).allowed 0 + length (named_places q cases)
+  allowed_parts =
+      let rest = length (without (race_places q cases) (named_places q cases)) in
+      let n = length (named_places q cases) in
+      by_test (is_empty q.options.allowed)
+      (λ empty.
+      let places : length (race_places q cases) ≡ n = ap length (sym (same_places_from (named_of q) (all_of q) (IsCase q) (λ c is. all_named q c empty) [] cases all)) in
+      let same : length (race_places q cases) ≡ 0 + n = omega (arith, places) in
+      same ∙ sym (ap (λ (b : Bool). unwrap_or (cond b None (Some rest)) 0 + n) empty))
+      (λ some.
+      let parts = all_parts (named_of q) (all_of q) cases named_are in
+      let sum : length (race_places q cases) ≡ rest + n = omega (arith, parts) in
+      sum ∙ sym (ap (λ (b : Bool). unwrap_or (cond b None (Some rest)) 0 + n) some))
+
+  -- and these are accepted, or listed without `closest`
+  accepted_parts : q.options.closest ≡ false → length (named_places q cases) ≡ unwrap_or (place_counts q cases).accepted 0 + length (listed_places q cases)
+  accepted_parts off =
+      let rest = length (without (named_places q cases) (counting_places q cases)) in
+      let n = length (listed_places q cases) in
+      let listed = ap length (same_places_from (asked_of q) (counting_of q) (IsCase q) (λ c is. plain_listed q off c) [] cases all) in
+      by_test (is_some q.marks)
+      (λ some.
+      let parts = all_parts (counting_of q) (named_of q) cases counting_are in
+      let sum : length (named_places q cases) ≡ rest + n = omega (arith, parts, listed) in
+      sum ∙ sym (ap (λ (b : Bool). unwrap_or (cond b (Some rest) None) 0 + n) some))
+      (λ none.
+      let same = ap length (same_places_from (counting_of q) (named_of q) (IsCase q) (λ c is. plain_left q c is none) [] cases all) in
+      let sum : length (named_places q cases) ≡ 0 + n = omega (arith, same, listed) in
+      sum ∙ sym (ap (λ (b : Bool). unwrap_or (cond b (Some rest) None) 0 + n) none))
 
 pub add_up : PlacesAddUp
-add_up queues q cases off = by_test (is_empty q.allowed)
-    (λ empty.
-    let none : chooses q ≡ false = ap₂ (λ (a b : Bool). a || not b) off empty in
-    subst (λ (k : PlaceCounts). k.races ≡ unwrap_or k.allowed 0 + k.listed) (plain_counts queues q cases none) (omega arith))
-    (λ some.
-    let same : asked_of queues q ≡ counting_of queues q.allowed = λ j c. plain_listed queues q off c j in
-    let listed = ap (λ (pairs : Case → List (ℕ × ℕ)). length (places_from pairs [] cases)) same in
-    let parts = all_parts queues q.allowed cases in
-    let left = length (without (race_places queues cases) (counting_places queues q.allowed cases)) in
-    let sum : length (race_places queues cases) ≡ left + length (listed_places queues q cases) = omega (arith, listed, parts) in
-    sum ∙ sym (ap (λ (b : Bool). unwrap_or (cond b None (Some left)) 0 + length (listed_places queues q cases)) some))
+add_up q scenarios cases are off =
+    let one = allowed_parts q cases are.all in
+    let two = accepted_parts q cases are.all off in
+    omega (arith, one, two)

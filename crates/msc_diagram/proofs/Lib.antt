@@ -11,3 +11,4 @@ pub mod Adding
 pub mod Answering
 pub mod Tallying
 pub mod Seen
+pub mod Leaving

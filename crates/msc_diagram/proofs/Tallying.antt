@@ -8,14 +8,13 @@ use Rattle.std.proofs.lemmas.List.{append-nil}
 use Rattle.std.proofs.lemmas.List.Folds.{list_any-append}
 use Rattle.std.proofs.lemmas.List.Sums.{sum_by-append}
 use Rattle.msc_chart.proofs.ListLemmas.{by_test}
-use Rattle.msc_chart.specs.declared.queue.Queues.{Queues}
-use Rattle.msc_reason.specs.declared.kinds.KindSet.{KindSet}
 use Rattle.msc_diagram.proofs.Adding.{places_equiv}
 use Rattle.msc_diagram.proofs.Fresh.{above_first}
 use Rattle.msc_diagram.specs.Counts.{counted_in, counts_at}
 use Rattle.msc_diagram.specs.Places.{above_with, fresh, places_in, same_places}
 use Rattle.msc_diagram.specs.Scenarios.{Case}
 use Rattle.msc_diagram.specs.Tallies.{tally_at}
+use Rattle.msc_diagram.specs.declared.check.ScenarioCheck.{ScenarioCheck}
 use Rattle.msc_diagram.specs.declared.place.EventPlace.{EventPlace}
 use Rattle.msc_diagram.specs.declared.scenario.Scenario.{Scenario}
 
@@ -91,8 +90,8 @@ tally_more old new q p count put is = by_test (same_places q p)
     omega (arith, at, none))
 
 -- one scenario more
-pub counted_more : (queues : Queues) (kinds : KindSet) (cases : List Case) (c : Case) (p : EventPlace × EventPlace)
-    → counted_in queues kinds (cases ++ c ∷ []) p ≡ counted_in queues kinds cases p + cond (counts_at queues kinds p c) 1 0
-counted_more queues kinds cases c p =
-    let both = sum_by-append (λ (x : Case). cond (counts_at queues kinds p x) 1 0) cases (c ∷ []) in
+pub counted_more : (q : ScenarioCheck) (cases : List Case) (c : Case) (p : EventPlace × EventPlace)
+    → counted_in q (cases ++ c ∷ []) p ≡ counted_in q cases p + cond (counts_at q p c) 1 0
+counted_more q cases c p =
+    let both = sum_by-append (λ (x : Case). cond (counts_at q p x) 1 0) cases (c ∷ []) in
     omega (arith, both)

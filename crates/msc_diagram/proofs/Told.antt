@@ -1,9 +1,8 @@
 -- What is printed of the new races of a scenario.
 use Rattle.std.proofs.Common.{◌≡◌, ℕ, ◌+◌, ◌<◌, List, [], ◌∷◌, ◌++◌, Option, Result, length, refl, sym, ap, ◌∙◌, subst, inl, inr, arith}
-use Rattle.msc_chart.specs.declared.queue.Queues.{Queues}
 use Rattle.msc_judge.specs.Findings.{Texts}
 use Rattle.msc_judge.specs.Telling.{told_from}
-use Rattle.msc_judge.specs.declared.options.CheckOptions.{CheckOptions}
+use Rattle.msc_diagram.specs.declared.check.ScenarioCheck.{ScenarioCheck}
 use Rattle.msc_print.specs.Pages.{Puts}
 use Rattle.msc_print.specs.declared.page.WriteFault.{WriteFault}
 use Rattle.msc_diagram.specs.Places.{above_with}
@@ -54,11 +53,11 @@ new_told are text head most i first n s xs new r before after old page number sa
 
 -- texts of which everything is known are known of all scenarios
 pub all_told : (are : TextsOf) → ((i first : ℕ) (new : List (ℕ × ℕ)) (s : Scenario) (texts : Texts) → are i first new s texts)
-    → (queues : Queues) (q : CheckOptions) (i : ℕ) (above : List (EventPlace × EventPlace)) (cases : List Case) → AreTold are queues q i above cases
-all_told are each queues q i above [] = tt
-all_told are each queues q i above (c ∷ cases) = (
-  one (new_in queues q above c),
-  all_told are each queues q (i + 1) (above_with c.scenario above (asked_of queues q c)) cases,
+    → (q : ScenarioCheck) (i : ℕ) (above : List (EventPlace × EventPlace)) (cases : List Case) → AreTold are q i above cases
+all_told are each q i above [] = tt
+all_told are each q i above (c ∷ cases) = (
+  one (new_in q above c),
+  all_told are each q (i + 1) (above_with c.scenario above (asked_of q c)) cases,
 )
   where
     one : (new : List (ℕ × ℕ)) → AreTextsIf are i (length above) new c.scenario c.texts

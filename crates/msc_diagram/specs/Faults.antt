@@ -1,4 +1,4 @@
--- The lines that faults of imports are printed as. This project's own format.
+-- The lines that faults of imports and of marks are printed as. This project's own format.
 use Rattle.std.specs.Prelude.{ℕ, cond, nat_le, List, ◌++◌, codes}
 use Rattle.std.specs.Fmt.{decimal}
 use Rattle.msc_mermaid.specs.Expectations.{closer_word, expectation}
@@ -8,6 +8,8 @@ use Rattle.msc_mermaid.specs.declared.fault.ImportFault.{ImportFault}
 use Rattle.msc_mermaid.specs.declared.fault.ImportFault.TheVariants as imports
 use Rattle.msc_import.specs.Importing.{Refusal}
 use Rattle.msc_report.specs.Texts.{text_line}
+use Rattle.msc_arrow_marks.specs.declared.fault.Slip.{Slip}
+use Rattle.msc_arrow_marks.specs.declared.fault.Slip.TheVariants as slips
 
 -- the line of a fault by its number, on a line of the text
 abbrev pub import_line : ℕ → ℕ → List ℕ → List ℕ
@@ -47,3 +49,14 @@ import_fault_line imports.Memory name = text_line (codes "memory fault")
 -- the line of why nothing is imported
 abbrev pub import_refusal_line : Refusal → List ℕ
 import_refusal_line refused = import_fault_line refused.fault refused.name
+
+-- the line of a faulty mark on a line of the text, by the number of its fault and words
+abbrev pub accept_line : List ℕ → ℕ → List ℕ → List ℕ
+accept_line number line words =
+    codes "accept fault " ++ (number ++ (codes " at " ++ (decimal line ++ (codes ": " ++ text_line words))))
+
+abbrev pub accept_fault_line : Slip → ℕ → List ℕ
+accept_fault_line slips.Part line = accept_line (codes "1") line (codes "expected in, with or a reason")
+accept_fault_line slips.Reason line = accept_line (codes "2") line (codes "no reason")
+accept_fault_line slips.Label line = accept_line (codes "3") line (codes "a mark stands in a line of its own")
+accept_fault_line slips.Second line = accept_line (codes "4") line (codes "a second mark for one arrow")

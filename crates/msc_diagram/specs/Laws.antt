@@ -1,12 +1,13 @@
 -- Laws of the numbers of places of a diagram's scenarios.
 use Rattle.std.specs.Prelude.{◌≡◌, ◌+◌, false, List, unwrap_or}
-use Rattle.msc_chart.specs.declared.queue.Queues.{Queues}
-use Rattle.msc_judge.specs.declared.options.CheckOptions.{CheckOptions}
 use Rattle.msc_diagram.specs.Counts.{place_counts}
-use Rattle.msc_diagram.specs.Scenarios.{Case}
+use Rattle.msc_diagram.specs.Scenarios.{AreCases, Case}
+use Rattle.msc_diagram.specs.declared.check.ScenarioCheck.{ScenarioCheck}
+use Rattle.msc_diagram.specs.declared.scenario.Scenario.{Scenario}
 
--- without `closest` there are as many places as allowed and listed ones together
+-- without `closest` there are as many places as allowed, accepted and listed ones together
 abbrev pub PlacesAddUp : Type 0
 PlacesAddUp =
-    (queues : Queues) (q : CheckOptions) (cases : List Case) → q.closest ≡ false
-    → (place_counts queues q cases).races ≡ unwrap_or (place_counts queues q cases).allowed 0 + (place_counts queues q cases).listed
+    (k : ScenarioCheck) (scenarios : List Scenario) (cases : List Case) → AreCases k scenarios cases → k.options.closest ≡ false
+    → (place_counts k cases).races
+    ≡ unwrap_or (place_counts k cases).allowed 0 + (unwrap_or (place_counts k cases).accepted 0 + (place_counts k cases).listed)

@@ -1,7 +1,10 @@
 -- what is promised
 pub mod Faults
 pub mod Places
+pub mod Checks
+pub mod Marked
 pub mod Scenarios
+pub mod Stale
 pub mod Counts
 pub mod Judging
 pub mod Telling

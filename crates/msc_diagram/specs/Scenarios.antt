@@ -10,52 +10,60 @@ use Rattle.msc_race.specs.Wired.{enforced_chart, EnforcedChart, IsEnforced}
 use Rattle.msc_reason.specs.Counting.{counting, listed, AreCauses}
 use Rattle.msc_reason.specs.LeftOut.{of_kinds}
 use Rattle.msc_reason.specs.Marked.{cause_in}
-use Rattle.msc_reason.specs.declared.kinds.KindSet.{KindSet}
+use Rattle.msc_reason.specs.declared.left_out.LeftOut.{LeftOut}
 use Rattle.msc_judge.specs.Findings.{AreShown, Texts}
 use Rattle.msc_judge.specs.Telling.{race_text, told_from}
-use Rattle.msc_judge.specs.declared.options.CheckOptions.{CheckOptions}
 use Rattle.msc_report.specs.Texts.{text_line}
 use Rattle.msc_report.specs.Links.{queues_text}
 use Rattle.msc_report.specs.Verdicts.{queues_line}
+use Rattle.msc_diagram.specs.Checks.{IsLeft}
 use Rattle.msc_diagram.specs.Places.{above_with, fresh}
+use Rattle.msc_diagram.specs.declared.check.ScenarioCheck.{ScenarioCheck}
 use Rattle.msc_diagram.specs.declared.place.EventPlace.{EventPlace}
 use Rattle.msc_diagram.specs.declared.scenario.Scenario.{Scenario}
 
--- what is known of a scenario: an order of its chart's events, of each two events the run that shows
--- them, and the texts of its races
+-- what is known of a scenario: an order of its chart's events, what is left out of its races, of each
+-- two events the run that shows them, and the texts of its races
 pub record Case : Type 0 where
   pub scenario : Scenario
   pub order : Table
+  pub left : LeftOut
   pub runs : ℕ × ℕ → List ℕ
   pub texts : Texts
 
--- its chart under an architecture
-abbrev pub judged_in : Queues → Case → EnforcedChart
-judged_in queues c = enforced_chart c.scenario.chart queues c.order
+-- its chart under the architecture of a check
+abbrev pub judged_in : ScenarioCheck → Case → EnforcedChart
+judged_in k c = enforced_chart c.scenario.chart k.queues c.order
 
--- it is what they are: the enforced order of a chart, what each race lacks by it, and the runs
-pub record IsCase (queues : Queues) (short : Bool) (c : Case) : Type 0 where
+-- it is what they are for a check: the enforced order of a chart, what each race lacks by it, what is
+-- left out, and the runs
+pub record IsCase (k : ScenarioCheck) (c : Case) : Type 0 where
   pub accepted : IsAccepted c.scenario.chart
-  pub enforced : IsEnforced (judged_in queues c)
-  pub causes : AreCauses (judged_in queues c) (cause_in (judged_in queues c))
-  pub shown : AreShown short (wiring_of (judged_in queues c)) c.runs
+  pub enforced : IsEnforced (judged_in k c)
+  pub causes : AreCauses (judged_in k c) (cause_in (judged_in k c))
+  pub left_is : IsLeft k c.scenario (races_of (judged_in k c)) c.left
+  pub shown : AreShown k.options.short (wiring_of (judged_in k c)) c.runs
 
 -- what is known of these scenarios, each by each
-pub record AreCases (queues : Queues) (short : Bool) (scenarios : List Scenario) (cases : List Case) : Type 0 where
+pub record AreCases (k : ScenarioCheck) (scenarios : List Scenario) (cases : List Case) : Type 0 where
   pub each : map (λ c. c.scenario) cases ≡ scenarios
-  pub all : All (IsCase queues short) cases
+  pub all : All (IsCase k) cases
 
 -- the races of a scenario that are asked for
-abbrev pub asked_of : Queues → CheckOptions → Case → List (ℕ × ℕ)
-asked_of queues q c = let e = judged_in queues c in listed e (of_kinds q.allowed) q.closest (cause_in e)
+abbrev pub asked_of : ScenarioCheck → Case → List (ℕ × ℕ)
+asked_of k c = let e = judged_in k c in listed e c.left k.options.closest (cause_in e)
 
 -- all races of a scenario
-abbrev pub all_of : Queues → Case → List (ℕ × ℕ)
-all_of queues c = races_of (judged_in queues c)
+abbrev pub all_of : ScenarioCheck → Case → List (ℕ × ℕ)
+all_of k c = races_of (judged_in k c)
 
--- the races of a scenario that count: those of none of these kinds
-abbrev pub counting_of : Queues → KindSet → Case → List (ℕ × ℕ)
-counting_of queues kinds c = let e = judged_in queues c in counting e (of_kinds kinds) (cause_in e)
+-- those of kinds that are not left out
+abbrev pub named_of : ScenarioCheck → Case → List (ℕ × ℕ)
+named_of k c = let e = judged_in k c in counting e (of_kinds k.options.allowed) (cause_in e)
+
+-- the races of a scenario that count: of these, those that no mark accepts
+abbrev pub counting_of : ScenarioCheck → Case → List (ℕ × ℕ)
+counting_of k c = let e = judged_in k c in counting e c.left (cause_in e)
 
 -- the places of the races of scenarios that are listed, of those that these are: of each two places
 -- once
@@ -86,22 +94,22 @@ told_text text head most n [] = []
 told_text text head most n (p ∷ pairs) = head ++ told_from text most n (p ∷ pairs)
 
 -- the races of a scenario that are asked for and whose places none of these races has
-abbrev pub new_in : Queues → CheckOptions → List (EventPlace × EventPlace) → Case → List (ℕ × ℕ)
-new_in queues q above c = fresh c.scenario above (asked_of queues q c)
+abbrev pub new_in : ScenarioCheck → List (EventPlace × EventPlace) → Case → List (ℕ × ℕ)
+new_in k above c = fresh c.scenario above (asked_of k c)
 
 -- what is written of a scenario by its number, with a head or without, below races of these places
-abbrev pub case_text : Bool → Queues → CheckOptions → ℕ → List (EventPlace × EventPlace) → Case → List ℕ
-case_text heads queues q i above c =
-    told_text (race_text c.texts (judged_in queues c) q c.runs)
-    (head_text (cond heads (Some i) None) c.scenario.choices (length (all_of queues c)))
-    q.most (length above) (new_in queues q above c)
+abbrev pub case_text : Bool → ScenarioCheck → ℕ → List (EventPlace × EventPlace) → Case → List ℕ
+case_text heads k i above c =
+    told_text (race_text c.texts (judged_in k c) k.options c.runs)
+    (head_text (cond heads (Some i) None) c.scenario.choices (length (all_of k c)))
+    k.options.most (length above) (new_in k above c)
 
 -- what is written of these scenarios, numbered from here on
-abbrev pub cases_text : Bool → Queues → CheckOptions → ℕ → List (EventPlace × EventPlace) → List Case → List ℕ
-cases_text heads queues q i above [] = []
-cases_text heads queues q i above (c ∷ cases) =
-    case_text heads queues q i above c
-    ++ cases_text heads queues q (i + 1) (above_with c.scenario above (asked_of queues q c)) cases
+abbrev pub cases_text : Bool → ScenarioCheck → ℕ → List (EventPlace × EventPlace) → List Case → List ℕ
+cases_text heads k i above [] = []
+cases_text heads k i above (c ∷ cases) =
+    case_text heads k i above c
+    ++ cases_text heads k (i + 1) (above_with c.scenario above (asked_of k c)) cases
 
 -- texts of the races of a scenario, of which this is known: the number of the scenario, that of the
 -- first of these races, and they
@@ -115,15 +123,15 @@ AreTextsIf are i first (p ∷ pairs) s texts = are i first (p ∷ pairs) s texts
 
 -- the texts of these scenarios, numbered from here on and below races of these places, are those of
 -- their new races
-abbrev pub AreTold : TextsOf → Queues → CheckOptions → ℕ → List (EventPlace × EventPlace) → List Case → Type 0
-AreTold are queues q i above [] = Unit {0}
-AreTold are queues q i above (c ∷ cases) =
-    AreTextsIf are i (length above) (new_in queues q above c) c.scenario c.texts
-    × AreTold are queues q (i + 1) (above_with c.scenario above (asked_of queues q c)) cases
+abbrev pub AreTold : TextsOf → ScenarioCheck → ℕ → List (EventPlace × EventPlace) → List Case → Type 0
+AreTold are k i above [] = Unit {0}
+AreTold are k i above (c ∷ cases) =
+    AreTextsIf are i (length above) (new_in k above c) c.scenario c.texts
+    × AreTold are k (i + 1) (above_with c.scenario above (asked_of k c)) cases
 
 -- how many scenarios have no race that counts
-abbrev pub passed_of : Queues → KindSet → List Case → ℕ
-passed_of queues kinds cases = count_by (λ c. nat_eq (length (counting_of queues kinds c)) 0) cases
+abbrev pub passed_of : ScenarioCheck → List Case → ℕ
+passed_of k cases = count_by (λ c. nat_eq (length (counting_of k c)) 0) cases
 
 -- the lines of an architecture, with the names of a chart's instances if there is one
 abbrev pub queues_of : Option Drawing → Queues → List ℕ

@@ -11,19 +11,20 @@ ghost use Rattle.msc_diagram.specs.Places.{above_with, fresh, AreAllPlaces};
 ghost use Rattle.msc_diagram.specs.Scenarios.{head_text, told_text, AreTextsIf};
 ghost use Rattle.msc_diagram.specs.Telling.{has_heads, AreTextsBy, PutsNew, TellsCase, TellsCases};
 
+use crate::check::ScenarioCheck;
 use crate::counting::new_listed;
 use crate::full::{FullAsked, FullRaces, print_full};
+use crate::marked::{left_out, marked_races};
 use crate::place::{EventPlace, places_of};
 use crate::reported::ReportedRaces;
 use crate::scenario::Scenario;
 use crate::source::Source;
 use crate::telling::{Head, NewPairs, print_scenario};
-use msc_chart::Queues;
-use msc_judge::{CheckOptions, RaceRows};
+use msc_judge::RaceRows;
 use msc_print::{Page, WriteFault};
 use msc_race::Enforced;
 use msc_race::laws::{short_witnesses_show, the_witness_reverses};
-use msc_reason::{LeftOut, Listing, count_counting};
+use msc_reason::{Listing, count_counting};
 use msc_report::{Editor, Lines, Style};
 use std::alloc::Global;
 use std::io::Write;
@@ -37,11 +38,10 @@ pub(crate) enum RaceFormat<'f, 'w> {
     Full(FullRaces<'f, 'w>),
 }
 
-/// The options of a check of scenarios under an architecture, and the format of its answer.
+/// A check of scenarios, and the format of its answer.
 #[derive(Clone, Copy)]
 pub(crate) struct Asked<'f, 'w> {
-    pub queues: Queues,
-    pub options: CheckOptions,
+    pub check: ScenarioCheck<'f>,
     pub format: RaceFormat<'f, 'w>,
 }
 
@@ -70,13 +70,13 @@ fn print_new<W: Write>(
     requires places { AreAllPlaces numbered.scenario.now places.now }
     requires within { All (λ p. (p.0 < length places.now) × (p.1 < length places.now)) new.pairs.now }
     ensures { (runs : ℕ × ℕ → List ℕ)
-        → AreShown asked.entry.options.short (wiring_of listing.now.judged) runs
-        → PutsNew (AreTextsBy asked.entry.format asked.entry.queues numbered.entry.number
+        → AreShown asked.entry.check.options.short (wiring_of listing.now.judged) runs
+        → PutsNew (AreTextsBy asked.entry.format asked.entry.check.queues numbered.entry.number
         new.entry.first new.entry.pairs.now numbered.entry.scenario.now)
         (λ texts. head_text (cond (has_heads asked.entry.format) (Some numbered.entry.number) None)
         numbered.entry.scenario.now.choices numbered.entry.races
-        ++ told_from (race_text texts listing.now.judged asked.entry.options runs)
-        asked.entry.options.most new.entry.first new.entry.pairs.now)
+        ++ told_from (race_text texts listing.now.judged asked.entry.check.options runs)
+        asked.entry.check.options.most new.entry.first new.entry.pairs.now)
         result (W.contents writer.old) (W.contents writer.new)
         page.old.bytes.items page.new.bytes.items }
 {
@@ -85,7 +85,7 @@ fn print_new<W: Write>(
         number,
         races,
     } = numbered;
-    let options = asked.options;
+    let options = asked.check.options;
     match asked.format {
         RaceFormat::Lines(words) => {
             let style = Style {
@@ -119,7 +119,7 @@ fn print_new<W: Write>(
         }
         RaceFormat::Full(races) => {
             let asked = FullAsked {
-                queues: asked.queues,
+                queues: asked.check.queues,
                 options,
                 races,
             };
@@ -144,15 +144,15 @@ fn print_in_format<W: Write>(
         (listed listing.now.judged listing.now.allowed listing.now.closest
         (cause_in listing.now.judged))) }
     ensures put { (runs : ℕ × ℕ → List ℕ)
-        → AreShown asked.entry.options.short (wiring_of listing.now.judged) runs
-        → PutsNew (AreTextsIf (AreTextsBy asked.entry.format asked.entry.queues)
+        → AreShown asked.entry.check.options.short (wiring_of listing.now.judged) runs
+        → PutsNew (AreTextsIf (AreTextsBy asked.entry.format asked.entry.check.queues)
         numbered.entry.number (length reported.old) (fresh numbered.entry.scenario.now reported.old
         (listed listing.now.judged listing.now.allowed listing.now.closest
         (cause_in listing.now.judged))) numbered.entry.scenario.now)
-        (λ texts. told_text (race_text texts listing.now.judged asked.entry.options runs)
+        (λ texts. told_text (race_text texts listing.now.judged asked.entry.check.options runs)
         (head_text (cond (has_heads asked.entry.format) (Some numbered.entry.number) None)
         numbered.entry.scenario.now.choices numbered.entry.races)
-        asked.entry.options.most (length reported.old) (fresh numbered.entry.scenario.now reported.old
+        asked.entry.check.options.most (length reported.old) (fresh numbered.entry.scenario.now reported.old
         (listed listing.now.judged listing.now.allowed listing.now.closest
         (cause_in listing.now.judged))))
         result (W.contents writer.old) (W.contents writer.new)
@@ -197,12 +197,14 @@ fn print_case<W: Write>(
 {
     the_witness_reverses();
     short_witnesses_show();
-    let enforced = Enforced::of(alloc, &scenario.chart, asked.queues)?;
+    let check = asked.check;
+    let enforced = Enforced::of(alloc, &scenario.chart, check.queues)?;
     enforced.facts();
     let races = enforced.count_races();
-    let left = LeftOut::of_kinds(asked.options.allowed);
+    let marked = marked_races(alloc, check, scenario, &enforced)?;
+    let left = left_out(check.options.allowed, marked.as_ref());
     let counting = count_counting(alloc, &enforced, left, races)?;
-    let listing = &Listing::of(alloc, enforced, left, asked.options.closest)?;
+    let listing = &Listing::of(alloc, enforced, left, check.options.closest)?;
     let numbered = Numbered {
         scenario,
         number,

@@ -1,31 +1,29 @@
 //! Counts the places of races in scenarios.
 
-ghost use Rattle.std.specs.Prelude.{◌≡◌, ◌+◌, IfOk, OnOk, [], count_by, false, length, true};
+ghost use Rattle.std.specs.Prelude.{◌≡◌, ◌+◌, IfOk, OnOk, [], count_by, length, true};
 ghost use Rattle.std.specs.List.{filter};
 ghost use Rattle.msc_race.specs.Views.{races_of, AreRacesOf};
 ghost use Rattle.msc_reason.specs.Counting.{counting, counts, listed};
-ghost use Rattle.msc_reason.specs.Kinds.{is_empty};
-ghost use Rattle.msc_reason.specs.LeftOut.{of_kinds};
 ghost use Rattle.msc_reason.specs.Marked.{cause_in};
 ghost use Rattle.msc_diagram.specs.Counts.{AreCountsOf};
 ghost use Rattle.msc_diagram.specs.Places.{above_with, fresh, same_places, AreAllPlaces};
 ghost use Rattle.msc_diagram.specs.Tallies.{tally_at};
-ghost use Rattle.msc_diagram.specs.Telling.{IsAnswerOf, SeesCase, SeesCases};
+ghost use Rattle.msc_diagram.specs.Telling.{IsAnswerOf, SeesCase, SeesCases, SeesSelected};
 ghost use Rattle.msc_diagram.specs.declared.place.EventPlace.{EventPlace};
 ghost use Rattle.msc_diagram.specs.declared.scenario.Scenario.{Scenario};
 
-use crate::answer::Answer;
-use crate::numbers::PlaceCounts;
+use crate::answer::{Above, Answer};
+use crate::check::ScenarioCheck;
+use crate::marked::{keep_idle, left_out, marked_races};
 use crate::place::{EventPlace, places_of};
 use crate::reported::ReportedRaces;
 use crate::scenario::Scenario;
 use crate::source::Source;
 use crate::tally::PlaceTally;
-use msc_chart::{Event, Queues};
-use msc_judge::CheckOptions;
+use msc_chart::Event;
 use msc_race::laws::{short_witnesses_show, the_witness_reverses};
 use msc_race::{Enforced, Walk};
-use msc_reason::{KindSet, LeftOut, Listing, Stream, counts};
+use msc_reason::{LeftOut, Listing, Stream, counts};
 use std::alloc::{AllocError, Global};
 
 /// Adds the places of all races of a scenario. `places` has the places of its events.
@@ -137,24 +135,23 @@ fn see_counting(
     Ok(())
 }
 
-/// Adds the places of the races of a scenario that count, if some kinds are left out: otherwise all
-/// races count.
-fn see_some(
+/// Adds the places of the races of a scenario that count with `left` left out, if this is asked for.
+fn see_if(
     alloc: Global,
     reported: &mut ReportedRaces,
+    asked: bool,
     enforced: &Enforced<'_>,
-    allowed: KindSet,
+    left: LeftOut<'_>,
     places: &[EventPlace],
 ) -> Result<(), AllocError>
     requires { length places.now ≡ length enforced.now.chart.events }
-    ensures { (s : Scenario) → AreAllPlaces s places.now → is_empty allowed ≡ false
+    ensures { (s : Scenario) → AreAllPlaces s places.now → asked ≡ true
         → OnOk result (reported.new ≡ above_with s reported.old
-        (counting enforced.now (of_kinds allowed) (cause_in enforced.now))) }
+        (counting enforced.now left.entry (cause_in enforced.now))) }
 {
-    if allowed.is_empty() {
+    if !asked {
         return Ok(());
     }
-    let left = LeftOut::of_kinds(allowed);
     see_counting(alloc, reported, enforced, left, places)
 }
 
@@ -180,41 +177,67 @@ fn see_tally(
     tally.add_all(&own)
 }
 
-/// Adds the places of the races of a scenario: of all, of those that count if some kinds are left
-/// out, and of those that are listed. Counts the scenario for its places if the caller wants it.
+/// Adds the places of the races of a scenario: of all, of those of kinds that are not left out, and
+/// of those that count, as far as the check needs them. Counts the scenario for the places of the
+/// latter if the caller wants it.
+fn see_selected(
+    alloc: Global,
+    answer: &mut Answer,
+    check: ScenarioCheck<'_>,
+    tallies: bool,
+    enforced: &Enforced<'_>,
+    left: LeftOut<'_>,
+    places: &[EventPlace],
+) -> Result<(), AllocError>
+    requires { length places.now ≡ length enforced.now.chart.events }
+    ensures { (s : Scenario) → AreAllPlaces s places.now → OnOk result
+        (SeesSelected s check.entry tallies enforced.now left.entry answer.old answer.new) }
+{
+    let kinds = LeftOut::of_kinds(check.options.allowed);
+    let accepts = check.marks.is_some();
+    see_all(alloc, &mut answer.all, enforced, places)?;
+    see_if(
+        alloc,
+        &mut answer.named,
+        check.names(),
+        enforced,
+        kinds,
+        places,
+    )?;
+    see_if(alloc, &mut answer.counting, accepts, enforced, left, places)?;
+    see_tally(alloc, &mut answer.tally, tallies, enforced, left, places)?;
+    Ok(())
+}
+
+/// Adds the places of the races of a scenario, with those that are listed, and drops the marks that
+/// accept one.
 fn see_case(
     alloc: Global,
     answer: &mut Answer,
     scenario: &Scenario<'_>,
-    queues: Queues,
-    options: CheckOptions,
+    check: ScenarioCheck<'_>,
     tallies: bool,
 ) -> Result<(), AllocError>
-    ensures { OnOk result (SeesCase scenario.now queues options tallies answer.old answer.new) }
+    ensures { OnOk result (SeesCase scenario.now check.entry tallies answer.old answer.new) }
 {
     the_witness_reverses();
     short_witnesses_show();
-    let enforced = Enforced::of(alloc, &scenario.chart, queues)?;
+    let enforced = Enforced::of(alloc, &scenario.chart, check.queues)?;
     enforced.facts();
     let places = places_of(alloc, scenario)?;
-    see_all(alloc, &mut answer.all, &enforced, places.as_slice())?;
-    see_some(
+    let marked = marked_races(alloc, check, scenario, &enforced)?;
+    let left = left_out(check.options.allowed, marked.as_ref());
+    keep_idle(&mut answer.idle, check, marked.as_ref());
+    see_selected(
         alloc,
-        &mut answer.counting,
-        &enforced,
-        options.allowed,
-        places.as_slice(),
-    )?;
-    let left = LeftOut::of_kinds(options.allowed);
-    see_tally(
-        alloc,
-        &mut answer.tally,
+        answer,
+        check,
         tallies,
         &enforced,
         left,
         places.as_slice(),
     )?;
-    let listing = Listing::of(alloc, enforced, left, options.closest)?;
+    let listing = Listing::of(alloc, enforced, left, check.options.closest)?;
     see_listed(alloc, &mut answer.listed, &listing, places.as_slice())
 }
 
@@ -223,45 +246,46 @@ fn see_cases<S: Source>(
     alloc: Global,
     answer: &mut Answer,
     scenarios: &S,
-    queues: Queues,
-    options: CheckOptions,
+    check: ScenarioCheck<'_>,
     tallies: bool,
 ) -> Result<(), AllocError>
     ensures { OnOk result
-        (SeesCases (S.scenarios scenarios.now) queues options tallies answer.old answer.new) }
+        (SeesCases (S.scenarios scenarios.now) check.entry tallies answer.old answer.new) }
 {
     for i in 0..scenarios.len() {
         let scenario = scenarios.scenario(alloc, i)?;
-        see_case(alloc, answer, scenario.get(), queues, options, tallies)?;
+        see_case(alloc, answer, scenario.get(), check, tallies)?;
     }
     Ok(())
 }
 
-/// The numbers of places of races in these scenarios.
-pub(crate) fn count_places<S: Source>(
-    alloc: Global,
-    scenarios: &S,
-    queues: Queues,
-    options: CheckOptions,
-) -> Result<PlaceCounts, AllocError>
-    ensures { IfOk result (AreCountsOf (S.scenarios scenarios.now) queues options) }
-{
-    let mut answer = Answer::new(alloc);
-    see_cases(alloc, &mut answer, scenarios, queues, options, false)?;
-    Ok(answer.counts(options))
-}
-
-/// The places of the races of these scenarios, and in how many of them a race counts at each place.
+/// The places of the races of these scenarios, and the marks that accept none; and in how many
+/// scenarios a race counts at each place, if the caller wants it.
 pub(crate) fn answer_of<S: Source>(
     alloc: Global,
     scenarios: &S,
-    queues: Queues,
-    options: CheckOptions,
+    check: ScenarioCheck<'_>,
+    tallies: bool,
 ) -> Result<Answer, AllocError>
-    ensures { IfOk result (λ answer.
-        IsAnswerOf (S.scenarios scenarios.now) queues options answer) }
+    ensures { IfOk result (IsAnswerOf (S.scenarios scenarios.now) check.entry tallies) }
 {
-    let mut answer = Answer::new(alloc);
-    see_cases(alloc, &mut answer, scenarios, queues, options, true)?;
+    let mut answer = Answer::of(alloc, check)?;
+    see_cases(alloc, &mut answer, scenarios, check, tallies)?;
     Ok(answer)
+}
+
+/// The numbers of places of races in these scenarios, and the stale marks.
+pub(crate) fn count_places<S: Source>(
+    alloc: Global,
+    scenarios: &S,
+    check: ScenarioCheck<'_>,
+) -> Result<Above, AllocError>
+    ensures { IfOk result (λ above. AreCountsOf (S.scenarios scenarios.now) check.entry
+        above.counts above.stale.items) }
+{
+    let answer = answer_of(alloc, scenarios, check, false)?;
+    Ok(Above {
+        counts: answer.counts(check),
+        stale: answer.idle,
+    })
 }

@@ -1,12 +1,14 @@
-//! The lines of faults of imports.
+//! The lines of faults of imports, and of marks.
 
 ghost use Rattle.std.specs.Prelude.{[], ◌++◌, codes, OnOk};
 ghost use Rattle.std.specs.Io.KnownBytes.{Appends};
 ghost use Rattle.msc_import.specs.Importing.{seen};
-ghost use Rattle.msc_diagram.specs.Faults.{import_fault_line, import_line, import_refusal_line};
+ghost use Rattle.msc_diagram.specs.Faults.{accept_fault_line, import_fault_line, import_line};
+ghost use Rattle.msc_diagram.specs.Faults.{import_refusal_line};
 ghost use Rattle.msc_diagram.specs.Faults.{several_line};
 ghost use Rattle.msc_report.specs.Texts.{text_line};
 
+use msc_arrow_marks::Slip;
 use msc_import::Refused;
 use msc_mermaid::{Closer, Expectation, Head, ImportFault};
 use msc_place::Position;
@@ -170,4 +172,32 @@ pub fn write_import_fault<W: Write>(writer: &mut W, refused: &Refused) -> io::Re
         (import_refusal_line (seen refused.now))) }
 {
     write_named(writer, refused.fault, refused.name.as_slice())
+}
+
+/// Writes the line of a faulty mark, on a line of the text.
+pub fn write_accept_fault<W: Write>(writer: &mut W, slip: Slip, line: usize) -> io::Result<()>
+    ensures { OnOk result (Appends (W.contents writer.old) (W.contents writer.new)
+        (accept_fault_line slip line)) }
+{
+    match slip {
+        Slip::Part => {
+            writeln!(
+                writer,
+                "accept fault 1 at {line}: expected in, with or a reason"
+            )
+        }
+        Slip::Reason => writeln!(writer, "accept fault 2 at {line}: no reason"),
+        Slip::Label => {
+            writeln!(
+                writer,
+                "accept fault 3 at {line}: a mark stands in a line of its own"
+            )
+        }
+        Slip::Second => {
+            writeln!(
+                writer,
+                "accept fault 4 at {line}: a second mark for one arrow"
+            )
+        }
+    }
 }

@@ -29,12 +29,10 @@ use std::io::Write;
 /// What follows the closing line of a diagram.
 #[derive(Clone, Copy)]
 pub enum Following {
-    /// The help on marks, if races are listed.
+    /// The help on marks, if races are listed and no mark was met.
     Help,
     /// An empty line.
     Blank,
-    /// Nothing.
-    Nothing,
 }
 
 /// A diagram as its findings show it.

@@ -10,9 +10,9 @@ ghost use Rattle.msc_diagram.specs.Counts.{options_text, pass_line};
 ghost use Rattle.msc_diagram.specs.Scenarios.{choices_text, diagram_head, diagram_top};
 ghost use Rattle.msc_diagram.specs.Scenarios.{queues_of, scenario_head};
 
-use crate::numbers::{PlaceCounts, chooses};
+use crate::check::ScenarioCheck;
+use crate::numbers::PlaceCounts;
 use msc_chart::{Chart, Queues};
-use msc_judge::CheckOptions;
 use msc_report::{write_queues, write_queues_line};
 use std::io;
 use std::io::Write;
@@ -129,26 +129,27 @@ fn write_option<W: Write>(writer: &mut W, word: &str, number: Option<u32>) -> io
     }
 }
 
-/// Writes how many places are allowed, and how many are those of closest races, if options ask for
-/// it.
+/// Writes how many places are allowed, how many are accepted, and how many are those of closest
+/// races, if it is asked for.
 fn write_options<W: Write>(writer: &mut W, counts: PlaceCounts) -> io::Result<()>
     ensures { OnOk result (Appends (W.contents writer.old) (W.contents writer.new)
         (options_text counts)) }
 {
     write_option(writer, "allowed ", counts.allowed)?;
+    write_option(writer, "accepted ", counts.accepted)?;
     write_option(writer, "closest ", counts.closest)
 }
 
-/// Writes how many places there are, if options select races and there are some.
+/// Writes how many places there are, if options or marks select races and there are some.
 pub(crate) fn write_counts<W: Write>(
     writer: &mut W,
-    options: CheckOptions,
+    check: ScenarioCheck<'_>,
     counts: PlaceCounts,
 ) -> io::Result<()>
     ensures { OnOk result (Appends (W.contents writer.old) (W.contents writer.new)
-        (counts_text options counts)) }
+        (counts_text check.entry counts)) }
 {
-    if !chooses(options) || counts.races == 0 {
+    if !check.chooses() || counts.races == 0 {
         return Ok(());
     }
     write_number(writer, "races ", counts.races)?;
@@ -176,20 +177,44 @@ fn write_listed<W: Write>(writer: &mut W, listed: u32, passed: usize) -> io::Res
     writeln!(writer, "passed {passed}")
 }
 
-/// Writes the lines below all scenarios: that there are no races, or how many places are listed and
-/// how many scenarios pass.
+/// Writes that there are no races, what is left out, and the lines of stale marks.
+fn write_raceless<W: Write>(
+    writer: &mut W,
+    drawn: bool,
+    counts: PlaceCounts,
+    stale: &[u8],
+) -> io::Result<()>
+    ensures { OnOk result (Appends (W.contents writer.old) (W.contents writer.new)
+        ((pass_line drawn ++ options_text counts) ++ stale.now)) }
+{
+    write_pass(writer, drawn)?;
+    write_options(writer, counts)?;
+    writer.write_all(stale)
+}
+
+/// Writes the lines of stale marks, and then how many places are listed and how many scenarios pass.
+fn write_lists<W: Write>(writer: &mut W, stale: &[u8], listed: u32, passed: usize) -> io::Result<()>
+    ensures { OnOk result (Appends (W.contents writer.old) (W.contents writer.new)
+        (stale.now ++ (number_line (codes "listed ") listed ++ number_line (codes "passed ") passed))) }
+{
+    writer.write_all(stale)?;
+    write_listed(writer, listed, passed)
+}
+
+/// Writes the lines below all scenarios: that there are no races, and the lines of stale marks; or
+/// these, and then how many places are listed and how many scenarios pass.
 pub(crate) fn write_diagram_end<W: Write>(
     writer: &mut W,
     drawn: bool,
     counts: PlaceCounts,
+    stale: &[u8],
     passed: usize,
 ) -> io::Result<()>
     ensures { OnOk result (Appends (W.contents writer.old) (W.contents writer.new)
-        (diagram_end drawn counts passed)) }
+        (diagram_end drawn counts stale.now passed)) }
 {
     if counts.races == 0 {
-        write_pass(writer, drawn)?;
-        return write_options(writer, counts);
+        return write_raceless(writer, drawn, counts, stale);
     }
-    write_listed(writer, counts.listed, passed)
+    write_lists(writer, stale, counts.listed, passed)
 }

@@ -1,4 +1,5 @@
-//! Prints the races of a diagram's scenarios, each once, and the lines of faults of imports.
+//! Prints the races of a diagram's scenarios, each once, and the lines of faults of imports and of
+//! marks.
 //!
 //! # Choices
 //!
@@ -10,9 +11,9 @@
 //!   `races N` of a scenario counts pairs, as `check` of its chart does.
 //! - A place is allowed only if all its races are, in every scenario. So no filter hides a place
 //!   with a race that counts, and such a race is listed in the next scenario in which it counts.
-//! - With `--allow` or `--closest` the scenarios are judged twice: first for the numbers above
-//!   them, then for the list. Only places are kept in between, and a proof says that both find the
-//!   same.
+//! - With `--allow`, `--closest` or `--accept`, and always for people, the scenarios are judged
+//!   twice: first for the numbers above them and the stale marks, then for the list. Only places and
+//!   numbers of marks are kept in between, and a proof says that both find the same.
 //! - Which races of a scenario are new depends on the earlier ones, so they are made as a list
 //!   before they are printed. Their places are kept anyway, some 70 bytes for each.
 //! - A scenario and its chart are kept by the source, or made when it is printed and dropped before
@@ -27,6 +28,7 @@
 mod answer;
 mod arrows;
 mod cases;
+mod check;
 mod closing;
 mod counting;
 mod fault;
@@ -35,20 +37,24 @@ mod heads;
 mod judging;
 pub mod laws;
 mod lent;
+mod marked;
 mod numbers;
 mod passing;
 mod place;
 mod reported;
 mod scenario;
 mod source;
+mod stale;
 mod tally;
 mod telling;
 
 pub use arrows::{arrows_of, rounds_of};
-pub use fault::write_import_fault;
+pub use check::{ScenarioCheck, UsedMarks};
+pub use closing::has_marks;
+pub use fault::{write_accept_fault, write_import_fault};
 pub use full::{Following, FullDiagram};
 pub use heads::write_diagram_top;
-pub use judging::{DiagramFormat, DiagramStyle, judge_scenarios};
+pub use judging::{DiagramFormat, DiagramStyle, Judged, judge_scenarios};
 pub use lent::Lent;
 pub use passing::scenarios_pass;
 pub use scenario::Scenario;

@@ -1,9 +1,7 @@
 //! The numbers of places of races in a diagram.
 
 ghost use Rattle.std.specs.Prelude.{◌≡◌, unwrap_or};
-ghost use Rattle.msc_diagram.specs.Counts.{chooses, counts_of_all};
-
-use msc_judge::CheckOptions;
+ghost use Rattle.msc_diagram.specs.Counts.{counts_of_all};
 
 /// The numbers of places of races in a diagram, however many the list has.
 #[derive(Clone, Copy)]
@@ -13,6 +11,9 @@ pub(crate) struct PlaceCounts {
     /// The places at which all races of all scenarios are of kinds that are left out, if some kinds
     /// are.
     pub allowed: Option<u32>,
+    /// The other places at which no race counts in any scenario, since marks accept them, if marks
+    /// are used.
+    pub accepted: Option<u32>,
     /// The places of closest races, if only these are listed.
     pub closest: Option<u32>,
     /// The places that are listed.
@@ -29,15 +30,9 @@ pub(crate) fn counts_from(above: Option<PlaceCounts>, races: u32) -> PlaceCounts
         None => PlaceCounts {
             races,
             allowed: None,
+            accepted: None,
             closest: None,
             listed: races,
         },
     }
-}
-
-/// Whether options select races.
-pub(crate) fn chooses(options: CheckOptions) -> bool
-    ensures { result ≡ chooses options }
-{
-    options.closest || !options.allowed.is_empty()
 }

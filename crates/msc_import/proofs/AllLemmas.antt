@@ -16,7 +16,7 @@ use Rattle.msc_import.specs.Drawings.{list_of, refused_plans, scenarios_on, shar
 use Rattle.msc_import.specs.Importing.{seen, told_of, with_name, RefusesSo}
 use Rattle.msc_import.specs.declared.importing.Refused.{Refused}
 use Rattle.msc_import.specs.Plans.{Plan}
-use Rattle.msc_import.specs.Whole.{WantedAll, all_of, all_scenarios, draws_branches, AreChoices}
+use Rattle.msc_import.specs.Whole.{WantedAll, all_of, all_scenarios, draws_branches, refusing, wanted_choices, AreChoices}
 use Rattle.msc_import.proofs.WholeLemmas.{refused_so}
 
 module _ (own : Own) (d : Diagram) (given : List ℕ) (w : Walk) (is : w ≡ walked d given) where
@@ -41,17 +41,22 @@ module _ (x : WantedAll) (d : Diagram) where
   pub draws_none : x.manner.par ≡ pars.Refused → false ≡ draws_branches x d
   draws_none is = rw is refl
 
+  -- the same scenarios are wanted then
+  same_choices : wanted_choices (refusing x) d ≡ wanted_choices x d
+  unfolding wanted_choices
+  same_choices = refl
+
   module _ (lists : List (List ℕ)) (are : AreChoices x d lists) where
     -- else it is drawn so in some scenario
     pub draws_some : x.manner.par ≡ pars.Drawn → list_any (shares_line x.manner.own d) lists ≡ draws_branches x d
     unfolding all_scenarios
     draws_some is =
-        rw (is, are.few, ← are.all) (refused_so x.manner.own x.manner.par x.name d lists are.drawn)
+        rw (is, same_choices, are.wanted) (refused_so x.manner.own x.manner.par x.name d lists are.drawn)
 
     -- so all scenarios are those with these choices
     pub all_so : all_of x d ≡ Ok (record { name = chart_name x.name; list = list_of (scenarios_on x.manner x.name d [] lists); drawn = draws_branches x d })
     unfolding all_of all_scenarios
-    all_so = rw (are.few, ← are.all, drawn_all (scenarios_on x.manner x.name d [] lists) are.drawn) refl
+    all_so = rw (are.wanted, drawn_all (scenarios_on x.manner x.name d [] lists) are.drawn) refl
 
   -- a fault of the scenarios is told with the line that it speaks of
   pub told_not : (e : Refused) (fault : ImportFault) → (e.fault ≡ Memory) ⊎ (seen e ≡ with_name d.lines fault)

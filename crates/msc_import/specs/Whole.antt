@@ -1,5 +1,6 @@
--- All scenarios of a text, each with its draft and the places of its events, or why there are none.
-use Rattle.std.specs.Prelude.{◌≡◌, ℕ, Bool, true, false, not, ◌&&◌, cond, nat_lt, List, [], Option, Result, Ok, Err, is_ok}
+-- All scenarios of a text, or one of them, each with its draft and the places of its events, or why
+-- there are none.
+use Rattle.std.specs.Prelude.{◌≡◌, ℕ, Bool, true, false, not, ◌&&◌, cond, nat_lt, List, [], ◌∷◌, Option, None, Some, Result, Ok, Err, is_ok, option_map}
 use Rattle.msc_mermaid.specs.declared.fault.ImportFault.{ImportFault}
 use Rattle.msc_mermaid.specs.declared.fault.ImportFault.TheVariants.{TooManyScenarios}
 use Rattle.msc_import.specs.declared.importing.DiagramReading.{DiagramReading}
@@ -23,7 +24,7 @@ use Rattle.msc_import.specs.Importing.{Refusal, answered, diagram_from, found_as
 
 -- what is wanted of a text: in which language it is, of Markdown which diagram, what arrows with a cross
 -- are, how scenarios are drawn, the numbers of rounds that each loop goes, the most scenarios that there may
--- be, and what the name of the charts is made of
+-- be, the choices of the only scenario, if one alone is wanted, and what the name of the charts is made of
 pub record WantedAll : Type 0 where
   pub language : Language
   pub fence : Option ℕ
@@ -31,6 +32,7 @@ pub record WantedAll : Type 0 where
   pub manner : Manner
   pub rounds : List ℕ
   pub limit : ℕ
+  pub choose : Option (List ℕ)
   pub name : List ℕ
 
 -- the same as the code has it
@@ -42,13 +44,26 @@ wanted_all x = record {
   manner = x.manner;
   rounds = x.rounds.now;
   limit = x.limit;
+  choose = option_map (λ c. c.now) x.choose;
   name = x.name.now;
 }
 
--- all scenarios of a diagram, in the order of their choices, where there are no more than there may be
+-- the choices of all scenarios of a diagram, if there are no more than so many
+unfoldable pub choices_within : List ℕ → ℕ → Diagram → Result (List (List ℕ)) ImportFault
+choices_within rounds limit d =
+    cond (nat_lt limit (scenarios rounds d)) (Err (TooManyScenarios limit)) (Ok (all_choices rounds d))
+
+-- the choices of the scenarios that are wanted: of the one with these choices, or of all
+abbrev pub choices_by : Option (List ℕ) → List ℕ → ℕ → Diagram → Result (List (List ℕ)) ImportFault
+choices_by None rounds limit d = choices_within rounds limit d
+choices_by (Some given) rounds limit d = Ok (given ∷ [])
+
+unfoldable pub wanted_choices : WantedAll → Diagram → Result (List (List ℕ)) ImportFault
+wanted_choices x d = choices_by x.choose x.rounds x.limit d
+
+-- the scenarios of a diagram that are wanted, in the order of their choices
 unfoldable pub all_scenarios : WantedAll → Diagram → Result (List Scenario) ImportFault
-all_scenarios x d =
-    cond (nat_lt x.limit (scenarios x.rounds d)) (Err (TooManyScenarios x.limit)) (scenarios_on x.manner x.name d [] (all_choices x.rounds d))
+all_scenarios x d = wanted_choices x d >>= scenarios_on x.manner x.name d []
 
 -- the same is wanted, but parallel branches are refused that would be drawn one below the other
 abbrev pub refusing : WantedAll → WantedAll
@@ -59,6 +74,7 @@ refusing x = record {
   manner = record { own = x.manner.own; par = pars.Refused };
   rounds = x.rounds;
   limit = x.limit;
+  choose = x.choose;
   name = x.name;
 }
 
@@ -77,10 +93,9 @@ all_of x d = do
   found ← all_scenarios x d
   Ok (record { name = chart_name x.name; list = found; drawn = draws_branches x d })
 
--- the choices of all scenarios of a diagram: there are no more than there may be, and each has a draft
+-- the choices of the scenarios of a diagram that are wanted: each has a draft
 pub record AreChoices (x : WantedAll) (d : Diagram) (lists : List (List ℕ)) : Type 0 where
-  pub few : nat_lt x.limit (scenarios x.rounds d) ≡ false
-  pub all : lists ≡ all_choices x.rounds d
+  pub wanted : wanted_choices x d ≡ Ok lists
   pub drawn : AreDrawn (scenarios_on x.manner x.name d [] lists)
 
 -- the same of the choices that were tried, and the first scenarios

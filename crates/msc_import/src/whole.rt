@@ -1,10 +1,11 @@
-//! All scenarios of a diagram. Whether each has a draft is checked first, and the first are kept.
+//! All scenarios of a diagram, or one of them. Whether each has a draft is checked first, and the
+//! first are kept.
 
-ghost use Rattle.std.specs.Prelude.{◌≡◌, IfErr, IfOk, Ok};
-ghost use Rattle.msc_mermaid.specs.Gives.{Fails};
+ghost use Rattle.std.specs.Prelude.{◌≡◌, ◌∷◌, [], IfErr, IfOk, Ok};
+ghost use Rattle.msc_mermaid.specs.Gives.{Fails, Gives};
 ghost use Rattle.msc_import.specs.Importing.{told_of, Imports};
-ghost use Rattle.msc_import.specs.Whole.{all_of, all_scenarios, draws_branches};
-ghost use Rattle.msc_import.specs.Whole.{reading_of_all, wanted_all};
+ghost use Rattle.msc_import.specs.Whole.{all_of, all_scenarios, choices_within, draws_branches};
+ghost use Rattle.msc_import.specs.Whole.{reading_of_all, wanted_all, wanted_choices};
 ghost use Rattle.msc_import.specs.Whole.{AreChoices, IsTried};
 
 use crate::drawing::chart_name;
@@ -17,7 +18,7 @@ use msc_parser::Name;
 use msc_scenarios::{all_choices, scenarios};
 use std::alloc::{AllocError, Global};
 
-/// The import of all scenarios of a text, and its options.
+/// The import of all scenarios of a text, or of one of them, and its options.
 #[derive(Clone, Copy)]
 pub struct ImportingAll<'r, 'n> {
     pub language: Language,
@@ -31,6 +32,9 @@ pub struct ImportingAll<'r, 'n> {
     /// The greatest number of scenarios: 1 to [`SCENARIO_LIMIT`](crate::SCENARIO_LIMIT), since no
     /// more are counted.
     pub limit: usize,
+    /// The choices of the only scenario that is wanted, as in [`Importing`](crate::Importing);
+    /// without them, all are. With them, the rounds and the limit count for nothing.
+    pub choose: Option<&'r [usize]>,
     /// The bytes from which the name of all charts is made.
     pub name: &'n [u8],
 }
@@ -44,16 +48,63 @@ pub struct Scenarios<'n> {
     pub drawn: bool,
 }
 
-/// The choices of all scenarios of a diagram, each of which has a draft, and the first scenarios.
+/// The choices of the wanted scenarios of a diagram, each of which has a draft, and the first of
+/// these.
 #[derive(Drop)]
 struct Tried {
     lists: Vec<Listed<usize>>,
     first: Vec<Scenario>,
 }
 
-/// The choices of all scenarios of a diagram, and the first scenarios. An error is that there are
-/// more than the limit; the first fault of the first scenario that has one; or a growth of memory
-/// that was refused.
+/// The choices of all scenarios of a diagram. An error is that there are more than the limit, or a
+/// growth of memory that was refused.
+#[tactic(auto, unfolding(crate::specs::Whole::choices_within))]
+fn choices_within(
+    alloc: Global,
+    rounds: &[usize],
+    limit: usize,
+    diagram: &Diagram,
+) -> Result<Vec<Listed<usize>>, ImportFault>
+    ensures { Gives (λ lists. lists.items) result (choices_within rounds.now limit diagram.now) }
+{
+    if scenarios(alloc, diagram, rounds)? > limit {
+        return Err(ImportFault::TooManyScenarios(limit));
+    }
+    let lists = all_choices(alloc, diagram, rounds)?;
+    Ok(lists)
+}
+
+/// These choices alone.
+fn only_choices(alloc: Global, given: &[usize]) -> Result<Vec<Listed<usize>>, AllocError>
+    ensures { IfOk result (λ lists. lists.items ≡ given.now ∷ []) }
+{
+    let mut lists = Vec::new(alloc);
+    lists.push(Listed::from_vec(Vec::from_slice(alloc, given)?))?;
+    Ok(lists)
+}
+
+/// The choices of the scenarios of a diagram that are wanted: of the one that is given, or of all.
+#[tactic(auto, unfolding(crate::specs::Whole::wanted_choices))]
+fn wanted_choices(
+    alloc: Global,
+    importing: ImportingAll<'_, '_>,
+    diagram: &Diagram,
+) -> Result<Vec<Listed<usize>>, ImportFault>
+    ensures { Gives (λ lists. lists.items) result
+        (wanted_choices (wanted_all importing.entry) diagram.now) }
+{
+    match importing.choose {
+        Some(given) => {
+            let lists = only_choices(alloc, given)?;
+            Ok(lists)
+        }
+        None => choices_within(alloc, importing.rounds, importing.limit, diagram),
+    }
+}
+
+/// The choices of the wanted scenarios of a diagram, and the first of these. An error is that there
+/// are more than the limit; the first fault of the first scenario that has one; or a growth of
+/// memory that was refused.
 #[tactic(auto, unfolding(crate::specs::Whole::all_scenarios))]
 fn try_scenarios(
     alloc: Global,
@@ -64,17 +115,8 @@ fn try_scenarios(
     ensures err { IfErr result
         (λ fault. Fails fault (all_scenarios (wanted_all importing.entry) diagram.now)) }
 {
-    let ImportingAll {
-        manner,
-        name,
-        rounds,
-        limit,
-        ..
-    } = importing;
-    if scenarios(alloc, diagram, rounds)? > limit {
-        return Err(ImportFault::TooManyScenarios(limit));
-    }
-    let lists = all_choices(alloc, diagram, rounds)?;
+    let ImportingAll { manner, name, .. } = importing;
+    let lists = wanted_choices(alloc, importing, diagram)?;
     let first = draw_first(alloc, manner, name, diagram, lists.as_slice())?;
     try_others(
         alloc,
@@ -126,10 +168,10 @@ fn all_of<'n>(
     Ok(Scenarios { name, list, drawn })
 }
 
-/// All scenarios of a diagram, each once, in the order of their choices. Of `importing`, only the
-/// manner, the rounds, the limit and the name count. An error is that the diagram has more scenarios
-/// than the limit; the first fault of the first scenario that has one; or a growth of memory that
-/// was refused.
+/// All scenarios of a diagram, each once, in the order of their choices; or the one that is chosen.
+/// Of `importing`, only the manner, the rounds, the limit, the chosen scenario and the name count. An
+/// error is that the diagram has more scenarios than the limit; the first fault of the first
+/// scenario that has one; or a growth of memory that was refused.
 pub fn draw_all<'n>(
     alloc: Global,
     importing: ImportingAll<'_, 'n>,

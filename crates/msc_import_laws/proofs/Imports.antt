@@ -1,6 +1,6 @@
 -- What is imported of a text is a scenario of it; so it is a chart, the text is a run, and all
 -- order goes down.
-use Rattle.std.proofs.Common.{◌≡◌, ℕ, zero, suc, ◌/◌, ◌<◌, ◌≤◌, Bool, true, false, cond, nat_lt, sym, arith, inl, inr, List, [], ◌∷◌, ◌++◌, Option, Result, Ok, Err, refl, ap, subst, ◌∙◌}
+use Rattle.std.proofs.Common.{◌≡◌, ℕ, zero, suc, ◌/◌, ◌<◌, ◌≤◌, sym, arith, inl, inr, List, [], ◌∷◌, ◌++◌, Option, Result, Ok, Err, refl, ap, subst, ◌∙◌}
 use Rattle.msc_parser.specs.Grammar.{Tree}
 use Rattle.msc_chart.specs.declared.queue.Queues.{Queues}
 use Rattle.msc_chart.specs.Charts.{Visual}
@@ -10,14 +10,11 @@ use Rattle.msc_chart.specs.Lists.{Occurs, StandsAt}
 use Rattle.msc_chart.specs.Orders.{Enforced, IsWired, wired}
 use Rattle.msc_chart.proofs.DraftEvents.{joined}
 use Rattle.msc_mermaid.specs.declared.fault.ImportFault.{ImportFault}
-use Rattle.msc_mermaid.specs.declared.fault.ImportFault.TheVariants.{TooManyScenarios}
 use Rattle.msc_import.specs.declared.importing.Imported.{Imported}
 use Rattle.msc_import.specs.declared.plan.Manner.{Manner}
 use Rattle.msc_mermaid.specs.declared.statement.Diagram.{Diagram}
 use Rattle.msc_import.specs.declared.drawings.Scenario.{Scenario}
 use Rattle.msc_import.specs.declared.whole.Scenarios.{Scenarios}
-use Rattle.msc_scenarios.specs.Choosing.{all_choices}
-use Rattle.msc_scenarios.specs.Counting.{scenarios}
 use Rattle.msc_import.specs.Drafting.{drawn}
 use Rattle.msc_import.specs.declared.importing.Language.{Language}
 use Rattle.msc_mermaid.specs.declared.statement.Cross.{Cross}
@@ -30,7 +27,7 @@ use Rattle.msc_place.specs.declared.position.Position.{Position}
 use Rattle.msc_scenarios.specs.Laws.{walked}
 use Rattle.msc_scenarios.specs.Naming.{names_behind}
 use Rattle.msc_import.specs.Drawings.{scenario_with, scenarios_on}
-use Rattle.msc_import.specs.Whole.{WantedAll, all_of, all_scenarios, imported_all, imported_all_from}
+use Rattle.msc_import.specs.Whole.{WantedAll, all_of, all_scenarios, imported_all, imported_all_from, wanted_choices}
 use Rattle.msc_import_laws.specs.Apart.{IsDrawnDown}
 use Rattle.msc_import_laws.specs.Drawn.{heights_in}
 use Rattle.msc_import_laws.specs.Ends.{IsEndOfItsArrow}
@@ -117,15 +114,11 @@ all_scenario x text all s e o =
     let d : Diagram = a.0 in
     let b = bound (all_scenarios x d) _ all a.2 in
     let list : b.0 ≡ all.list = cc in
-    let made : scenarios_on x.manner x.name d [] (all_choices x.rounds d) ≡ Ok b.0 = few_enough (nat_lt x.limit (scenarios x.rounds d)) (TooManyScenarios x.limit) (scenarios_on x.manner x.name d [] (all_choices x.rounds d)) b.0 b.1 in
-    (d, record { name = x.name; diagram = diagram_found x.language x.cross x.fence text h.0 d h.1 a.1; scenario = each_scenario x.manner x.name d [] (all_choices x.rounds d) b.0 s (λ t k. absurd (none t k)) made (subst (λ l. Occurs l s) (sym list) o) })
+    let lists = bound (wanted_choices x d) (scenarios_on x.manner x.name d []) b.0 b.1 in
+    (d, record { name = x.name; diagram = diagram_found x.language x.cross x.fence text h.0 d h.1 a.1; scenario = each_scenario x.manner x.name d [] lists.0 b.0 s (λ t k. absurd (none t k)) lists.2 (subst (λ l. Occurs l s) (sym list) o) })
   where
     none : (t : Scenario) → Occurs [] t → ⊥
     none t (j, h) = cc
-
-    few_enough : (many : Bool) (f : ImportFault) (r : Result (List Scenario) ImportFault) (y : List Scenario) → cond many (Err f) r ≡ Ok y → r ≡ Ok y
-    few_enough true f r y e = cc
-    few_enough false f r y e = e
 
 module _ (how : Reading) (manner : Manner) (text : List ℕ) (d : Diagram) (given : List ℕ) (draft : Tree) (is : IsScenarioOf how manner text d given draft) where
   pub scenario_drawn : IsDrawnDown (heights_in manner d given) draft

@@ -31,3 +31,8 @@ pub record IsScenarioText (l : LentDiagram) (s : ScenarioEvents) (colours : Bool
   pub names : x.names.now ≡ l.names.items
   pub events : x.events.now ≡ s.events.items
   pub colours_are : x.colours ≡ colours
+
+-- this is the text without events
+pub record IsTextAlone (l : LentDiagram) (colours : Bool) (x : ShownText) : Type 0 where
+  pub source : x.source.now ≡ l.source
+  pub colours_are : x.colours ≡ colours

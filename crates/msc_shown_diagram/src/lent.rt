@@ -1,7 +1,8 @@
 //! The words of a diagram, lent to the findings of a scenario.
 
 ghost use Rattle.std.specs.Prelude.{◌≡◌, IfOk};
-ghost use Rattle.msc_shown_diagram.specs.Diagrams.{AreScenarioEvents, IsScenarioText, Lends};
+ghost use Rattle.msc_shown_diagram.specs.Diagrams.{AreScenarioEvents, IsScenarioText, IsTextAlone};
+ghost use Rattle.msc_shown_diagram.specs.Diagrams.{Lends};
 
 use crate::words::DiagramWords;
 use listed::Listed;
@@ -72,6 +73,18 @@ impl<'w> LentDiagram<'w> {
             source: &self.source,
             names: self.names.as_slice(),
             events: scenario.events.as_slice(),
+            colours,
+        }
+    }
+
+    /// The text without events, with or without colours.
+    pub fn text_alone(&self, colours: bool) -> ShownText<'_, 'w>
+        ensures { IsTextAlone self.entry.now colours result }
+    {
+        ShownText {
+            source: &self.source,
+            names: &[],
+            events: &[],
             colours,
         }
     }

@@ -32,6 +32,6 @@ def compare(trial):
                 pathlib.Path(folder, file).write_bytes(text)
             wanted = diagram_check_answer(text, words, file, True)
             trial.compare(["check", *words, file], text, wanted, cwd=folder)
-            found = re.match(rb"(import|link) fault \d+", wanted.error)
+            found = re.match(rb"(accept|import|link) fault \d+", wanted.error)
             trial.noted[found[0].decode() if found else ("pass", "races")[wanted.status]] += 1
             trial.noted["races told"] += len(re.findall(rb"^race ", wanted.output, re.M))

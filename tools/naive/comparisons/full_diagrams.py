@@ -1,5 +1,5 @@
 """What `msc check --from` prints of random diagrams with `--format full`, and what `msc import` makes
-of their marks. The program does not have `--accept` and `--choose` of diagrams yet.
+of their marks.
 """
 import pathlib
 import re

@@ -2,23 +2,22 @@
 and wrong words.
 """
 from generators import diagrams
+from generators.diagram_marks import with_marks
 from generators.diagrams import NAMES, in_markdown, items
 from generators.links import some_words, with_comments
 from models.chart import QUEUES
 from models.races import KINDS
 
-FLAGS = ("--closest", "--why", "--words", "--short", "--places")
+FLAGS = ("--closest", "--why", "--words", "--short", "--places", "--accept")
 FILES = ["t.mmd", "a b.x.mmd", ".mmd", "in", "t\x01\x7f.md"]
 # options that are of diagrams alone, with a value each
-OF_DIAGRAMS = ("--rounds=1", "--limit=2", "--fence=1", "--name=t", "--self=action", "--cross=lost",
-               "--par=drawn")
+OF_DIAGRAMS = ("--choose=0", "--rounds=1", "--limit=2", "--fence=1", "--name=t", "--self=action",
+               "--cross=lost", "--par=drawn")
 
 
 def wrong_words():
     """Words that are refused, and what is said of them."""
-    excluded = "the argument '--from <mermaid|any>' cannot be used with '--{}'"
-    for option in ("accept", "again"):
-        yield ["--from=any", f"--{option}"], excluded.format(option)
+    yield ["--from=any", "--again"], "the argument '--from <mermaid|any>' cannot be used with '--again'"
     lacking = "the following required arguments were not provided:\n  --from <mermaid|any>"
     yield from (([option], lacking) for option in OF_DIAGRAMS)
     yield from (([*OF_DIAGRAMS, option], lacking) for option in ("--accept", "--again"))
@@ -26,6 +25,10 @@ def wrong_words():
         told = "expected numbers up to 1024 with commas"
         said = f"invalid value '{rounds}' for '--rounds <R,R..>': {told}"
         yield ["--from=any", f"--rounds={rounds}"], said
+    for choices in ("x", "", "0,", "-1", "mains"):
+        told = "expected main, or numbers with commas"
+        yield (["--from=any", f"--choose={choices}"],
+               f"invalid value '{choices}' for '--choose <C>': {told}")
     for limit in (0, 4097, 4294967295):
         said = f"invalid value '{limit}' for '--limit <N>': {limit} is not in 1..=4096"
         yield ["--from=mermaid", f"--limit={limit}"], said
@@ -56,6 +59,7 @@ def words_of(pick):
         ("--name", 0.3, ["t", "a b", "", "in"]), ("--par", 0.5, ["drawn"]),
         ("--self", 0.4, ["action", "message"]), ("--cross", 0.4, ["lost", "arrives"]),
         ("--allow", 0.2, KINDS), ("--allow", 0.2, KINDS),
+        ("--choose", 0.15, ["main", "0", "1", "0,1", "1,0", "2", "02,1,1", "4294967295"]),
     ):
         if pick.random() < share:
             words += [option, str(pick.choice(values))]
@@ -94,6 +98,7 @@ def at_the_limits():
 def one(pick, is_uniform=False):
     """A random text, and random options."""
     text, words = text_of(pick), words_of(pick)
+    text = with_marks(pick, text) if pick.random() < 0.4 else text
     if not is_uniform:
         text = with_comments(pick, text)
         words = some_words(pick, text, words)

@@ -7,12 +7,12 @@
                                    [--self action|message] [--cross lost|arrives] [--par drawn]
                                    [--fence N] [--accept] [--choose C] [--color always|never] FILE
 
-prints what `msc check --from` prints, and what it is to print with --accept and --choose, which the
-program does not have yet: the scenarios, and their races, each by its two arrows once; or on
-standard error the line of the first fault, and with `--format lines` on standard output too. With
-`--format full` all is told on standard output, as full_diagrams.py has it. The scenarios are those of courses.py, their races and what is told of them those of chart.py
-and races.py, and marks those of diagram_marks.py. It shares nothing with the crates. The exit
-status is 0, 1 if a race or a stale mark is listed, or 2 if a diagram is refused.
+prints what `msc check --from` prints: the scenarios, and their races, each by its two arrows once;
+or on standard error the line of the first fault, and with `--format lines` on standard output too.
+With `--format full` all is told on standard output, as full_diagrams.py has it. The scenarios are
+those of courses.py, their races and what is told of them those of chart.py and races.py, and marks
+those of diagram_marks.py. It shares nothing with the crates. The exit status is 0, 1 if a race or a
+stale mark is listed, or 2 if a diagram is refused.
 """
 import pathlib
 import sys
@@ -38,9 +38,10 @@ class Scenario:
     """A scenario as a chart under an architecture, with its races, the places of its events, and
     the marks that accept races."""
 
-    def __init__(self, course, queues, file, marks=()):
+    def __init__(self, course, queues, file, choices=None, marks=()):
         self.course, self.events, self.marks = course, list(course.events()), marks
-        self.choices, self.is_stacked = course.taken, course.is_stacked
+        self.choices = course.taken if choices is None else choices
+        self.is_stacked = course.is_stacked
         self.drawn = Chart(course.text("t"), queues)
         self.races = self.drawn.races()
         places = [event.arrow.place for _, event in self.events]
@@ -77,7 +78,8 @@ class Verdict:
             raise fault
         self.names = [name.decode() for name in diagram.names.names]
         own = [mark for mark in self.marks if mark.is_for(self.queues.usual)]
-        self.every = [Scenario(course, self.queues, file, own) for course in courses]
+        given = None if options.choose is None else choices_of(options.choose)
+        self.every = [Scenario(it, self.queues, file, given, own) for it in courses]
         self.allow, self.is_closest = options.allow, options.closest
         self.places = {it.ends(race) for it in self.every for race in it.races}
         self.listed = self.first_races(options.closest)

@@ -15,6 +15,6 @@ returns-in-None g c =
 pub returns-in-Some : goal.returns-in-Some
 returns-in-Some g c =
     let contents = g.O.Write.contents in let x = c.args.words in let file = c.args.request.file.now in let f = c.in-Some.found in
-    let said = subst (λ (t : List ℕ). AnswersWith contents (Surveys x file t f.numbers false Done) (BeginsSurvey x file t f.numbers) (λ r. ⊥) c.survey.result c.args.output.now c.survey.new.output)
+    let said = subst (λ (t : List ℕ). AnswersWith contents (Surveys x file t f.numbers false false Done) (BeginsSurvey x file t f.numbers) (λ r. ⊥) c.survey.result c.args.output.now c.survey.new.output)
     (many_text x c.args.text.now f (sym c.in-Some.is ∙ c.in_ok-blocks.ensures)) c.survey.ensures in
     diagrams_so contents x file c.args.text.now (Some f) (sym c.in-Some.is ∙ c.in_ok-blocks.ensures) c.survey.result c.args.output.now c.survey.new.output said

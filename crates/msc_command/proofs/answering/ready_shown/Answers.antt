@@ -1,5 +1,4 @@
 use Rattle.std.proofs.Common.{refl}
-use Rattle.msc_command.specs.Formats.{IsFullScenario}
 use Rattle.msc_command.proofs.answering.ready_shown.Goals as goal
 
 pub returns : goal.returns

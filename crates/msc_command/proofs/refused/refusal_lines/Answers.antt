@@ -1,5 +1,8 @@
-use Rattle.std.proofs.Common.{None, refl}
+use Rattle.std.proofs.Common.{ℕ, List, [], ◌++◌, None, refl, sym, ap, ◌∙◌}
+use Rattle.std.proofs.lemmas.List.{append-nil}
 use Rattle.std.proofs.lemmas.Result.{IfOk-weaker}
+use Rattle.msc_notes.specs.Texts.{error_text}
+use Rattle.msc_command.specs.Ending.{refusal_line}
 use Rattle.msc_command.proofs.BareLines.{bare_text, stands_as}
 use Rattle.msc_command.proofs.refused.refusal_lines.Goals as goal
 
@@ -23,7 +26,13 @@ returns-in-Instance c =
 
 pub returns-in-Link : goal.returns-in-Link
 returns-in-Link c =
-    rw c.in-Link.is (IfOk-weaker c.link_lines.result _ _ (λ page told. told c.args.text.now) c.link_lines.ensures)
+    let position = c.link_position.result in
+    IfOk-weaker c.placed_lines-in-Link.result _ _ (λ page told. record {
+      position = position;
+      stands = rw c.in-Link.is c.link_position.ensures;
+      more = [];
+      printed_is = told ∙ ap (λ (t : List ℕ). error_text c.args.file.now position ++ t) (sym (append-nil (refusal_line c.args.refusal)));
+    }) c.placed_lines-in-Link.ensures
 
 pub returns-in-Rounds : goal.returns-in-Rounds
 returns-in-Rounds c =

@@ -1,7 +1,8 @@
-use Rattle.std.proofs.Common.{ℕ, Option, ◌∙◌, ap, refl}
+use Rattle.std.proofs.Common.{ℕ, Option, ◌∙◌, ap, refl, subst, sym}
 use Rattle.std.proofs.lemmas.Result.{err_from_is_err_and}
 use Rattle.msc_diagram.specs.declared.full.Following.TheVariants.{Help}
-use Rattle.msc_command.proofs.Surveyed.{all_charts, drawn_so, none_drawn, none_linked, none_read, told_by}
+use Rattle.msc_command.proofs.Surveyed.{all_charts, drawn_so, none_drawn, none_linked, none_marked, none_read, told_by}
+use Rattle.msc_command.specs.ArrowMarks.{AreArrowMarks}
 use Rattle.msc_command.specs.Scenarios.{BeginsAll, BeginsScenarios, IsToldOf, PrintsAll, PrintsScenarios}
 use Rattle.msc_command.specs.ShownDiagrams.{line_in}
 use Rattle.msc_command.specs.declared.tasks.ScenarioArgs.{ScenarioArgs}
@@ -33,6 +34,14 @@ returns-in_err-linked g c =
     rw (p.1, p.2) (none_linked g.O.Write.contents (PrintsScenarios c.args.words c.args.file.now c.args.text.now) (BeginsScenarios c.args.words c.args.file.now c.args.text.now)
     c.args.words c.args.text.now c.args.output.now c.in_ok-all.all (c.in_ok-all.ensures c.args.text.now c.args.words.diagram.fence c.in_ok-diagram.ensures) _ c.in_err-linked.ensures)
 
+pub returns-in_err-marks : goal.returns-in_err-marks
+returns-in_err-marks g c =
+    let p = err_from_is_err_and c.from_residual-in_err-marks.result c.from_residual-in_err-marks.ensures.1 in
+    let x = c.args.words in let text = c.args.text.now in let linked = c.in_ok-linked.ensures in
+    rw (p.1, p.2) (none_marked g.O.Write.contents (PrintsScenarios x c.args.file.now text) (BeginsScenarios x c.args.file.now text)
+    x text c.args.output.now c.in_ok-all.all (c.in_ok-all.ensures text x.diagram.fence c.in_ok-diagram.ensures) linked.0 linked.1
+    c.in_ok-diagram.diagram c.in_ok-diagram.ensures _ c.in_err-marks.ensures)
+
 pub returns : goal.returns
 returns g c =
     let x = c.args.words in let file = c.args.file.now in let text = c.args.text.now in let all = c.in_ok-all.all in
@@ -50,5 +59,7 @@ returns g c =
       name_is = c.as_slice.ensures;
       counted_is = c.as_bytes.ensures.value;
       drawn_is = drawn_so x text all is;
+      marks_are = subst (AreArrowMarks x.check_args.accept text c.in_ok-diagram.diagram) (sym c.as_ref.ensures.value) c.in_ok-marks.ensures;
+      chosen_is = c.is_some.ensures;
       following_is = refl;
     })

@@ -1,3 +1,4 @@
+use Rattle.std.proofs.Common.{refl}
 use Rattle.msc_command.proofs.Answered.{refused_so}
 use Rattle.msc_command.specs.Scenarios.{BeginsAll, PrintsAll, PrintsCounted}
 use Rattle.msc_command.proofs.scenarios.tell_all.Goals as goal
@@ -5,7 +6,7 @@ use Rattle.msc_command.proofs.scenarios.tell_all.Goals as goal
 pub returns-in-Ok : goal.returns-in-Ok
 returns-in-Ok g c =
     let said = c.in-Ok.ensures in
-    (said.0, (c.in-Ok.one.listed, said.1), said.2)
+    (said.0, (c.in-Ok.one, refl, said.1), said.2)
 
 pub returns-in-Err : goal.returns-in-Err
 returns-in-Err g c =

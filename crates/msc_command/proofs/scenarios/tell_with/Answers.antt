@@ -1,12 +1,11 @@
 use Rattle.std.proofs.Common.{[], refl}
 use Rattle.msc_command.proofs.Surveyed.{full_is, told_in}
-use Rattle.msc_command.specs.ShownDiagrams.{IsFullDiagram}
 use Rattle.msc_command.proofs.scenarios.tell_with.Goals as goal
 
 pub returns : goal.returns
 returns g c =
     let k = c.args.check_args in let t = c.args.told in let ss = c.args.scenarios.now in let s = c.args.first.now in
-    told_in g.O.Write.contents k t ss _
+    told_in g.O.Write.contents k t c.args.marks ss c.check_of-check.result c.check_of-check.ensures _
     (full_is k t ss s c.requires.first c.requires.format _ (record {
       words = c.args.shown.now;
       are = c.requires.shown;

@@ -1,7 +1,8 @@
-use Rattle.std.proofs.Common.{◌≡◌, ◌∙◌, Some, ap, refl, sym}
+use Rattle.std.proofs.Common.{◌≡◌, ◌∙◌, ℕ, List, Some, Ok, Err, ap, refl, subst, sym}
 use Rattle.std.proofs.lemmas.Result.{err_from_is_err_and}
 use Rattle.msc_diagram.specs.declared.full.Following.TheVariants.{Blank}
-use Rattle.msc_command.proofs.Surveyed.{all_charts, drawn_so, none_drawn, none_linked_in, none_read, told_by}
+use Rattle.msc_command.proofs.Surveyed.{all_charts, drawn_so, none_drawn, none_linked_in, none_marked, none_read, told_by}
+use Rattle.msc_command.specs.ArrowMarks.{AreArrowMarks, ReadsArrowMarks}
 use Rattle.msc_command.specs.Scenarios.{BeginsAll, IsToldOf, PrintsCounted}
 use Rattle.msc_command.specs.ShownDiagrams.{line_by, line_in}
 use Rattle.msc_command.specs.declared.tasks.ScenarioArgs.{ScenarioArgs}
@@ -35,6 +36,16 @@ returns-in_err-linked g c =
     rw (p.1, p.2) (none_linked_in g.O.Write.contents (PrintsBlock x file text n) (BeginsBlock x file text n)
     (at_block x n) text c.args.output.now c.in_ok-all.all (c.in_ok-all.ensures text (Some n) c.in_ok-diagram.ensures) _ c.text.ensures _ c.in_err-linked.ensures)
 
+pub returns-in_err-marks : goal.returns-in_err-marks
+returns-in_err-marks g c =
+    let p = err_from_is_err_and c.from_residual-in_err-marks.result c.from_residual-in_err-marks.ensures.1 in
+    let x = c.args.words in let n = c.args.number in let file = c.args.file.now in let text = c.args.found.now.text in
+    let linked = rw c.text.ensures at c.in_ok-linked.ensures in
+    let read = subst (λ (t : List ℕ). ReadsArrowMarks x.check_args.accept t c.in_ok-diagram.diagram (Err c.in_err-marks.field-0.0)) c.text-2.ensures c.in_err-marks.ensures in
+    rw (p.1, p.2) (none_marked g.O.Write.contents (PrintsBlock x file text n) (BeginsBlock x file text n)
+    (at_block x n) text c.args.output.now c.in_ok-all.all (c.in_ok-all.ensures text (Some n) c.in_ok-diagram.ensures) linked.0 linked.1
+    c.in_ok-diagram.diagram c.in_ok-diagram.ensures _ read)
+
 pub returns : goal.returns
 returns g c =
     let x = c.args.words in let n = c.args.number in let file = c.args.file.now in let text = c.args.found.now.text in let all = c.in_ok-all.all in
@@ -48,11 +59,14 @@ returns g c =
     c.in_ok-charts.charts c.in_ok-charts.ensures _ c.tell.result c.args.output.now c.tell.new.output c.tell.ensures
     (record {
       file_is = refl;
-      text_is = c.text-2.ensures;
+      text_is = c.text-3.ensures;
       read_as = c.in_ok-diagram.ensures;
       line_is = c.block_line.ensures ∙ sym (ap (line_by (Some n)) c.requires);
       name_is = name;
       counted_is = shown;
       drawn_is = drawn_so (at_block x n) text all is;
+      marks_are = subst (AreArrowMarks x.check_args.accept text c.in_ok-diagram.diagram) (sym c.as_ref.ensures.value)
+          (subst (λ (t : List ℕ). ReadsArrowMarks x.check_args.accept t c.in_ok-diagram.diagram (Ok c.in_ok-marks.marks)) c.text-2.ensures c.in_ok-marks.ensures);
+      chosen_is = c.is_some.ensures;
       following_is = refl;
     })

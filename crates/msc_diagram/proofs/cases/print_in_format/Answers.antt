@@ -37,9 +37,9 @@ pub returns-then-is_empty-clause-put : goal.returns-then-is_empty-clause-put
 returns-then-is_empty-clause-put g c runs are =
     let s = c.args.listing.now in
     let a = c.args.asked in
-    let q = a.options in
+    let q = a.check in
     let n = c.args.numbered in
-    let text = race_text no_texts s.judged q runs in
+    let text = race_text no_texts s.judged q.options runs in
     let head : List ℕ = head_text (cond (has_heads a.format) (Some n.number) None) n.scenario.now.choices n.races in
     let page : List ℕ = c.args.page.now.bytes.items in
     let places = subst (AreAllPlaces n.scenario.now) (sym c.as_slice.ensures.value) c.in_ok-places.ensures in
@@ -48,8 +48,8 @@ returns-then-is_empty-clause-put g c runs are =
     let empty = sym (ap length new) ∙ none in
     inl (
       no_texts,
-      none_told (AreTextsBy a.format a.queues) n.number (length c.args.reported.now) n.scenario.now no_texts _ empty,
-      pages_in _ page page _ (sym (ap (λ (t : List ℕ). page ++ t) (told_none text head q.most (length c.args.reported.now) _ empty) ∙ append-nil page)),
+      none_told (AreTextsBy a.format a.check.queues) n.number (length c.args.reported.now) n.scenario.now no_texts _ empty,
+      pages_in _ page page _ (sym (ap (λ (t : List ℕ). page ++ t) (told_none text head q.options.most (length c.args.reported.now) _ empty) ∙ append-nil page)),
     )
 
 -- what is new is a race
@@ -93,7 +93,7 @@ returns-clause-put g c runs are =
     let new = c.as_slice-2.ensures.value ∙ c.in_ok-new.ensures.list n.scenario.now places in
     let some : c.is_empty.result ≡ nat_eq (length c.as_slice-2.result.now) 0
     = c.is_empty.ensures ∙ ap (λ k. nat_eq k 0) (c.in_ok-new.new.ok.0 ∙ ap length (sym c.as_slice-2.ensures.value)) in
-    new_told (AreTextsBy a.format a.queues) (λ (texts : Texts). race_text texts s.judged a.options runs) head a.options.most n.number c.len-first.result (length c.args.reported.now) n.scenario.now
+    new_told (AreTextsBy a.format a.check.queues) (λ (texts : Texts). race_text texts s.judged a.check.options runs) head a.check.options.most n.number c.len-first.result (length c.args.reported.now) n.scenario.now
     c.as_slice-2.result.now (fresh n.scenario.now c.args.reported.now (listed s.judged s.allowed s.closest (cause_in s.judged)))
     c.print_new.result (g.W.Write.contents c.args.writer.now) (g.W.Write.contents c.print_new.new.writer) c.args.page.now.bytes.items c.print_new.new.page.bytes.items
     c.len-first.ensures.value new (has_some c.as_slice-2.result.now c.is_empty.result some c.if-is_empty.false) (c.print_new.ensures runs are)

@@ -17,7 +17,7 @@ turned P {a} {b} {d} {e} first second p = subst (P b) second (subst (λ (st : St
 pub returns-in_ok-of-in-Lines : goal.returns-in_ok-of-in-Lines
 returns-in_ok-of-in-Lines g c runs shown =
     let s = c.args.listing.now in
-    let q = c.args.asked.options in
+    let q = c.args.asked.check.options in
     let n = c.args.numbered in
     let sc = n.scenario.now in
     let put : Style → Drawing → Type 0 = λ st d.
@@ -29,7 +29,7 @@ returns-in_ok-of-in-Lines g c runs shown =
 pub returns-in-Editor : goal.returns-in-Editor
 returns-in-Editor g c runs shown =
     let s = c.args.listing.now in
-    let q = c.args.asked.options in
+    let q = c.args.asked.check.options in
     let n = c.args.numbered in
     let sc = n.scenario.now in
     rw c.in-Editor.is (inl (

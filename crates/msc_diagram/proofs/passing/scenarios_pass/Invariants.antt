@@ -1,10 +1,10 @@
-use Rattle.std.proofs.Common.{◌≡◌, false, true, List, take}
-use Rattle.std.specs.List.{All}
-use Rattle.msc_diagram.specs.Judging.{none_counts_in}
-use Rattle.msc_diagram.specs.Scenarios.{AreCases, Case}
+use Rattle.std.proofs.Common.{◌≡◌, List, take}
+use Rattle.msc_diagram.specs.Judging.{NoneCounts}
+use Rattle.msc_diagram.specs.Scenarios.{Case}
+use Rattle.msc_diagram.specs.Stale.{idle_in, told_marks}
 use Rattle.msc_diagram.proofs.passing.scenarios_pass.Given as goal
 
--- no race of the scenarios so far counts
+-- no race of the scenarios so far counts, and these marks accept none of theirs
 abbrev pub invariant-loop-i : goal.invariant-loop-i
 invariant-loop-i g l =
-    (cases : List Case) × AreCases l.queues false (take l.i (g.S.Source.scenarios l.scenarios)) cases × All (λ c. none_counts_in l.queues l.allowed c ≡ true) cases
+    (cases : List Case) × NoneCounts (take l.i (g.S.Source.scenarios l.scenarios)) l.check cases × (l.idle.items ≡ idle_in l.check cases (told_marks l.check.marks))

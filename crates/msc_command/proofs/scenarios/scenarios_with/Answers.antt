@@ -9,7 +9,7 @@ use Rattle.msc_command.proofs.ImportPages.{not_imported}
 use Rattle.msc_command.proofs.Surveyed.{any_fence}
 use Rattle.msc_command.specs.Scenarios.{wanted_of, with_fence}
 use Rattle.msc_command.specs.declared.tasks.ScenarioArgs.{ScenarioArgs}
-use Rattle.msc_command.proofs.scenarios.scenarios_of.Goals as goal
+use Rattle.msc_command.proofs.scenarios.scenarios_with.Goals as goal
 
 of_text : ReadingComesFirst → (x : ScenarioArgs) (fence : Option ℕ) (text : List ℕ) (d : Diagram) → read (reading_of_all (wanted_of (with_fence fence x))) text ≡ Ok d
     → imported_all (wanted_of (with_fence fence x)) text ≡ told_of d.lines (all_of (wanted_of x) d)
@@ -18,13 +18,13 @@ of_text law x fence text d is =
 
 pub returns-in_err-all : goal.returns-in_err-all
 returns-in_err-all c text fence is =
-    let p = err_from_is_err_and c.from_residual-in_err-all.result c.from_residual-in_err-all.ensures.1 in
-    let given = rw (c.fence_of.ensures, c.as_slice.ensures.value, c.in_ok-rounds.ensures) at c.in_err-all.ensures in
+    let p = err_from_is_err_and c.from_residual.result c.from_residual.ensures.1 in
+    let given = rw (c.fence_of.ensures, c.requires.rounds, c.requires.choose) at c.in_err-all.ensures in
     let x = c.args.words in
     rw (p.1, p.2) (not_imported (imported_all (wanted_of (with_fence fence x)) text) c.in_err-all.field-0.0
     (subst (λ (said : Result Scenarios Said). RefusesSo c.in_err-all.field-0.0 said) (sym (of_text c.reading_comes_first.ensures x fence text c.args.diagram.now is)) given))
 
 pub returns : goal.returns
 returns c text fence is =
-    let given = rw (c.fence_of.ensures, c.as_slice.ensures.value, c.in_ok-rounds.ensures) at c.in_ok-all.ensures in
+    let given = rw (c.fence_of.ensures, c.requires.rounds, c.requires.choose) at c.in_ok-all.ensures in
     of_text c.reading_comes_first.ensures c.args.words fence text c.args.diagram.now is ∙ given

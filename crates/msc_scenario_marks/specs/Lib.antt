@@ -1,0 +1,4 @@
+-- what is promised
+pub mod Accepting
+pub mod Idle
+pub mod Places
