@@ -85,6 +85,8 @@ ON_DIAGRAMS = (
     ["check", "--from", "any", "--queues", "pair", "--format", "lines", "--accept"],
     ["import", "--name", "t", "--places"], ["import", "--name", "t", "--list"],
     ["import", "--name", "t", "--fence", "3", "--places"],
+    ["report", "--from", "any", "--queues", "pair", "--name", "t", "--places"],
+    ["draw", "--from", "any", "--queues", "pair", "--name", "t", "--places"],
     ["check", "--queues", "pair", "--places"],
 )
 

@@ -61,6 +61,7 @@ printed_refused (tasks.Chart (chart_commands.List placed) links) file text print
 printed_refused (tasks.Chart (chart_commands.Ready x) links) file text printed (d, s, of_text, (under, linked, (only, are, style, its, room, passed, same, says))) = absurd (never_ended passed same)
 printed_refused (tasks.Draw drawn words) file text printed (d, s, is, (queues, linked, (same, says))) = absurd cc
 printed_refused (tasks.Import x) file text printed (same, says) = absurd cc
+printed_refused (tasks.Report x) file text printed (same, says) = absurd cc
 printed_refused (tasks.Scenarios x) file text printed says = diagram_refused (many_in x text) x file text printed refl says
 
 module _ {W : Type 0} (contents : W → Option (List ℕ)) where

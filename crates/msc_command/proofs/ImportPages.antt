@@ -60,6 +60,8 @@ is_chart charts x text (Ok drawing) said = record {
   chosen = record { of_text = said.imported_is; again = said.again; faultless = charts (wanted_of x) text drawing.imported said.imported_is };
   diagram_is = said.diagram_is;
   number_is = said.number_is;
+  choices_are = said.choices_are;
+  manner_is = said.manner_is;
 }
 is_chart charts x text (Err r) said = said
 

@@ -33,6 +33,7 @@ use Rattle.msc_command.specs.Linked.{under, usual_in, AreLinked, HasLinkFault}
 use Rattle.msc_command.specs.Naming.{AreTwoNamed, IsNamedFault}
 use Rattle.msc_command.specs.Readied.{names_of, AreReady, IsFirstUnknown}
 use Rattle.msc_command.specs.Refused.{form_of, AreTold, TellsRefusal, TellsUnread}
+use Rattle.msc_command.specs.Reported.{reported_scenarios, PrintsReported}
 use Rattle.msc_command.specs.Rounds.{HasRoom, LacksRounds}
 use Rattle.msc_command.specs.Scenarios.{BeginsScenarios, PrintsScenarios, RefusesScenarios}
 use Rattle.msc_command.specs.Sited.{AreSited, IsStyle}
@@ -47,7 +48,7 @@ use Rattle.msc_command.specs.declared.tasks.QuietArgs.{QuietArgs}
 use Rattle.msc_command.specs.declared.tasks.ScenarioArgs.{ScenarioArgs}
 use Rattle.msc_command.specs.declared.tasks.LinkWords.{LinkWords}
 use Rattle.msc_command.specs.declared.tasks.Task.{Task}
-use Rattle.msc_command.specs.declared.tasks.Task.TheVariants.{Read, Chart, Draw, Import, Scenarios}
+use Rattle.msc_command.specs.declared.tasks.Task.TheVariants.{Read, Chart, Draw, Import, Scenarios, Report}
 
 -- What is printed of the chart of a text, of the file of this name, for what is asked of it, and
 -- how the run ends. A chart is run with a gate that is known to be open.
@@ -149,6 +150,7 @@ Prints (Draw drawn words) file text status printed =
     PrintsBy words.diagram text (PrintsLinkedPage drawn words.links) status printed
 Prints (Import x) file text status printed = PrintsImportPage x file text status printed
 Prints (Scenarios x) file text status printed = PrintsDiagrams (many_in x text) x file text status printed
+Prints (Report x) file text status printed = (status ≡ Done) × PrintsReported x file text printed
 
 -- why a text is refused for a task, with its first fault: it has no draft, or its draft is no
 -- chart, or nothing is imported of it, or of its chart that is not to be had which is asked
@@ -158,6 +160,7 @@ Refuses (Chart ask words) text refusal = RefusesBy words.diagram text (RefusesLi
 Refuses (Draw drawn words) text refusal = RefusesBy words.diagram text (RefusesLinkedPage drawn words.links) refusal
 Refuses (Import x) text refusal = RefusesImport x.chosen text refusal
 Refuses (Scenarios x) text refusal = RefusesDiagrams (many_in x text) x text refusal
+Refuses (Report x) text refusal = RefusesScenarios (reported_scenarios x) text refusal
 
 -- A task was done, where it is known what is right to print, with how the run ends then, what
 -- begins it, and when it is refused: such a text went behind the known bytes of a writer; or memory

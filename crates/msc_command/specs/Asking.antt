@@ -40,13 +40,14 @@ use Rattle.msc_command.specs.declared.tasks.TextArgs.{TextArgs}
 use Rattle.msc_command.specs.declared.tasks.EventStyle.{EventStyle}
 use Rattle.msc_command.specs.declared.tasks.QuietArgs.{QuietArgs}
 use Rattle.msc_command.specs.declared.tasks.ReadyArgs.{ReadyArgs}
+use Rattle.msc_command.specs.declared.tasks.ReportArgs.{ReportArgs}
 use Rattle.msc_command.specs.declared.tasks.ScenarioArgs.{ScenarioArgs}
 use Rattle.msc_command.specs.declared.tasks.ChartCommand.TheVariants.{Check, Quiet, Explain, Follow, Run, List as Listing, Ready}
 use Rattle.msc_command.specs.declared.tasks.Format.{Format}
 use Rattle.msc_command.specs.declared.tasks.Format.TheVariants as formats
 use Rattle.msc_command.specs.declared.tasks.LinkWords.{LinkWords}
 use Rattle.msc_command.specs.declared.tasks.Task.{Task}
-use Rattle.msc_command.specs.declared.tasks.Task.TheVariants.{Read, Chart, Draw, Import, Scenarios}
+use Rattle.msc_command.specs.declared.tasks.Task.TheVariants.{Read, Chart, Draw, Import, Scenarios, Report}
 use Rattle.msc_command.specs.declared.words.CommandName.{CommandName}
 use Rattle.msc_command.specs.declared.words.CommandName.TheVariants as command_names
 use Rattle.msc_command.specs.declared.words.ArgName.{ArgName}
@@ -391,6 +392,22 @@ pub record AreTextArgs (found : Found) (x : TextArgs) : Type 0 where
   pub diagram : IsOrigin found x.diagram
   pub links : AreLinkWords found x.links
 
+-- a diagram is given, and none of its scenarios
+abbrev pub is_of_all : Option ChosenArgs → Bool
+is_of_all None = false
+is_of_all (Some x) = not (is_some x.choose)
+
+-- what the words of `report` ask of all scenarios of a diagram
+pub record AreReportArgs (found : Found) (x : ReportArgs) : Type 0 where
+  pub architecture_is : architecture found ≡ Some x.queues
+  pub text : TextArgs
+  pub text_is : AreTextArgs found text
+  pub chosen : ChosenArgs
+  pub chosen_is : text.diagram ≡ Some chosen
+  pub all : is_some chosen.choose ≡ false
+  pub diagram_is : x.diagram ≡ chosen.diagram
+  pub links_are : x.links ≡ text.links
+
 -- What the words behind a command ask for. What is to be quiet is told by the status alone.
 abbrev pub AsksFor : CommandName → Found → Task → Type 0
 AsksFor command_names.Read found (Read chosen) = IsOrigin found chosen
@@ -411,7 +428,8 @@ AsksFor command_names.Draw found (Draw (drawn.Chart queues format) text) =
     (queues ≡ architecture found) × IsDrawnFormat found format × AreTextArgs found text × (lacks_queues found ≡ false)
 AsksFor command_names.Reverse found (Draw (drawn.Run r) text) = AreReverseArgs found r × AreTextArgs found text
 AsksFor command_names.Report found (Draw (drawn.Report queues) text) =
-    (architecture found ≡ Some queues) × AreTextArgs found text
+    (architecture found ≡ Some queues) × AreTextArgs found text × (is_of_all text.diagram ≡ false)
+AsksFor command_names.Report found (Report x) = AreReportArgs found x
 AsksFor command_names.Ready found (Chart (Ready x) text) =
     AreReadyArgs found x × AreTextArgs found text
 AsksFor command_names.Import found (Import x) = IsImporting found x

@@ -1,11 +1,12 @@
 -- What is drawn of a chart.
-use Rattle.std.specs.Prelude.{◌≡◌, ℕ, List, None, Some, Result, Ok, Err, codes}
+use Rattle.std.specs.Prelude.{◌≡◌, ℕ, List, Option, None, Some, Result, Ok, Err, codes}
 use Rattle.msc_chart.specs.declared.queue.LinkKind.{LinkKind}
 use Rattle.msc_chart.specs.declared.queue.LinkKind.TheVariants.{Pair}
 use Rattle.msc_chart.specs.declared.queue.Queues.{Queues}
 use Rattle.msc_chart.specs.Architectures.{usual_of}
 use Rattle.msc_draw.specs.Pictures.{IsNoRace, PrintsPicture, PrintsReversal}
 use Rattle.msc_html.specs.Findings.{PrintsReport}
+use Rattle.msc_import.specs.Numbering.{arrow_numbers}
 use Rattle.msc_print.specs.declared.page.Page.{Page}
 use Rattle.msc_parser.specs.Grammar.{Tree}
 use Rattle.msc_report.specs.declared.fault.Fault.TheVariants.{Memory}
@@ -13,6 +14,7 @@ use Rattle.msc_report.specs.declared.pair.NamedFault.TheVariants.{NoRace}
 use Rattle.msc_command.specs.Charted.{ChartedText}
 use Rattle.msc_command.specs.Linked.{AreLinked, HasLinkFault}
 use Rattle.msc_command.specs.Naming.{AreTwoNamed, IsNamedFault}
+use Rattle.msc_command.specs.declared.importing.ImportedDiagram.{ImportedDiagram}
 use Rattle.msc_command.specs.declared.ending.Refusal.{Refusal}
 use Rattle.msc_command.specs.declared.ending.Refusal.TheVariants as refusals
 use Rattle.msc_command.specs.declared.ending.Status.{Status}
@@ -40,12 +42,23 @@ drawn_under queues (Report other) = Report queues
 abbrev pub version : List ℕ
 version = codes "0.2.0"
 
+-- the order of the rows of a picture: of a scenario of a diagram, that of its arrows in the text
+abbrev pub AreRanks : Option ImportedDiagram → Option (List ℕ) → Type 0
+AreRanks None ranks = ranks ≡ None
+AreRanks (Some x) None = ⊥
+AreRanks (Some x) (Some ranks) = arrow_numbers x.manner x.diagram x.choices.items ≡ Ok ranks
+
+-- what is drawn of the chart of a draft, in such an order
+abbrev pub PrintsRanked : Drawn → Tree → ChartedText → Option (List ℕ) → List ℕ → Type 0
+PrintsRanked (Chart queues format) draft s ranks printed = PrintsPicture draft s.chart ranks queues format printed
+PrintsRanked (Run r) draft s ranks printed =
+    (e f : ℕ) × AreTwoNamed s r.first r.second e f × PrintsReversal draft s.chart ranks r.queues r.format e f printed
+PrintsRanked (Report queues) draft s ranks printed = PrintsReport draft s.chart ranks queues version printed
+
 -- what is drawn of the chart of a draft
 abbrev pub PrintsDrawn : Drawn → Tree → ChartedText → List ℕ → Type 0
-PrintsDrawn (Chart queues format) draft s printed = PrintsPicture draft s.chart queues format printed
-PrintsDrawn (Run r) draft s printed =
-    (e f : ℕ) × AreTwoNamed s r.first r.second e f × PrintsReversal draft s.chart r.queues r.format e f printed
-PrintsDrawn (Report queues) draft s printed = PrintsReport draft s.chart queues version printed
+PrintsDrawn drawn draft s printed =
+    (ranks : Option (List ℕ)) × AreRanks s.drawing ranks × PrintsRanked drawn draft s ranks printed
 
 -- the two events that are named are no race
 abbrev pub AreNoRace : ReverseArgs → ChartedText → Type 0

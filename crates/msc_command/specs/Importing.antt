@@ -268,6 +268,8 @@ pub record IsImportedDiagram (number : Option ℕ) (x : Wanted) (text : List ℕ
   pub again : IsReadAgain drawing.imported.draft
   pub diagram_is : read (reading_of_wanted x) text ≡ Ok drawing.diagram
   pub number_is : drawing.number ≡ number
+  pub choices_are : drawing.choices.items ≡ unwrap_or x.choices []
+  pub manner_is : drawing.manner ≡ x.manner
 
 abbrev pub IsImportBy : Option ℕ → Wanted → List ℕ → Result ImportedDiagram Refusal → Type 0
 IsImportBy number x text (Ok drawing) = IsImportedDiagram number x text drawing
@@ -284,6 +286,8 @@ pub record IsChosenDiagram (x : ChosenArgs) (text : List ℕ) (drawing : Importe
   pub chosen : IsChosen x text drawing.imported
   pub diagram_is : read (reading_of_wanted (wanted_of x)) text ≡ Ok drawing.diagram
   pub number_is : drawing.number ≡ x.diagram.fence
+  pub choices_are : drawing.choices.items ≡ unwrap_or (wanted_of x).choices []
+  pub manner_is : drawing.manner ≡ x.diagram.manner
 
 -- this, or why nothing is imported
 abbrev pub IsChartImport : ChosenArgs → List ℕ → Result ImportedDiagram Refusal → Type 0

@@ -24,6 +24,7 @@ pub mod Drafted
 pub mod Scenarios
 pub mod ShownDiagrams
 pub mod Surveys
+pub mod Reported
 pub mod Answering
 pub mod Program
 -- what the code keeps

@@ -1,5 +1,5 @@
 -- What findings show of a diagram of a text.
-use Rattle.std.specs.Prelude.{◌≡◌, ◌+◌, ◌-◌, ◌^◌, ◌++◌, ℕ, Bool, List, [], ◌∷◌, Option, None, Some, Result, Ok, Err, codes, cond, min, nat_eq, option_map, slice_get}
+use Rattle.std.specs.Prelude.{◌≡◌, ◌+◌, ◌-◌, ◌^◌, ◌++◌, ℕ, Bool, List, [], ◌∷◌, Option, None, Some, Result, Ok, Err, codes, cond, length, min, nat_eq, option_map, slice_get}
 use Rattle.std.specs.Fmt.{decimal}
 use Rattle.std.specs.String.{string_bytes}
 use Rattle.msc_chart.specs.Drawings.{Drawing}
@@ -12,8 +12,9 @@ use Rattle.msc_markdown.specs.declared.around.BlockKind.TheVariants as kinds
 use Rattle.msc_markdown.specs.declared.markdown.Start.{Start}
 use Rattle.msc_mermaid.specs.declared.fault.ImportFault.{ImportFault}
 use Rattle.msc_mermaid.specs.declared.statement.Span.{Span}
-use Rattle.msc_shown_chart.specs.Words.{file_said, queues_written}
+use Rattle.msc_shown_chart.specs.Words.{file_said}
 use Rattle.msc_shown_diagram.specs.Diagrams.{Lends}
+use Rattle.msc_shown_diagram.specs.Queues.{queues_written}
 use Rattle.msc_shown_diagram.specs.Words.{AreWordsOf}
 use Rattle.msc_command.specs.declared.shown_diagram.DiagramText.{DiagramText}
 use Rattle.msc_command.specs.declared.shown_diagram.ShownDiagram.{ShownDiagram}
@@ -63,11 +64,12 @@ abbrev pub label_of : List ℕ → Option ℕ → List ℕ
 label_of file line = with_line (file_said file) line
 
 -- These are the words of a diagram of a text, by these places of the shown names of its lines, and the
--- names in its closing line, with those of a chart's instances.
+-- names in its closing line: the file, and the queues between the instances of a chart, each named by
+-- the identifier of its line in the text.
 pub record IsShownDiagram (d : DiagramText) (shown : List (Option Span)) (chart : Drawing) (queues : Queues) (x : ShownDiagram) : Type 0 where
   pub words : AreWordsOf d.diagram.now shown d.file.now d.text.now x.words
   pub label : string_bytes x.label ≡ label_of d.file.now d.line
-  pub queues_are : string_bytes x.queues ≡ queues_written chart queues
+  pub queues_are : string_bytes x.queues ≡ queues_written d.diagram.now.lines (length chart.instances) queues
 
 -- This is how the findings of a diagram are shown, with or without colours.
 pub record IsFullDiagram (d : DiagramText) (shown : List (Option Span)) (chart : Drawing) (queues : Queues) (colours : Bool) (following : Following) (x : FullDiagram) : Type 0 where

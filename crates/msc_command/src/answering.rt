@@ -40,6 +40,7 @@ use crate::readied::{first_unknown, lent, lines_named};
 use crate::recorded::TellsFailure;
 use crate::refused::refusal_lines;
 use crate::refused_words::{has_words, refusal_words, unread_words};
+use crate::reporting::report_scenarios;
 use crate::rounds::rounds_of;
 use crate::scenarios::{Surveyed, check_scenarios};
 use crate::shown_diagram::{DiagramText, ShownDiagram, line_in};
@@ -50,7 +51,8 @@ use crate::surveying::{
 };
 use crate::tasks::{
     ChartCommand, CheckArgs, ChosenArgs, Drawn, ExplainArgs, FollowArgs, Format, ImportArgs,
-    LinkWords, QuietArgs, ReadyArgs, RefusalForm, Request, ScenarioArgs, Task, TextArgs, form_of,
+    LinkWords, QuietArgs, ReadyArgs, RefusalForm, ReportArgs, Request, ScenarioArgs, Task, TextArgs,
+    form_of,
 };
 use crate::text_chart::TextChart;
 use msc_chart::Unrolled;
@@ -946,6 +948,21 @@ fn check_diagrams<'w, O: TellsFailure, E: Write>(
     }
 }
 
+/// Writes the report of all scenarios of the diagram of a text in the file of this name.
+fn report<'w, O: Write>(
+    alloc: Global,
+    words: ReportArgs<'w>,
+    file: &str,
+    text: &'w [u8],
+    output: &mut O,
+) -> Result<Status, Refusal<'w>>
+    ensures { Does O.contents (Task.Report words.entry) file.now text.entry.now result
+        output.old output.new }
+{
+    let page = report_scenarios(alloc, words, file, text)?;
+    put(output, &page, Status::Done)
+}
+
 /// Writes the canonical text of the chart that a text draws.
 fn read_text<O: Write>(
     alloc: Global,
@@ -1118,6 +1135,7 @@ fn answer<'w, R: Threads + Wait + Sync, O: TellsFailure, E: Write>(
         Task::Draw(drawn, words) => draw_command(alloc, drawn, words, text, output),
         Task::Import(words) => import(alloc, words, file, text, output),
         Task::Scenarios(words) => check_diagrams(alloc, request, words, text, output, faults),
+        Task::Report(words) => report(alloc, words, file, text, output),
     }
 }
 

@@ -16,7 +16,7 @@ use crate::scenarios::reading_of;
 use crate::tasks::{ChosenArgs, DiagramArgs, ImportArgs};
 use msc_chart::Chart;
 use msc_import::laws::reading_comes_first;
-use msc_import::{Imported, Importing, draw_chosen, read};
+use msc_import::{Imported, Importing, Manner, draw_chosen, read};
 use msc_import_laws::laws::imports_are_charts;
 use msc_import_marks::{DrawnScenario, with_marks};
 use msc_links::{OwnFault, OwnQueues, own_queues, own_said};
@@ -34,6 +34,9 @@ pub(crate) struct ImportedDiagram {
     /// The number of the diagram, from 1, if it is given.
     pub number: Option<usize>,
     pub diagram: Diagram,
+    /// The given choices of the scenario.
+    pub choices: Vec<usize>,
+    pub manner: Manner,
     pub imported: Imported,
 }
 
@@ -189,6 +192,16 @@ pub(crate) fn given_choices(
     }
 }
 
+/// The given choices; without one, all are the main ones.
+fn given_or_main(choices: Option<&[usize]>) -> &[usize]
+    ensures { result.now ≡ unwrap_or (option_map (λ c. c.now) choices.entry) [] }
+{
+    match choices {
+        Some(choices) => choices,
+        None => &[],
+    }
+}
+
 /// The diagram of a text, and its scenario with these choices.
 fn import_with(
     alloc: Global,
@@ -205,6 +218,8 @@ fn import_with(
     Ok(ImportedDiagram {
         number: fence_of(words.fence),
         diagram,
+        choices: Vec::from_slice(alloc, given_or_main(choices))?,
+        manner: words.manner,
         imported,
     })
 }
@@ -233,16 +248,6 @@ pub(crate) fn import_chosen(
 {
     imports_are_charts();
     import_by(alloc, words, text)
-}
-
-/// The given choices; without one, all are the main ones.
-fn given_or_main(choices: Option<&[usize]>) -> &[usize]
-    ensures { result.now ≡ unwrap_or (option_map (λ c. c.now) choices.entry) [] }
-{
-    match choices {
-        Some(choices) => choices,
-        None => &[],
-    }
 }
 
 /// The page of an import of a text of the file of this name, with these choices.

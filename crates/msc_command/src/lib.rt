@@ -46,6 +46,7 @@ mod readied;
 mod recorded;
 mod refused;
 mod refused_words;
+mod reporting;
 mod rounds;
 mod scenarios;
 mod shown;

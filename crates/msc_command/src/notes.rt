@@ -148,6 +148,7 @@ fn diagram_in<'w>(task: Task<'w>) -> Option<DiagramArgs<'w>> {
         Task::Chart(_, words) | Task::Draw(_, words) => Some(words.diagram?.diagram),
         Task::Import(words) => Some(words.chosen.diagram),
         Task::Scenarios(words) => Some(words.diagram),
+        Task::Report(words) => Some(words.diagram),
     }
 }
 

@@ -242,7 +242,7 @@ fn import_said(
     import_words(alloc, refused.fault, name, &told, spans.as_slice())
 }
 
-/// What words call the fault of a mark of a diagram.
+/// The slip of a faulty mark of a diagram, as [`mark_words`] takes it.
 fn mark_slip(slip: Slip) -> MarkSlip
     ensures { result ≡ mark_slip slip }
 {

@@ -61,7 +61,7 @@ pub(crate) fn reading_of(words: DiagramArgs<'_>) -> DiagramReading
 }
 
 /// The diagram of a text.
-fn diagram_of(
+pub(crate) fn diagram_of(
     alloc: Global,
     words: ScenarioArgs<'_>,
     text: &[u8],
@@ -354,7 +354,7 @@ fn tell_with<'x, O: Write>(
 }
 
 /// Writes the findings on these scenarios as people read them.
-fn tell_full<O: Write>(
+pub(crate) fn tell_full<O: Write>(
     alloc: Global,
     check_args: CheckArgs,
     told: Told<'_>,
@@ -407,7 +407,7 @@ fn tell_races<O: Write>(
     }
 }
 
-/// How the check of a diagram ends that was judged so, with marks or without.
+/// The end of a check of a diagram that found this; `marked` says whether the diagram has marks.
 fn surveyed_of(judged: Judged, marked: bool) -> Surveyed
     ensures { result ≡ surveyed_of judged marked }
 {
@@ -448,7 +448,7 @@ fn tell_marked<O: Write>(
 
 /// Writes the answer on the races of these scenarios, with the marks that accept the races of these
 /// arrows.
-// Apart from `tell`, where the arrows outlast what is lent of them here.
+// `tell` cannot lend its own arrows for `'x`, so this function takes them.
 fn tell_accepted<'x, O: Write>(
     alloc: Global,
     words: ScenarioArgs<'_>,

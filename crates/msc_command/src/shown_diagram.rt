@@ -10,8 +10,8 @@ use msc_chart::{Chart, Queues};
 use msc_findings::ClosingNames;
 use msc_markdown::{BlockKind, Markdown, Start};
 use msc_mermaid::{Diagram, ImportFault, Span};
-use msc_shown_chart::{file_said, queues_said};
-use msc_shown_diagram::DiagramWords;
+use msc_shown_chart::file_said;
+use msc_shown_diagram::{DiagramWords, queues_said};
 use std::alloc::{AllocError, Global};
 
 /// A diagram of a text.
@@ -111,7 +111,7 @@ pub(crate) struct ShownDiagram {
 }
 
 impl ShownDiagram {
-    /// The words of a diagram under an architecture, which the instances of a chart of it name.
+    /// The words of a diagram under an architecture between the instances of a chart of it.
     /// `shown` are the places of the shown names of its lines.
     pub fn of(
         alloc: Global,
@@ -124,7 +124,8 @@ impl ShownDiagram {
     {
         let words = DiagramWords::of(alloc, told.diagram, shown, told.file.as_bytes(), told.text)?;
         let label = label_of(alloc, told.file, told.line)?;
-        let queues = queues_said(alloc, chart, queues)?;
+        let lines = told.diagram.lines.as_slice();
+        let queues = queues_said(alloc, lines, chart, queues)?;
         Ok(ShownDiagram {
             words,
             label,

@@ -262,8 +262,8 @@ pub(crate) fn lists_races(before: bool, listed: u32) -> bool
     before || 0 < listed
 }
 
-/// What follows all diagrams, if races of one of them are listed or not, and a mark was met or not:
-/// the help on marks, in findings as people read them.
+/// The lines that follow all diagrams: the help on marks, in findings as people read them. It follows
+/// if races are listed in one of them and none has a mark.
 pub(crate) fn end_page(
     alloc: Global,
     words: ScenarioArgs<'_>,
@@ -284,7 +284,7 @@ pub(crate) fn end_page(
     Ok(page)
 }
 
-/// Whether a mark was met before, or in the next diagram.
+/// Whether a diagram has a mark: an earlier one, or this one.
 pub(crate) fn met(before: bool, now: bool) -> bool
     ensures { result ≡ (before || now) }
 {

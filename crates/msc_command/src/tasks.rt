@@ -255,6 +255,16 @@ pub(crate) struct ScenarioArgs<'w> {
     pub quiet: bool,
 }
 
+/// A report of all scenarios of a diagram, in words of the command line.
+#[derive(Clone, Copy)]
+pub(crate) struct ReportArgs<'w> {
+    /// The kind of all links that no rule names.
+    pub queues: Queues,
+    pub diagram: DiagramArgs<'w>,
+    /// The rules for links.
+    pub links: LinkWords<'w>,
+}
+
 /// A command on a text.
 #[derive(Clone, Copy)]
 pub(crate) enum Task<'w> {
@@ -268,6 +278,8 @@ pub(crate) enum Task<'w> {
     Import(ImportArgs<'w>),
     /// The races of all scenarios of its diagram.
     Scenarios(ScenarioArgs<'w>),
+    /// The report of these races.
+    Report(ReportArgs<'w>),
 }
 
 /// What the output gets of a refusal of a task.
@@ -307,7 +319,7 @@ pub(crate) fn form_of(task: Task<'_>) -> RefusalForm
             form_in(words.check_args.format, words.check_args.colours)
         }
         Task::Read(_) | Task::Chart(..) | Task::Draw(..) => RefusalForm::Nothing,
-        Task::Import(_) | Task::Scenarios(_) => RefusalForm::Nothing,
+        Task::Import(_) | Task::Scenarios(_) | Task::Report(_) => RefusalForm::Nothing,
     }
 }
 
@@ -961,13 +973,26 @@ fn reverse_of<'w>(queues: Queues, words: &'w ArgMatches) -> Result<Task<'w>, Mis
     Ok(Task::Draw(Drawn::Run(reverse_args), text_args))
 }
 
-/// The task of `msc report`.
+/// The task of `msc report`: of a diagram without `--choose`, a page on all its scenarios.
 fn report_of<'w>(queues: Queues, words: &'w ArgMatches) -> Result<Task<'w>, Misuse<'w>>
     ensures task { architecture (found_of words.entry.now) ≡ Some queues
         → IfOk result (AsksFor CommandName.Report (found_of words.entry.now)) }
     ensures misuse { IfErr result (IsOriginMisuse (found_of words.entry.now)) }
 {
-    Ok(Task::Draw(Drawn::Report(queues), text_args_of(words)?))
+    let text = text_args_of(words)?;
+    match text.diagram {
+        Some(
+            ChosenArgs {
+                diagram,
+                choose: None,
+            },
+        ) => Ok(Task::Report(ReportArgs {
+            queues,
+            diagram,
+            links: text.links,
+        })),
+        _ => Ok(Task::Draw(Drawn::Report(queues), text)),
+    }
 }
 
 /// Ready instances under an architecture by the words of `msc ready`; `auto` says whether there are

@@ -725,13 +725,16 @@ Example:
 
 /// The text below the help of `msc report`.
 const REPORT_NOTES: &str = "\
+With --from the page is on all scenarios of the diagram, or with --choose on one of them.
+
 Exit status:
   0  the page was written
   2  the text was refused, or the words are no command
   4  memory ran out, or a file or the output failed
 
-Example:
-  msc report --queues mailbox relay.msc >relay.html";
+Examples:
+  msc report --queues mailbox relay.msc >relay.html
+  msc report --from any --queues pair order.mmd >order.html";
 
 /// The text below the help of `msc ready`.
 const READY_NOTES: &str = "\

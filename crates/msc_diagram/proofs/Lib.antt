@@ -12,3 +12,4 @@ pub mod Answering
 pub mod Tallying
 pub mod Seen
 pub mod Leaving
+mod NewLists

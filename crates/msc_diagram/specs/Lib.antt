@@ -14,3 +14,4 @@ pub mod Arrows
 pub mod Tallies
 pub mod Full
 pub mod Closing
+pub mod NewRaces

@@ -38,7 +38,7 @@ pub(crate) struct Above {
     pub stale: Vec<usize>,
 }
 
-/// The numbers of the marks that are told of if they accept no race.
+/// The numbers of the marks that are stale if they accept no race.
 pub(crate) fn told_marks(
     alloc: Global,
     marks: Option<UsedMarks<'_>>,

@@ -1,4 +1,4 @@
-//! What is asked of the races of a diagram's scenarios.
+//! A check of the races of a diagram's scenarios.
 
 ghost use Rattle.std.specs.Prelude.{◌≡◌};
 ghost use Rattle.msc_diagram.specs.Checks.{with_options};
@@ -14,8 +14,8 @@ pub struct UsedMarks<'m> {
     pub accepted: &'m AcceptedArrows<'m>,
     /// The name of the file.
     pub file: &'m str,
-    /// Whether one scenario alone is checked: then a mark of an arrow that it does not meet is not
-    /// stale, since it may accept races of other scenarios.
+    /// Whether the check is of only one scenario. A mark of an arrow that this scenario does not meet
+    /// is not stale then: it may accept races of other scenarios.
     pub chosen: bool,
 }
 

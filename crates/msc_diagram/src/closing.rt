@@ -78,8 +78,8 @@ pub fn has_marks(marks: Option<UsedMarks<'_>>) -> bool
     }
 }
 
-/// Appends what follows the closing line of a diagram with `listed` listed races, which has marks or
-/// not.
+/// Appends the lines that follow the closing line of a diagram with `listed` listed races; `marked`
+/// says whether it has marks.
 fn print_following(
     alloc: Global,
     page: &mut Page,

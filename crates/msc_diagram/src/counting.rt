@@ -135,7 +135,8 @@ fn see_counting(
     Ok(())
 }
 
-/// Adds the places of the races of a scenario that count with `left` left out, if this is asked for.
+/// Adds the places of the races of a scenario that count with `left` left out, if the check needs
+/// them.
 fn see_if(
     alloc: Global,
     reported: &mut ReportedRaces,

@@ -129,8 +129,7 @@ fn write_option<W: Write>(writer: &mut W, word: &str, number: Option<u32>) -> io
     }
 }
 
-/// Writes how many places are allowed, how many are accepted, and how many are those of closest
-/// races, if it is asked for.
+/// Writes the numbers of allowed, of accepted and of closest places, if there are such numbers.
 fn write_options<W: Write>(writer: &mut W, counts: PlaceCounts) -> io::Result<()>
     ensures { OnOk result (Appends (W.contents writer.old) (W.contents writer.new)
         (options_text counts)) }

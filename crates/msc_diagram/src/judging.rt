@@ -397,10 +397,10 @@ fn write_full<S: Source, W: Write>(
 }
 
 /// Writes the races of all scenarios of a diagram in a form, each race once: a race is not listed
-/// again if an earlier one has the places of its events. With marks, the races that they accept are
-/// not listed and do not count, and the marks that accept no race of any scenario are told of. Lines
-/// begin with `top` ([`write_diagram_top`](crate::write_diagram_top)). Returns how many races are
-/// listed, and how many marks are stale.
+/// again if an earlier one has the places of its events. If marks are used, the races that they
+/// accept do not count and are not listed, and the stale marks follow the races, except in a count.
+/// Lines begin with `top` ([`write_diagram_top`](crate::write_diagram_top)). Returns the numbers of
+/// listed races and of stale marks.
 ///
 /// An error is `Memory` if a growth of memory was refused; a beginning may have been written then.
 /// It is `Device` if the writer fails.

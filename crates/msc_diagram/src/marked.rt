@@ -1,4 +1,4 @@
-//! What marks accept of the races of a scenario.
+//! The races of a scenario that marks accept.
 
 ghost use Rattle.std.specs.Prelude.{◌≡◌, IfOk};
 ghost use Rattle.msc_race.specs.Views.{races_of};
@@ -74,7 +74,7 @@ pub(crate) fn marked_races(
     }
 }
 
-/// What is left out: these kinds, and what marks accept.
+/// The races that are left out: those of these kinds, and those that marks accept.
 pub(crate) fn left_out<'r>(kinds: KindSet, marked: Option<&'r MarkedRaces>) -> LeftOut<'r>
     ensures { IsLeftBy kinds marked.entry result }
 {

@@ -1,4 +1,4 @@
-//! What is printed of stale marks, which accept no race.
+//! Prints stale marks: those that accept no race.
 
 ghost use Rattle.std.specs.Prelude.{◌≡◌, ◌++◌, List, [], OnOk};
 ghost use Rattle.std.specs.List.{flat_map};
@@ -140,7 +140,7 @@ fn print_each(
     Ok(())
 }
 
-/// Appends these stale marks to a page in a format, after a look at where lines begin.
+/// Appends these stale marks to a page in a format. It looks once where lines begin.
 fn print_marks(
     alloc: Global,
     page: &mut Page,

@@ -3,3 +3,4 @@ mod Lists
 mod NoteLemmas
 mod EndLemmas
 mod MarkingLemmas
+mod NumberLemmas

@@ -1,6 +1,7 @@
 //! The picture of a chart.
 
 ghost use Rattle.std.specs.Prelude.{◌≡◌, ◌++◌, IfOk, OnOk, codes, length};
+ghost use Rattle.std.specs.Prelude.{option_copied};
 ghost use Rattle.std.specs.Fmt.{decimal};
 ghost use Rattle.msc_chart.specs.Drawings.{chart_of};
 ghost use Rattle.msc_draw.specs.Pictures.{PrintsChart, PrintsJudged, PrintsPicture};
@@ -68,12 +69,14 @@ fn draw_judged(
     alloc: Global,
     draft: &Draft,
     chart: &Chart,
+    ranks: Option<&[usize]>,
     queues: Queues,
     picture_format: PictureFormat,
 ) -> Result<Page, AllocError>
     requires { chart.now ≡ chart_of draft.now }
     ensures { IfOk result (λ page.
-        PrintsJudged draft.now chart.now queues picture_format page.bytes.items) }
+        PrintsJudged draft.now chart.now (option_copied ranks.entry) queues picture_format
+        page.bytes.items) }
 {
     chart.facts();
     let enforced = Enforced::of(alloc, chart, queues)?;
@@ -81,28 +84,33 @@ fn draw_judged(
     let races = enforced.count_races() as usize;
     let (bars, closest) = closest_bars(alloc, enforced)?;
     let more = verdict(alloc, chart, queues, races, closest)?;
-    let scene = chart_scene(alloc, draft, chart, bars)?;
+    let scene = chart_scene(alloc, draft, chart, ranks, bars)?;
     let page = page_in(alloc, picture_format, &scene, more.as_slice())?;
     Ok(page)
 }
 
 /// The picture of a draft's chart, in a format; with the bars of its closest races under an
-/// architecture, if one is given. An error is a growth of memory that was refused.
+/// architecture, if one is given. If `ranks` are given, they have a number for each event, and the
+/// events are drawn by these numbers, as in `msc_picture::drawing_order`. An error is a growth of
+/// memory that was refused.
 pub fn draw_chart(
     alloc: Global,
     draft: &Draft,
     chart: &Chart,
+    ranks: Option<&[usize]>,
     queues: Option<Queues>,
     picture_format: PictureFormat,
 ) -> Result<Page, AllocError>
     requires { chart.now ≡ chart_of draft.now }
     ensures { IfOk result (λ page.
-        PrintsPicture draft.now chart.now queues picture_format page.bytes.items) }
+        PrintsPicture draft.now chart.now (option_copied ranks.entry) queues picture_format
+        page.bytes.items) }
 {
     if let Some(queues) = queues {
-        return draw_judged(alloc, draft, chart, queues, picture_format);
+        return draw_judged(alloc, draft, chart, ranks, queues, picture_format);
     }
-    let scene = chart_scene(alloc, draft, chart, Listed::from_vec(Vec::new(alloc)))?;
+    let bars = Listed::from_vec(Vec::new(alloc));
+    let scene = chart_scene(alloc, draft, chart, ranks, bars)?;
     let page = page_in(alloc, picture_format, &scene, b"")?;
     Ok(page)
 }

@@ -15,10 +15,12 @@ mod closest;
 mod drawing;
 mod marking;
 mod notes;
+mod numbering;
 mod picture_format;
 mod reversing;
 
 pub use closest::bars_listed;
 pub use drawing::{draw_chart, verdict};
+pub use numbering::scene_of_races;
 pub use picture_format::PictureFormat;
 pub use reversing::draw_reversal;

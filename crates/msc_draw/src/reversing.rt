@@ -1,6 +1,7 @@
 //! The picture of a run that reverses a race.
 
 ghost use Rattle.std.specs.Prelude.{◌≡◌, ◌<◌, ◌++◌, IfOk, MatchOption, codes, length};
+ghost use Rattle.std.specs.Prelude.{option_copied};
 ghost use Rattle.std.specs.Fmt.{decimal};
 ghost use Rattle.msc_chart.specs.Drawings.{chart_of};
 ghost use Rattle.msc_chart.specs.Orders.{IsRace, wired};
@@ -53,56 +54,60 @@ fn run_of(alloc: Global, enforced: &Enforced, e: Event, f: Event) -> Result<Vec<
     }
 }
 
-/// The picture of a run with event `f` before event `e`, the race (`e`, `f`) of a draft's chart
-/// under an architecture, in a format. An error is a growth of memory that was refused.
+/// The picture of a run that reverses a race of a draft's chart under an architecture, in a format.
+/// An error is a growth of memory that was refused.
 fn draw_run(
     alloc: Global,
     draft: &Draft,
     enforced: &Enforced,
+    ranks: Option<&[usize]>,
     picture_format: PictureFormat,
-    e: Event,
-    f: Event,
+    race: (Event, Event),
 ) -> Result<Page, AllocError>
     requires drawn { enforced.now.chart ≡ chart_of draft.now }
-    requires race { IsRace (wiring_of enforced.now) e f }
-    ensures { IfOk result (λ page. PrintsRun draft.now enforced.now.chart enforced.now.queues
-        picture_format e f page.bytes.items) }
+    requires race { IsRace (wiring_of enforced.now) race.0 race.1 }
+    ensures { IfOk result (λ page. PrintsRun draft.now enforced.now.chart
+        (option_copied ranks.entry) enforced.now.queues picture_format race.0 race.1
+        page.bytes.items) }
 {
     enforced.facts();
+    let (e, f) = race;
     let run = run_of(alloc, enforced, e, f)?;
-    let race = Reversed {
+    let reversed = Reversed {
         first: e,
         second: f,
         number: 0,
     };
     let wiring = enforced.wiring();
-    let scene = run_scene(alloc, draft, wiring, run.as_slice(), race)?;
+    let scene = run_scene(alloc, draft, wiring, ranks, run.as_slice(), reversed)?;
     let more = reversal(alloc, enforced.chart(), enforced.queues(), e, f)?;
     let page = page_in(alloc, picture_format, &scene, more.as_slice())?;
     Ok(page)
 }
 
-/// The picture of a run with event `f` before event `e`, two events of a draft's chart under an
-/// architecture, in a format; none if and only if (`e`, `f`) is no race. An error is a growth of
-/// memory that was refused.
+/// The picture of a run with the second of two events of a draft's chart before the first, under an
+/// architecture, in a format; none if and only if the two are no race. If `ranks` are given, they
+/// have a number for each event, and the events are drawn by these numbers, as in
+/// `msc_picture::run_order`. An error is a growth of memory that was refused.
 pub fn draw_reversal(
     alloc: Global,
     draft: &Draft,
     chart: &Chart,
+    ranks: Option<&[usize]>,
     queues: Queues,
     picture_format: PictureFormat,
-    e: Event,
-    f: Event,
+    race: (Event, Event),
 ) -> Result<Option<Page>, AllocError>
     requires drawn { chart.now ≡ chart_of draft.now }
-    requires events { AreTwoEvents chart.now e f }
-    ensures { IfOk result (λ page. MatchOption page (IsNoRace chart.now queues e f)
-        (λ page. PrintsReversal draft.now chart.now queues picture_format e f page.bytes.items)) }
+    requires events { AreTwoEvents chart.now race.0 race.1 }
+    ensures { IfOk result (λ page. MatchOption page (IsNoRace chart.now queues race.0 race.1)
+        (λ page. PrintsReversal draft.now chart.now (option_copied ranks.entry) queues
+        picture_format race.0 race.1 page.bytes.items)) }
 {
     let enforced = Enforced::of(alloc, chart, queues)?;
-    if !is_race(&enforced, e, f) {
+    if !is_race(&enforced, race.0, race.1) {
         return Ok(None);
     }
-    let page = draw_run(alloc, draft, &enforced, picture_format, e, f)?;
+    let page = draw_run(alloc, draft, &enforced, ranks, picture_format, race)?;
     Ok(Some(page))
 }

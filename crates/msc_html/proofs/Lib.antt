@@ -8,3 +8,5 @@ mod PlainQueues
 mod PlainReports
 mod PlainNames
 mod PlainPrinted
+mod ParagraphLemmas
+mod FindingLemmas

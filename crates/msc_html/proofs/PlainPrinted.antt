@@ -54,23 +54,24 @@ module _ (texts : TextsOfPicturesArePlain) (pictures : PicturesArePlain) (svgs :
   form_plain Svg s more shows over = svgs s more (scene_plain s shows) over
 
   -- a picture is plain
-  pub picture_printed : (queues : Option Queues) (form : PictureFormat) (printed : List ℕ)
-      → PrintsPicture draft (chart_of draft) queues form printed → IsPlain printed
-  picture_printed None form printed says =
+  pub picture_printed : (ranks : Option (List ℕ)) (queues : Option Queues) (form : PictureFormat) (printed : List ℕ)
+      → PrintsPicture draft (chart_of draft) ranks queues form printed → IsPlain printed
+  picture_printed ranks None form printed says =
       subst IsPlain (sym says.text) (form_plain form says.scene [] says.right.shows (plain_by [] refl))
-  picture_printed (Some queues) form printed says =
+  picture_printed ranks (Some queues) form printed says =
       subst IsPlain (sym says.text) (form_plain form says.scene _ says.right.shows (over_plain (chart_of draft) queues _ _ (instances_plain draft is)))
 
   -- and so is one of a run
-  pub reversal_printed : (queues : Queues) (form : PictureFormat) (e f : ℕ) (printed : List ℕ)
-      → PrintsReversal draft (chart_of draft) queues form e f printed → IsPlain printed
-  reversal_printed queues form e f printed says =
+  pub reversal_printed : (ranks : Option (List ℕ)) (queues : Queues) (form : PictureFormat) (e f : ℕ) (printed : List ℕ)
+      → PrintsReversal draft (chart_of draft) ranks queues form e f printed → IsPlain printed
+  reversal_printed ranks queues form e f printed says =
       subst IsPlain (sym says.run.text) (form_plain form says.run.scene _ says.run.shows (run_over_plain (chart_of draft) queues e f (instances_plain draft is)))
 
   -- the picture of a run in an article
-  article_run : (queues : Queues) (many : ℕ) (articles : List Article) → AreDrawn (ShowsIts draft (chart_of draft) queues) many articles
+  article_run : (ranks : Option (List ℕ)) (queues : Queues) (many : ℕ) (articles : List Article)
+      → AreDrawn (ShowsIts draft (chart_of draft) ranks queues) many articles
       → (k : ℕ) (a : Article) → StandsAt articles k a → (s : Scene) → a.run ≡ Some s → HasPlainTexts s
-  article_run queues many articles are k a at s same = elim (cases_lt k many) [
+  article_run ranks queues many articles are k a at s same = elim (cases_lt k many) [
     | inl less ↦
         let drawn = are.some k a at less in
         let one : drawn.0 ≡ s = let both = sym drawn.1 ∙ same in cc in
@@ -79,11 +80,11 @@ module _ (texts : TextsOfPicturesArePlain) (pictures : PicturesArePlain) (svgs :
   ]
 
   -- and so is a report
-  pub report_printed : (queues : Queues) (version printed : List ℕ) → IsPlain version
-      → PrintsReport draft (chart_of draft) queues version printed → IsPlain printed
-  report_printed queues version printed plain says =
+  pub report_printed : (ranks : Option (List ℕ)) (queues : Queues) (version printed : List ℕ) → IsPlain version
+      → PrintsReport draft (chart_of draft) ranks queues version printed → IsPlain printed
+  report_printed ranks queues version printed plain says =
       let races = length (races_of (enforced_chart (chart_of draft) queues says.order)) in
       subst IsPlain (sym says.text) (report_plain
       (report (chart_of draft) queues races (length says.closest) says.scene says.articles (canonical draft) version)
       (instances_plain draft is) (scene_plain says.scene says.right.shows)
-      (runs_plain says.articles (article_run queues says.many says.articles says.tell.drawn)) plain)
+      (runs_plain says.articles (article_run ranks queues says.many says.articles says.tell.drawn)) plain)

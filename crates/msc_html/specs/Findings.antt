@@ -20,12 +20,12 @@ use Rattle.msc_html.specs.Articles.{Article}
 use Rattle.msc_html.specs.Reports.{report, report_text}
 
 -- the picture is that of a run of a draft's chart under an architecture that has f before e, with a
--- mark of the two under this number
-pub record ShowsRun (draft : Tree) (d : Drawing) (queues : Queues) (e f number : ℕ) (s : Scene) : Type 0 where
+-- mark of the two under this number; its events are drawn by these ranks if they are given
+pub record ShowsRun (draft : Tree) (d : Drawing) (ranks : Option (List ℕ)) (queues : Queues) (e f number : ℕ) (s : Scene) : Type 0 where
   pub run : List ℕ
   pub reverses : IsReversingRun (wired queues d) e f run
   pub shows : IsPopulated draft d s
-  pub laid_out : IsRunLaidOut (wired queues d) run e f number s
+  pub laid_out : IsRunLaidOut (wired queues d) ranks run e f number s
 
 -- the race of an article
 abbrev pub race_of : Article → ℕ × ℕ
@@ -65,26 +65,26 @@ pub record AreDrawn (shows : ShownRace → Scene → Type 0) (many : ℕ) (artic
   pub longest : (a : Article) → StandsAt articles many a → LacksRoom shows (1500 - rows_drawn articles) a.told
 
 -- the picture shows a run that reverses a race that is told
-abbrev pub ShowsIts : Tree → Drawing → Queues → ShownRace → Scene → Type 0
-ShowsIts draft d queues t s = ShowsRun draft d queues t.first t.second t.number s
+abbrev pub ShowsIts : Tree → Drawing → Option (List ℕ) → Queues → ShownRace → Scene → Type 0
+ShowsIts draft d ranks queues t s = ShowsRun draft d ranks queues t.first t.second t.number s
 
 -- the articles are those of the first 50 of these races, in their order
-pub record AreArticles (draft : Tree) (d : Drawing) (queues : Queues) (races : List (ℕ × ℕ)) (many : ℕ) (articles : List Article) : Type 0 where
+pub record AreArticles (draft : Tree) (d : Drawing) (ranks : Option (List ℕ)) (queues : Queues) (races : List (ℕ × ℕ)) (many : ℕ) (articles : List Article) : Type 0 where
   pub races_are : map race_of articles ≡ take 50 races
   pub numbered : AreNumbered 1 articles
   pub told : All (IsRightlyTold (wired queues d)) articles
-  pub drawn : AreDrawn (ShowsIts draft d queues) many articles
+  pub drawn : AreDrawn (ShowsIts draft d ranks queues) many articles
 
 -- what is printed as the report of a draft's chart under an architecture, by a program of this
 -- version
-pub record PrintsReport (draft : Tree) (d : Drawing) (queues : Queues) (version : List ℕ) (printed : List ℕ) : Type 0 where
+pub record PrintsReport (draft : Tree) (d : Drawing) (ranks : Option (List ℕ)) (queues : Queues) (version : List ℕ) (printed : List ℕ) : Type 0 where
   pub order : Table
   pub by_order : IsEnforced (enforced_chart d queues order)
   pub closest : List (ℕ × ℕ)
   pub are : IsClosestList (wired queues d) closest
   pub scene : Scene
-  pub right : IsSceneOf draft d closest scene
+  pub right : IsSceneOf draft d ranks closest scene
   pub many : ℕ
   pub articles : List Article
-  pub tell : AreArticles draft d queues closest many articles
+  pub tell : AreArticles draft d ranks queues closest many articles
   pub text : printed ≡ report_text (report d queues (length (races_of (enforced_chart d queues order))) (length closest) scene articles (canonical draft) version)

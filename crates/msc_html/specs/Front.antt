@@ -57,13 +57,21 @@ meta attributes = inline (codes "meta") attributes no_nodes
 abbrev pub named_meta : List ℕ → List ℕ → Node
 named_meta name content = meta (valued (codes "name") name ∷ valued (codes "content") content ∷ [])
 
--- the head of a page with this title
-abbrev pub head_node : List ℕ → Node
-head_node title =
+-- the head of a page with this title and this style sheet
+abbrev pub head_with : List ℕ → List ℕ → Node
+head_with sheet title =
     block (codes "head") [] (children (meta (valued (codes "charset") (codes "utf-8") ∷ [])
     ∷ named_meta (codes "viewport") (codes "width=device-width,initial-scale=1")
     ∷ named_meta (codes "color-scheme") (codes "light dark")
     ∷ plain (codes "title") title ∷ plain (codes "style") sheet ∷ []))
+
+-- the head of a page with this title
+abbrev pub head_node : List ℕ → Node
+head_node title = head_with sheet title
+
+-- what a page for several scenarios adds to the style sheet: its pictures are as wide as the window
+abbrev pub wide_sheet : List ℕ
+wide_sheet = sheet ++ codes "main{max-width:none}article{max-width:62rem}"
 
 -- the head of an arrow, where nothing of it is seen
 abbrev pub store_node : Node
@@ -82,4 +90,22 @@ advice_nodes =
     (words (codes "Or mean both orders: draw the two events in one coregion (") ∷ code (codes "concurrent")
     ∷ words (codes "), and program the instance for both.") ∷ [])
     ∷ plain (codes "li") (codes "Or let the instance leave a message in its queue until it is ready for it. That is another program than the one drawn, and nothing is said of it here.")
+    ∷ [])) ∷ []
+
+-- what to do about a race of a diagram
+abbrev pub diagram_advice : List Node
+diagram_advice =
+    plain (codes "h2") (codes "What to do about a race")
+    ∷ block (codes "ul") [] (children
+    (plain (codes "li") (codes "Bring the missing order about, for instance by an answer that the sender waits for.")
+    ∷ sentence (codes "li") Plain
+    (words (codes "Or mean both orders: draw the two arrows as branches of a ") ∷ code (codes "par")
+    ∷ words (codes " block, and program the participant for both.") ∷ [])
+    ∷ sentence (codes "li") Plain
+    (words (codes "Or accept the race: the line ") ∷ code (codes "%% race ok: REASON")
+    ∷ words (codes " above one of its arrows does so for ") ∷ code (codes "msc check --accept")
+    ∷ words (codes ".") ∷ [])
+    ∷ sentence (codes "li") Plain
+    (words (codes "Or let the participant leave a message in its queue until it is ready for it. That is another program than the one drawn; ")
+    ∷ code (codes "msc ready") ∷ words (codes " says whether it can block.") ∷ [])
     ∷ [])) ∷ []

@@ -32,17 +32,17 @@ ReportsArePlain =
 -- a picture of a draft's chart is plain
 abbrev pub PrintedPicturesArePlain : Type 0
 PrintedPicturesArePlain =
-    (draft : Tree) → IsDraft draft → (queues : Option Queues) (form : PictureFormat) (printed : List ℕ)
-    → PrintsPicture draft (chart_of draft) queues form printed → IsPlain printed
+    (draft : Tree) → IsDraft draft → (ranks : Option (List ℕ)) (queues : Option Queues) (form : PictureFormat) (printed : List ℕ)
+    → PrintsPicture draft (chart_of draft) ranks queues form printed → IsPlain printed
 
 -- and so is one of a run that reverses a race
 abbrev pub PrintedReversalsArePlain : Type 0
 PrintedReversalsArePlain =
-    (draft : Tree) → IsDraft draft → (queues : Queues) (form : PictureFormat) (e f : ℕ) (printed : List ℕ)
-    → PrintsReversal draft (chart_of draft) queues form e f printed → IsPlain printed
+    (draft : Tree) → IsDraft draft → (ranks : Option (List ℕ)) (queues : Queues) (form : PictureFormat) (e f : ℕ) (printed : List ℕ)
+    → PrintsReversal draft (chart_of draft) ranks queues form e f printed → IsPlain printed
 
 -- and a report, where the version is
 abbrev pub PrintedReportsArePlain : Type 0
 PrintedReportsArePlain =
-    (draft : Tree) → IsDraft draft → (queues : Queues) (version printed : List ℕ) → IsPlain version
-    → PrintsReport draft (chart_of draft) queues version printed → IsPlain printed
+    (draft : Tree) → IsDraft draft → (ranks : Option (List ℕ)) (queues : Queues) (version printed : List ℕ) → IsPlain version
+    → PrintsReport draft (chart_of draft) ranks queues version printed → IsPlain printed

@@ -1,5 +1,5 @@
 -- What the code keeps while it tells races one by one.
-use Rattle.std.specs.Prelude.{◌≡◌, ℕ, ◌+◌, ◌-◌, ◌<◌, ◌≤◌, true, false, List, ◌++◌, Option, None, Some, length, map}
+use Rattle.std.specs.Prelude.{◌≡◌, ℕ, ◌+◌, ◌-◌, ◌<◌, ◌≤◌, true, false, List, ◌++◌, Option, None, Some, length, map, option_copied}
 use Rattle.msc_chart.specs.Drawings.{chart_of}
 use Rattle.msc_parser.specs.Grammar.{Tree}
 use Rattle.msc_picture.specs.declared.scene.Scene.{Scene}
@@ -24,9 +24,14 @@ judged source = source.listing.now.judged
 abbrev pub IsOfDraft : Source → Type 0
 IsOfDraft source = (judged source).chart ≡ chart_of source.draft.now
 
+-- the ranks by which the events of its pictures are drawn, if there are any
+abbrev pub ranks_in : Source → Option (List ℕ)
+ranks_in source = option_copied source.ranks
+
 -- the picture shows a run that reverses a race
 abbrev pub ShowsIn : Source → ShownRace → Scene → Type 0
-ShowsIn source = ShowsIts source.draft.now (judged source).chart (judged source).queues
+ShowsIn source =
+    ShowsIts source.draft.now (judged source).chart (ranks_in source) (judged source).queues
 
 -- How the picture of a run is drawn or not: it is drawn where there is room for it, and where every
 -- one before it is.
@@ -41,7 +46,7 @@ pub data GoesOn (shows : ShownRace → Scene → Type 0) (t : ShownRace) (old ne
 pub record HasTold (source : Source) (base page : List ℕ) (races : List (ℕ × ℕ)) (p : Progress) : Type 0 where
   pub articles : List Article
   pub many : ℕ
-  pub are : AreArticles source.draft.now (judged source).chart (judged source).queues races many articles
+  pub are : AreArticles source.draft.now (judged source).chart (ranks_in source) (judged source).queues races many articles
   pub page_is : page ≡ base ++ lines_text (map (article_node source.scene.now (judged source).chart (judged source).queues) articles)
   pub told : p.told ≡ length articles
   pub room : p.room + rows_drawn articles ≡ 1500
@@ -51,7 +56,7 @@ pub record HasTold (source : Source) (base page : List ℕ) (races : List (ℕ �
 -- the articles of the races that are listed are the first of these
 abbrev pub AreIts : Source → ℕ → List Article → Type 0
 AreIts source many articles =
-    AreArticles source.draft.now (judged source).chart (judged source).queues
+    AreArticles source.draft.now (judged source).chart (ranks_in source) (judged source).queues
     (listed_of source.listing.now) many articles
 
 -- the races are told behind a page
@@ -89,11 +94,11 @@ pub record TellsPage (source : Source) (old new : List ℕ) (races closest : ℕ
   pub page_is : new ≡ old ++ report_text (report_in source races closest articles text version)
 
 -- what is printed of a listing of races: the picture with their marks, and the articles
-pub record TellsListing (draft : Tree) (s : Selected) (races : ℕ) (version printed : List ℕ) : Type 0 where
+pub record TellsListing (draft : Tree) (s : Selected) (ranks : Option (List ℕ)) (races : ℕ) (version printed : List ℕ) : Type 0 where
   pub scene : Scene
-  pub right : IsSceneOf draft s.judged.chart (listed_of s) scene
+  pub right : IsSceneOf draft s.judged.chart ranks (listed_of s) scene
   pub articles : List Article
   pub many : ℕ
-  pub are : AreArticles draft s.judged.chart s.judged.queues (listed_of s) many articles
+  pub are : AreArticles draft s.judged.chart ranks s.judged.queues (listed_of s) many articles
   pub text : printed ≡ report_text (report s.judged.chart s.judged.queues races (length (listed_of s)) scene articles
       (canonical draft) version)

@@ -162,7 +162,7 @@ fn put_place(page: &mut Vec<u8>, alloc: Global, k: usize) -> Result<(), AllocErr
 }
 
 /// Appends the beginning of the article of race `k` to a page.
-fn put_article_begin(page: &mut Vec<u8>, alloc: Global, k: usize) -> Result<(), AllocError>
+pub fn put_article_begin(page: &mut Vec<u8>, alloc: Global, k: usize) -> Result<(), AllocError>
     ensures { OnOk result (page.new.items ≡ page.old.items ++ (opened (codes "article")
         (valued (codes "id") (place_text k) ∷ []) ++ codes ">\n")) }
 {

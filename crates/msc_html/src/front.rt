@@ -2,12 +2,13 @@
 //! arrow, and the advice on a race.
 
 ghost use Rattle.std.specs.Prelude.{◌≡◌, ◌++◌, OnOk, codes};
-ghost use Rattle.msc_html.specs.Front.{advice_nodes, head_node, sheet, store_node};
+ghost use Rattle.msc_html.specs.Front.{advice_nodes, diagram_advice, head_node, head_with};
+ghost use Rattle.msc_html.specs.Front.{sheet, store_node, wide_sheet};
 ghost use Rattle.msc_tree.specs.Shapes.{plain};
 ghost use Rattle.msc_tree.specs.Trees.{line_text, lines_text};
 
 use msc_tree::put_plain;
-use std::alloc::AllocError;
+use std::alloc::{AllocError, Global};
 
 /// The style sheet of a report.
 const SHEET: &[u8] =
@@ -49,6 +50,9 @@ article{break-inside:avoid}h2,summary{break-after:avoid}svg{max-width:100%;\
 height:auto}\
 details::details-content{content-visibility:visible}}";
 
+/// What a page for several scenarios adds to the style sheet.
+const WIDE: &[u8] = b"main{max-width:none}article{max-width:62rem}";
+
 /// The metadata of a page.
 const METAS: &[u8] = b"<meta charset=\"utf-8\"/>\n\
 <meta name=\"viewport\" content=\"width=device-width,initial-scale=1\"/>\n\
@@ -63,18 +67,33 @@ program the instance for both.</li>\n\
 <li>Or let the instance leave a message in its queue until it is ready for it. That is another \
 program than the one drawn, and nothing is said of it here.</li>\n</ul>\n";
 
+/// The advice on a race of a diagram.
+const DIAGRAM_ADVICE: &[u8] = b"<h2>What to do about a race</h2>\n<ul>\n\
+<li>Bring the missing order about, for instance by an answer that the sender waits for.</li>\n\
+<li>Or mean both orders: draw the two arrows as branches of a <code>par</code> block, and program \
+the participant for both.</li>\n\
+<li>Or accept the race: the line <code>%% race ok: REASON</code> above one of its arrows does so \
+for <code>msc check --accept</code>.</li>\n\
+<li>Or let the participant leave a message in its queue until it is ready for it. That is another \
+program than the one drawn; <code>msc ready</code> says whether it can block.</li>\n</ul>\n";
+
 /// The head of an arrow, which is itself hidden.
 const STORE: &[u8] = b"<svg class=\"store\" width=\"0\" height=\"0\" aria-hidden=\"true\">\n\
 <marker id=\"tip\" markerUnits=\"userSpaceOnUse\" markerWidth=\"12\" markerHeight=\"8\" \
 refX=\"12\" refY=\"4\" orient=\"auto\">\n\
 <path class=\"tip\" d=\"M0,0L12,4L0,8z\"/>\n</marker>\n</svg>\n";
 
-/// Appends the style sheet of a report to a page.
-fn put_sheet(page: &mut Vec<u8>) -> Result<(), AllocError>
+/// Appends the head of a page with this title and this style sheet to it.
+fn put_head_with(page: &mut Vec<u8>, sheet: &[u8], title: &[u8]) -> Result<(), AllocError>
     ensures { OnOk result
-        (page.new.items ≡ page.old.items ++ line_text (plain (codes "style") sheet)) }
+        (page.new.items ≡ page.old.items ++ line_text (head_with sheet.now title.now)) }
 {
-    put_plain(page, b"style", SHEET)
+    page.extend_from_slice(b"<head>\n")?;
+    page.extend_from_slice(METAS)?;
+    put_plain(page, b"title", title)?;
+    put_plain(page, b"style", sheet)?;
+    page.extend_from_slice(b"</head>\n")?;
+    Ok(())
 }
 
 /// Appends the head of a page with this title to it.
@@ -82,11 +101,18 @@ pub fn put_head(page: &mut Vec<u8>, title: &[u8]) -> Result<(), AllocError>
     ensures { OnOk result
         (page.new.items ≡ page.old.items ++ line_text (head_node title.now)) }
 {
-    page.extend_from_slice(b"<head>\n")?;
-    page.extend_from_slice(METAS)?;
-    put_plain(page, b"title", title)?;
-    put_sheet(page)?;
-    page.extend_from_slice(b"</head>\n")?;
+    put_head_with(page, SHEET, title)
+}
+
+/// Appends the head of a page for several scenarios with this title to it: its pictures are as wide
+/// as the window.
+pub fn put_wide_head(page: &mut Vec<u8>, alloc: Global, title: &[u8]) -> Result<(), AllocError>
+    ensures { OnOk result
+        (page.new.items ≡ page.old.items ++ line_text (head_with wide_sheet title.now)) }
+{
+    let mut sheet = Vec::from_slice(alloc, SHEET)?;
+    sheet.extend_from_slice(WIDE)?;
+    put_head_with(page, &sheet, title)?;
     Ok(())
 }
 
@@ -102,4 +128,11 @@ pub fn put_advice(page: &mut Vec<u8>) -> Result<(), AllocError>
     ensures { OnOk result (page.new.items ≡ page.old.items ++ lines_text advice_nodes) }
 {
     page.extend_from_slice(ADVICE)
+}
+
+/// Appends the advice on a race of a diagram to a page.
+pub fn put_diagram_advice(page: &mut Vec<u8>) -> Result<(), AllocError>
+    ensures { OnOk result (page.new.items ≡ page.old.items ++ lines_text diagram_advice) }
+{
+    page.extend_from_slice(DIAGRAM_ADVICE)
 }

@@ -2,6 +2,7 @@
 //! law calls its function.
 
 ghost use Rattle.msc_html.specs.Laws.{AlwaysLacksForGood};
+ghost use Rattle.msc_html.specs.Paragraphs.{ParagraphsMakeTheText};
 ghost use Rattle.msc_html.specs.Plain.{PrintedPicturesArePlain, PrintedReportsArePlain};
 ghost use Rattle.msc_html.specs.Plain.{PrintedReversalsArePlain, ReportsArePlain};
 
@@ -14,6 +15,11 @@ pub fn always_lacks_for_good()
 {
     ends_share_queues();
 }
+
+/// A text is its paragraphs, each with the empty line that follows it, and what no empty line follows.
+pub fn paragraphs_make_the_text()
+    ensures { ParagraphsMakeTheText }
+{}
 
 /// Each picture of a draft's chart, in text and in SVG, each picture of a run that reverses a race,
 /// and each report consists of the bytes 32 to 126 and line ends, if the version does: the grammar

@@ -18,7 +18,7 @@ use msc_tree::{put_decimal, put_plain};
 use std::alloc::{AllocError, Global};
 
 /// An architecture in words.
-fn queues_text(queues: Queues) -> &'static [u8]
+pub fn queues_text(queues: Queues) -> &'static [u8]
     ensures { result.now ≡ queues_text queues }
 {
     match queues.usual() {
@@ -140,7 +140,7 @@ fn put_count(
 }
 
 /// Appends the explanation of a race to a page.
-fn put_race_text(page: &mut Vec<u8>) -> Result<(), AllocError>
+pub fn put_race_text(page: &mut Vec<u8>) -> Result<(), AllocError>
     ensures { OnOk result
         (page.new.items ≡ page.old.items ++ line_text (plain (codes "p") race_text)) }
 {

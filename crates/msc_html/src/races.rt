@@ -27,11 +27,12 @@ pub const ARTICLE_LIMIT: usize = 50;
 /// The greatest number of rows that the pictures of their runs have together.
 pub const ROW_LIMIT: usize = 1500;
 
-/// The source of the articles: a draft, the closest races of its chart under an architecture, and
-/// the picture of it.
+/// The source of the articles: a draft, the ranks by which the events of its pictures are drawn, if
+/// they are given, the closest races of its chart under an architecture, and the picture of it.
 #[derive(Clone, Copy)]
 pub struct Source<'a> {
     pub draft: &'a Draft,
+    pub ranks: Option<&'a [usize]>,
     pub listing: &'a Listing<'a>,
     pub scene: &'a Scene,
 }
@@ -76,7 +77,14 @@ fn run_of(alloc: Global, source: &Source<'_>, told: ShownRace) -> Result<Scene, 
         number: told.number,
     };
     let wiring = enforced.wiring();
-    let scene = run_scene(alloc, source.draft, wiring, run.as_slice(), race)?;
+    let scene = run_scene(
+        alloc,
+        source.draft,
+        wiring,
+        source.ranks,
+        run.as_slice(),
+        race,
+    )?;
     Ok(scene)
 }
 

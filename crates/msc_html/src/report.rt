@@ -1,6 +1,6 @@
 //! The report of a chart's races.
 
-ghost use Rattle.std.specs.Prelude.{◌≡◌, ◌++◌, IfOk, OnOk, map};
+ghost use Rattle.std.specs.Prelude.{◌≡◌, ◌++◌, IfOk, OnOk, map, option_copied};
 ghost use Rattle.msc_chart.specs.Drawings.{chart_of};
 ghost use Rattle.msc_html.specs.Findings.{PrintsReport};
 ghost use Rattle.msc_html.specs.Front.{advice_nodes, head_node};
@@ -134,7 +134,7 @@ fn put_shown(page: &mut Vec<u8>, alloc: Global, text: &[u8]) -> Result<(), Alloc
 }
 
 /// Appends the version to a page.
-fn put_version(page: &mut Vec<u8>, alloc: Global, version: &[u8]) -> Result<(), AllocError>
+pub fn put_version(page: &mut Vec<u8>, alloc: Global, version: &[u8]) -> Result<(), AllocError>
     ensures { OnOk result
         (page.new.items ≡ page.old.items ++ line_text (version_node version.now)) }
 {
@@ -286,21 +286,23 @@ fn put_page(
 fn report_listing(
     alloc: Global,
     draft: &Draft,
+    ranks: Option<&[usize]>,
     listing: &Listing,
     races: usize,
     version: &[u8],
 ) -> Result<Page, AllocError>
     requires { listing.now.judged.chart ≡ chart_of draft.now }
-    ensures { IfOk result (λ page. TellsListing draft.now listing.now races version.now
-        page.bytes.items) }
+    ensures { IfOk result (λ page. TellsListing draft.now listing.now
+        (option_copied ranks.entry) races version.now page.bytes.items) }
 {
     let chart = listing.enforced().chart();
     let (bars, closest) = bars_listed(alloc, listing)?;
-    let scene = chart_scene(alloc, draft, chart, bars)?;
+    let scene = chart_scene(alloc, draft, chart, ranks, bars)?;
     let text = draft.write(alloc)?;
     let mut bytes = Vec::new(alloc);
     let source = Source {
         draft,
+        ranks,
         listing,
         scene: &scene,
     };
@@ -312,36 +314,41 @@ fn report_listing(
 fn report_enforced(
     alloc: Global,
     draft: &Draft,
+    ranks: Option<&[usize]>,
     enforced: Enforced,
     version: &[u8],
 ) -> Result<Page, AllocError>
     requires { enforced.chart ≡ chart_of draft.now }
     ensures { IfOk result (λ page. PrintsReport draft.now enforced.entry.chart
-        enforced.entry.queues version.now page.bytes.items) }
+        (option_copied ranks.entry) enforced.entry.queues version.now page.bytes.items) }
 {
     every_race_that_counts_spans_a_closest_one();
     what_counts_is_listed();
     enforced.facts();
     let races = enforced.count_races() as usize;
     let listing = Listing::of(alloc, enforced, LeftOut::of_kinds(KindSet::NONE), true)?;
-    let page = report_listing(alloc, draft, &listing, races, version)?;
+    let page = report_listing(alloc, draft, ranks, &listing, races, version)?;
     Ok(page)
 }
 
 /// The report on a draft's chart under an architecture, by a program of this version: a page in
-/// HTML. An error is a growth of memory that was refused.
+/// HTML. If `ranks` are given, they have a number for each event, and the events of its pictures are
+/// drawn by these numbers, as in `msc_picture::drawing_order`. An error is a growth of memory that
+/// was refused.
 pub fn report_chart(
     alloc: Global,
     draft: &Draft,
     chart: &Chart,
+    ranks: Option<&[usize]>,
     queues: Queues,
     version: &[u8],
 ) -> Result<Page, AllocError>
     requires { chart.now ≡ chart_of draft.now }
     ensures { IfOk result (λ page.
-        PrintsReport draft.now chart.now queues version.now page.bytes.items) }
+        PrintsReport draft.now chart.now (option_copied ranks.entry) queues version.now
+        page.bytes.items) }
 {
     let enforced = Enforced::of(alloc, chart, queues)?;
-    let page = report_enforced(alloc, draft, enforced, version)?;
+    let page = report_enforced(alloc, draft, ranks, enforced, version)?;
     Ok(page)
 }

@@ -10,3 +10,4 @@ pub mod AllLemmas
 pub mod SegmentLemmas
 pub mod PathSegments
 pub mod ArrowLemmas
+pub mod NumberLemmas

@@ -92,7 +92,7 @@ both_kept p e f h =
     (subst (Reaches 0 (p.ends ++ (n + 2) ∷ [])) (sym many) (upto_end (n + 2) 0 p.ends up), refl)
 
 -- the ends of an arrow, as events
-abbrev ends_of : Message → List Side → List Event
+abbrev pub ends_of : Message → List Side → List Event
 ends_of m ss = map (λ s. record { message = m; side = s }) ss
 
 exchange_kept : (line : ℕ) (m : Message) (p : Plan) → Fits p → Kept p (ends_of m (exchange_sides line m)) (exchanged line m p)
@@ -196,3 +196,8 @@ unfolding Kept Fits Reaches
 line_has manner names line ss p e =
     let kept = plan_kept manner line ss unplanned p e refl in
     items_have names p.events 0 p.ends kept.0 ∙ ap (map (drawn_event names)) kept.1
+
+-- a line's events are the ends of the path's arrows, in their order
+pub plan_events : (manner : Manner) (line : ℕ) (ss : List Step) (p : Plan) → plan_on manner line ss unplanned ≡ Ok p → p.events ≡ flat_map (ends_on manner.own line) ss
+unfolding Kept Fits Reaches
+plan_events manner line ss p e = (plan_kept manner line ss unplanned p e refl).1

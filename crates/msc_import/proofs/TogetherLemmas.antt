@@ -17,7 +17,7 @@ Step_by manner s line (p ∷ ps) [] = ⊥
 Step_by manner s line (p ∷ ps) (q ∷ qs) = (planned manner line s p ≡ Ok q) × Step_by manner s (line + 1) ps qs
 
 -- each line takes these steps
-Steps_by : Manner → List Step → ℕ → List Plan → List Plan → Type 0
+unfoldable pub Steps_by : Manner → List Step → ℕ → List Plan → List Plan → Type 0
 Steps_by manner ss line [] qs = qs ≡ []
 Steps_by manner ss line (p ∷ ps) [] = ⊥
 Steps_by manner ss line (p ∷ ps) (q ∷ qs) = (plan_on manner line ss p ≡ Ok q) × Steps_by manner ss (line + 1) ps qs
@@ -67,7 +67,7 @@ module _ (manner : Manner) where
   first_step s ss ps qs (Ok rs) e f rest = step_on manner s ss 0 ps rs qs (all_step manner s ps rs e) (rest rs f)
   first_step s ss ps qs (Err x) e f rest = cc
 
-  together : (ss : List Step) (ps qs : List Plan) → plans_on manner ss ps ≡ Ok qs → Steps_by manner ss 0 ps qs
+  pub together : (ss : List Step) (ps qs : List Plan) → plans_on manner ss ps ≡ Ok qs → Steps_by manner ss 0 ps qs
   unfolding plans_on
   together [] ps qs e = subst (Steps_by manner [] 0 ps) (same_ok (Ok ps) ps qs refl e) (no_step 0 ps)
   together (s ∷ ss) ps qs e = first_step s ss ps qs (planned_all manner s [] ps) refl e (λ rs f. together ss rs qs f)

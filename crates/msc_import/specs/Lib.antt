@@ -8,3 +8,4 @@ pub mod Whole
 pub mod Laws
 pub mod Segments
 pub mod ArrowEnds
+pub mod Numbering

@@ -3,6 +3,7 @@
 
 ghost use Rattle.msc_import.specs.ArrowEnds.{ArrowsHaveTheirEnds};
 ghost use Rattle.msc_import.specs.Laws.{LinesKeepTheArrowsOrder, ReadingComesFirst};
+ghost use Rattle.msc_import.specs.Numbering.{NumbersNameTheArrows};
 ghost use Rattle.msc_import.specs.Segments.{HistoriesHaveSegments, LinesAreDrawnInSegments};
 
 /// Each line of a draft has the ends of the path's arrows in their order.
@@ -23,6 +24,13 @@ pub fn arrows_have_their_ends()
 pub fn drawn_as_met()
     ensures drawn { LinesAreDrawnInSegments }
     ensures segments { HistoriesHaveSegments }
+{}
+
+/// The arrow of each event of a draft is the one with the event's number, among the arrows that the
+/// path of the scenario meets, in their order. So there are as many numbers as there are positions,
+/// and each position is that of the arrow with the number.
+pub fn arrow_numbers_name_the_arrows()
+    ensures { NumbersNameTheArrows }
 {}
 
 /// What is imported of a text is drawn of its diagram, if it has one; otherwise the text is refused

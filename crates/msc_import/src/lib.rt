@@ -29,6 +29,7 @@ mod drawing;
 mod drawings;
 mod importing;
 pub mod laws;
+mod numbering;
 mod placing;
 mod plan;
 mod short_name;
@@ -41,6 +42,7 @@ pub use importing::{
     DiagramReading, Imported, Importing, Language, Refused, draw_chosen, import, import_from, read,
     read_from,
 };
+pub use numbering::arrow_numbers;
 pub use placing::places;
 pub use plan::{Manner, Own, Par};
 pub use short_name::ShortName;

@@ -1,10 +1,10 @@
 //! The part of a path on each line of a diagram: ends of messages, in segments.
 
-ghost use Rattle.std.specs.Prelude.{◌≡◌, [], IfOk, OnOk, map, replicate};
+ghost use Rattle.std.specs.Prelude.{◌≡◌, [], IfOk, OnOk, length, map, replicate};
 ghost use Rattle.msc_import.specs.Plans.{closed_last, is_coregion, is_exchange, is_refused};
 ghost use Rattle.msc_import.specs.Plans.{last_frame, met, single_sides, with_pair};
 ghost use Rattle.msc_import.specs.Plans.{marked, marked_last, opened};
-ghost use Rattle.msc_import.specs.Plans.{planned, planned_all, plans_of, seen};
+ghost use Rattle.msc_import.specs.Plans.{planned, planned_all, plans_of, seen, sides_on};
 ghost use Rattle.msc_import.specs.Plans.{unplanned, with_event, with_sides};
 ghost use Rattle.msc_mermaid.specs.Gives.{Gives};
 ghost use Rattle.msc_mermaid.specs.Reading.{Leaves};
@@ -128,6 +128,21 @@ fn single_sides(own: Own, line: usize, message: &Message) -> &'static [Side]
     match own {
         Own::Action => &[Side::Own],
         Own::Message => &[Side::Out, Side::In],
+    }
+}
+
+/// The number of ends that an arrow has on a line.
+#[tactic(auto, unfolding(crate::specs::Plans::sides_on))]
+pub(crate) fn end_count(own: Own, line: usize, message: &Message) -> usize
+    ensures { result ≡ length (sides_on own line message.now) }
+{
+    if !is_exchange(message) {
+        return single_sides(own, line, message).len();
+    }
+    if message.from == line || message.to == line {
+        2
+    } else {
+        0
     }
 }
 

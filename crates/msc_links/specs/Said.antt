@@ -48,10 +48,14 @@ clauses_text names listed =
     ++ (clause_text names Mailbox (links_of_kind Mailbox listed)
     ++ clause_text names Single (links_of_kind Single listed))
 
+-- an architecture between this number of instances, which have these names
+abbrev pub queues_named : List (List ℕ) → ℕ → Queues → List ℕ
+queues_named names count queues =
+    queues_word queues ++ clauses_text names (listed_links queues count)
+
 -- an architecture between the instances of a chart
 unfoldable pub queues_said : Drawing → Queues → List ℕ
-queues_said d queues =
-    queues_word queues ++ clauses_text d.instances (listed_links queues (length d.instances))
+queues_said d queues = queues_named d.instances (length d.instances) queues
 
 -- LINK as a shell takes it: an arrow needs quotes
 abbrev pub quoted_link : List (List ℕ) → Link → List ℕ

@@ -6,7 +6,7 @@
 //!
 //! [`own_queues`] reads the rules that a text has in a comment of its own, and [`own_said`] prints
 //! them. [`print_queues`] and [`print_queue_options`] print an architecture, in words and as options
-//! of a command line.
+//! of a command line; [`print_queues_named`] prints it with other names than those of the chart.
 //!
 //! Lines are numbered from 0, in the order of their names. [`queues_of`] takes no memory.
 //!
@@ -49,4 +49,4 @@ pub use link::Link;
 pub use listing::{ListedLink, are_alike};
 pub use queues::queues_of;
 pub use rule::{Rule, same_kind};
-pub use said::{own_said, print_queue_options, print_queues};
+pub use said::{own_said, print_queue_options, print_queues, print_queues_named};

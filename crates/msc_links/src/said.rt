@@ -7,8 +7,8 @@ ghost use Rattle.std.specs.Prelude.{◌≡◌, ◌++◌, ◌≤◌, IfOk, MatchO
 ghost use Rattle.std.specs.List.{list_any};
 ghost use Rattle.msc_links.specs.Said.{clause_text, clauses_text, link_option, link_text};
 ghost use Rattle.msc_links.specs.Said.{links_of_kind, made_names, more_links, name_at, own_said};
-ghost use Rattle.msc_links.specs.Said.{queue_options, queues_said, quoted_link, ruled_links};
-ghost use Rattle.msc_links.specs.Said.{options_text, with_rule, HasFault, SaysOwn};
+ghost use Rattle.msc_links.specs.Said.{queue_options, queues_named, queues_said, quoted_link};
+ghost use Rattle.msc_links.specs.Said.{options_text, ruled_links, with_rule, HasFault, SaysOwn};
 ghost use Rattle.msc_links.specs.Links.{same_link};
 
 use crate::comment::OwnQueues;
@@ -136,10 +136,29 @@ fn instance_names<'c>(alloc: Global, chart: &'c Chart) -> Result<Vec<&'c [u8]>, 
     Ok(names)
 }
 
-/// Appends an architecture to a text, with the names of a chart's instances: the word for its usual
-/// kind, and for each kind the links of this kind that are listed. Those are the links whose kind
-/// is not the usual one, by their receivers and then their senders; a receiver stands for all links
-/// to it if these are of one kind. An error is a growth of memory that was refused.
+/// Appends an architecture between the instances of a chart to a text, with these names for the
+/// instances: the word for its usual kind, and for each kind the links of this kind that are listed.
+/// Those are the links whose kind is not the usual one, by their receivers and then their senders;
+/// a receiver stands for all links to it if these are of one kind. An instance without a name gets
+/// an empty one. An error is a growth of memory that was refused.
+pub fn print_queues_named(
+    text: &mut Vec<u8>,
+    alloc: Global,
+    chart: &Chart,
+    names: &[&[u8]],
+    queues: &Queues,
+) -> Result<(), AllocError>
+    ensures { OnOk result (text.new.items ≡ text.old.items
+        ++ queues_named (map (λ name. name.now) names.now) (length chart.now.instances) queues.now) }
+{
+    let listed = listed_links(alloc, queues, chart.instances())?;
+    text.extend_from_slice(queues.word().as_bytes())?;
+    print_clauses(text, alloc, names, listed.as_slice())?;
+    Ok(())
+}
+
+/// Appends an architecture to a text, as [`print_queues_named`] does, with the names of a chart's
+/// instances. An error is a growth of memory that was refused.
 #[tactic(auto, unfolding(crate::specs::Said::queues_said))]
 pub fn print_queues(
     text: &mut Vec<u8>,
@@ -151,10 +170,7 @@ pub fn print_queues(
         (text.new.items ≡ text.old.items ++ queues_said chart.now queues.now) }
 {
     let names = instance_names(alloc, chart)?;
-    let listed = listed_links(alloc, queues, chart.instances())?;
-    text.extend_from_slice(queues.word().as_bytes())?;
-    print_clauses(text, alloc, names.as_slice(), listed.as_slice())?;
-    Ok(())
+    print_queues_named(text, alloc, chart, names.as_slice(), queues)
 }
 
 /// Appends LINK to a text, in quotes if a shell needs them.

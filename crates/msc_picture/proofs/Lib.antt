@@ -6,12 +6,14 @@ mod OpenLemmas
 mod ReadyLemmas
 mod NextListed
 mod SearchLemmas
+mod RankLemmas
 mod Wholes
 pub mod Ranges
 mod Parts
 mod Lines
 mod RunWitness
 mod Laying
+mod RankOrder
 mod QueuedLemmas
 mod RowLemmas
 mod RunOrder

@@ -1,6 +1,6 @@
 -- That each event which may come next is listed once one more is drawn: what only that lets come is
 -- its input, or on the level that its line has reached, or the other end of one of these.
-use Rattle.std.proofs.Common.{◌≡◌, ℕ, ◌<◌, ◌≤◌, true, false, not, List, [], ◌∷◌, ◌++◌, length, get_or, inl, inr, refl, sym, ap, subst, ◌∙◌, arith}
+use Rattle.std.proofs.Common.{◌≡◌, ℕ, ◌<◌, ◌≤◌, true, false, not, List, [], ◌∷◌, ◌++◌, length, get_or, Option, inl, inr, refl, sym, ap, subst, ◌∙◌, arith}
 use Rattle.std.proofs.lemmas.Bool.{and_parts, and_from, or_left, eqb-true, eq-eqb, ltb-true, lt-ltb, cases_eq, cases_lt, not-true, not_from_false, false_from_ne_true}
 use Rattle.bit_rows.specs.Rows.{has}
 use Rattle.msc_chart.specs.Charts.{line, partner, is_output, IsMatched}
@@ -17,11 +17,11 @@ use Rattle.msc_picture.proofs.FollowLemmas.{sent_from}
 use Rattle.msc_picture.proofs.OpenLemmas.{first_least, stands_from}
 
 -- an output is drawn before its input
-taken_after : (f : Frame) (past : List ℕ) (s r : ℕ) → Steps (IsDrawnNext f) [] past
-    → s < length f.events → is_sent_as f s r ≡ true → occurs past r ≡ true → occurs past s ≡ true
-taken_after f past s r steps known sent there =
+taken_after : (f : Frame) (ranks : Option (List ℕ)) (past : List ℕ) (s r : ℕ)
+    → Steps (IsDrawnNext f ranks) [] past → s < length f.events → is_sent_as f s r ≡ true → occurs past r ≡ true → occurs past s ≡ true
+taken_after f ranks past s r steps known sent there =
     until-within past r s
-    ((next_may (step_at (IsDrawnNext f) past r steps there).1).behind s known (or_left _ _ sent))
+    ((next_may (step_at (IsDrawnNext f ranks) past r steps there).1).behind s known (or_left _ _ sent))
 
 module _ (past before : List ℕ) (e : ℕ) (is : past ≡ before ++ e ∷ []) where
   -- what else is drawn was drawn before
@@ -86,11 +86,12 @@ module _ {f : Frame} {course past firsts seconds : List ℕ} (laid : IsCourse f 
         (at.0, at.3, at.1, at.2, record { line = on_front ∙ sym on; level = same }),
       )
 
-module _ {f : Frame} {course past before firsts seconds : List ℕ} {e : ℕ} {old new : Ready}
+module _ {f : Frame} (ranks : Option (List ℕ)) {course past before firsts seconds : List ℕ} {e : ℕ}
+    {old new : Ready}
     (matched : IsMatched f.events) (is : past ≡ before ++ e ∷ []) (laid : IsCourse f course)
     (behind : IsBehind f course past firsts seconds (line f.events e))
     (reached : IsReached f course past firsts seconds (line f.events e))
-    (steps : Steps (IsDrawnNext f) [] past) (listed : AreListed f before old)
+    (steps : Steps (IsDrawnNext f ranks) [] past) (listed : AreListed f before old)
     (kept : KeepsBut e old new) (other : IsListed f past new (partner f.events e))
     (from : IsFromListed f course past new e (get_or firsts (line f.events e) 0)) where
   -- the first event of the line of e that is left
@@ -164,7 +165,7 @@ module _ {f : Frame} {course past before firsts seconds : List ℕ} {e : ℕ} {o
       let inside = matched.in_range x known in
       let sent : is_sent_as f x r ≡ true = sent_from f x r may.send.kind refl in
       let left : occurs past r ≡ false = false_from_ne_true _ (λ there.
-      clash (taken_after f past x r steps known sent there) may.send.free.left) in
+      clash (taken_after f ranks past x r steps known sent there) may.send.free.left) in
       by_test (is_sent_as f reached_event r)
       (λ own.
       let above = and_parts _ _ (and_parts (is_above f e r) (not (is_sent_as f e r)) over).0 in

@@ -1,5 +1,5 @@
 -- What the code reads of charts and texts.
-use Rattle.std.proofs.Common.{◌≡◌, ℕ, ◌<◌, Bool, true, false, cond, List, [], ◌∷◌, ◌++◌, length, take, map, codes, Some, None, All, refl}
+use Rattle.std.proofs.Common.{◌≡◌, ℕ, ◌<◌, Bool, true, false, cond, List, [], ◌∷◌, ◌++◌, length, take, map, codes, Option, Some, None, All, refl}
 use Rattle.std.proofs.lemmas.Bool.{and_parts, lt-ltb, true≢false, false≢true}
 use Rattle.std.proofs.lemmas.List.Elements.{All-cons, All-nil}
 use Rattle.msc_chart.specs.declared.event.EventKind.{EventKind}
@@ -68,9 +68,10 @@ pub short_cut : (text : List ℕ) → 40 < length text → short_text text ≡ t
 short_cut text h = rw (lt-ltb 40 (length text) h) refl
 
 -- what is drawn are events
-pub drawn_known : (f : Frame) (past xs : List ℕ) → Steps (IsDrawnNext f) past xs
+pub drawn_known : (f : Frame) (ranks : Option (List ℕ)) (past xs : List ℕ)
+    → Steps (IsDrawnNext f ranks) past xs
     → All (λ e. e < length f.events) xs
-drawn_known f past [] steps = All-nil (λ e. e < length f.events)
-drawn_known f past (e ∷ es) steps =
+drawn_known f ranks past [] steps = All-nil (λ e. e < length f.events)
+drawn_known f ranks past (e ∷ es) steps =
     All-cons (λ x. x < length f.events) e es (next_may steps.0).event
-    (drawn_known f (past ++ e ∷ []) es steps.1)
+    (drawn_known f ranks (past ++ e ∷ []) es steps.1)

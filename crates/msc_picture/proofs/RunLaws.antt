@@ -206,20 +206,22 @@ module _ (chart : WiredChart) (wired : IsWired chart) (run order : List ℕ) (st
     drawn_run = come_steps [] order refl drawn
 
 -- a drawing order is a list in which each event may follow those before it
-pub drawn_follow : (f : Frame) (order : List ℕ) → Steps (IsDrawnNext f) [] order
+pub drawn_follow : (f : Frame) (ranks : Option (List ℕ)) (order : List ℕ)
+    → Steps (IsDrawnNext f ranks) [] order
     → Steps (MayFollow f) [] order
-drawn_follow f order steps =
-    Steps-map (IsDrawnNext f) (MayFollow f) (λ past e h. next_may h) [] order steps
+drawn_follow f ranks order steps =
+    Steps-map (IsDrawnNext f ranks) (MayFollow f) (λ past e h. next_may h) [] order steps
 
 -- the picture of a whole run is a whole run with the same lines
-pub picture_run : (chart : WiredChart) (run order : List ℕ) → IsWired chart
+pub picture_run : (chart : WiredChart) (ranks : Option (List ℕ)) (run order : List ℕ)
+    → IsWired chart
     → ((r u : ℕ) → is_input chart.events r ≡ true → is_input chart.events u ≡ true
     → queue chart r ≡ queue chart u → line chart.events r ≡ line chart.events u)
-    → Run chart run → IsWhole chart run → IsDrawingOrder (run_frame chart run) order
+    → Run chart run → IsWhole chart run → IsDrawingOrder (run_frame chart run) ranks order
     → Run chart order × KeepsLinesOf chart.events run order
 unfolding OneReceiver
-picture_run chart run order wired receiver steps whole drawn =
-    let follow = drawn_follow (run_frame chart run) order drawn.steps in (
+picture_run chart ranks run order wired receiver steps whole drawn =
+    let follow = drawn_follow (run_frame chart run) ranks order drawn.steps in (
       drawn_run chart wired run order steps whole follow drawn.whole receiver,
       lines_kept chart wired run order steps whole follow drawn.whole,
     )

@@ -111,12 +111,12 @@ run_follows chart matched run past (e ∷ es) same steps = (
 )
 
 -- and its picture has all events
-pub run_drawn : (chart : WiredChart) (f : Frame) (run past : List ℕ) → IsMatched chart.events
+pub run_drawn : (chart : WiredChart) (f : Frame) (ranks : Option (List ℕ)) (run past : List ℕ) → IsMatched chart.events
     → f ≡ run_frame chart run → Run chart run → IsWhole chart run
-    → Steps (IsDrawnNext f) [] past → ((e : ℕ) → MayFollow f past e → ⊥)
-    → IsDrawingOrder (run_frame chart run) past
-run_drawn chart f run past matched is steps whole drawn none = record {
-  steps = subst (λ (g : Frame). Steps (IsDrawnNext g) [] past) is drawn;
+    → Steps (IsDrawnNext f ranks) [] past → ((e : ℕ) → MayFollow f past e → ⊥)
+    → IsDrawingOrder (run_frame chart run) ranks past
+run_drawn chart f ranks run past matched is steps whole drawn none = record {
+  steps = subst (λ (g : Frame). Steps (IsDrawnNext g ranks) [] past) is drawn;
   whole = λ e below.
       whole_by (run_frame chart run) past run
       (run_follows chart matched run [] run refl steps)

@@ -1,5 +1,5 @@
 -- A drawing order has all events, and that of a chart keeps the visual order.
-use Rattle.std.proofs.Common.{◌≡◌, ℕ, ◌<◌, true, false, ◌⊎◌, List, [], ◌∷◌, ◌++◌, length, inl, inr, sym, subst, ◌∙◌, arith}
+use Rattle.std.proofs.Common.{◌≡◌, ℕ, ◌<◌, true, false, ◌⊎◌, List, [], ◌∷◌, ◌++◌, length, Option, inl, inr, sym, subst, ◌∙◌, arith}
 use Rattle.std.proofs.lemmas.Bool.{and_parts, and_from, or_left, or_right, or_cases, eqb-true, eq-eqb, ltb-true, lt-ltb, false≢true}
 use Rattle.std.proofs.lemmas.List.FromFn.{get_or-map-range_with_len}
 use Rattle.msc_chart.specs.declared.event.ChartEvent.{ChartEvent}
@@ -12,9 +12,22 @@ use Rattle.msc_picture.proofs.FollowLemmas.{sent_from}
 use Rattle.msc_picture.proofs.DrawnLemmas.{next_may}
 
 -- an event of the joined lists is in one of them
-occurs_cases : (xs ys : List ℕ) (e : ℕ) → occurs (xs ++ ys) e ≡ true
+pub occurs_cases : (xs ys : List ℕ) (e : ℕ) → occurs (xs ++ ys) e ≡ true
     → (occurs xs e ≡ true) ⊎ (occurs ys e ≡ true)
 occurs_cases xs ys e h = or_cases _ _ (sym (occurs-append xs ys e) ∙ h)
+
+-- where an event is drawn, and so are all before it, all up to it are drawn
+pub drawn_to_it : (past prior : List ℕ) (x : ℕ)
+    → ((y : ℕ) → occurs prior y ≡ true → occurs past y ≡ true) → occurs past x ≡ true
+    → (y : ℕ) → occurs (prior ++ x ∷ []) y ≡ true → occurs past y ≡ true
+unfolding occurs
+drawn_to_it past prior x has old y h = elim (occurs_cases prior (x ∷ []) y h) [
+  | inl before ↦ has y before
+  | inr here ↦ elim (or_cases _ _ here) [
+    | inl same ↦ subst (λ (w : ℕ). occurs past w ≡ true) (eqb-true _ _ same) old
+    | inr none ↦ absurd (false≢true none)
+  ]
+]
 
 -- of a list in which each event may follow those before it, the first that is missing may follow
 -- what is drawn
@@ -25,14 +38,7 @@ unfolding occurs
 first_missing f past prior [] e steps has there new = absurd (false≢true there)
 first_missing f past prior (x ∷ xs) e steps has there new = by_test (occurs past x)
     (λ old.
-    first_missing f past (prior ++ x ∷ []) xs e steps.1
-    (λ y h. elim (occurs_cases prior (x ∷ []) y h) [
-      | inl before ↦ has y before
-      | inr here ↦ elim (or_cases _ _ here) [
-        | inl same ↦ subst (λ (w : ℕ). occurs past w ≡ true) (eqb-true _ _ same) old
-        | inr none ↦ absurd (false≢true none)
-      ]
-    ])
+    first_missing f past (prior ++ x ∷ []) xs e steps.1 (drawn_to_it past prior x has old)
     (elim (or_cases _ _ there) [
       | inl same ↦ clash (subst (λ (w : ℕ). occurs past w ≡ true) (eqb-true _ _ same) old) new
       | inr later ↦ later
@@ -138,11 +144,11 @@ linear_steps events past (e ∷ es) closed steps = (
 )
 
 -- the drawing order of a chart has all its events, since its linear order has
-pub chart_order : (events : List ChartEvent) (order past : List ℕ) → IsLinearOrder events order
-    → Steps (IsDrawnNext (chart_frame events)) [] past
+pub chart_order : (events : List ChartEvent) (ranks : Option (List ℕ)) (order past : List ℕ)
+    → IsLinearOrder events order → Steps (IsDrawnNext (chart_frame events) ranks) [] past
     → ((e : ℕ) → MayFollow (chart_frame events) past e → ⊥)
-    → IsDrawingOrder (chart_frame events) past
-chart_order events order past linear steps none = record {
+    → IsDrawingOrder (chart_frame events) ranks past
+chart_order events ranks order past linear steps none = record {
   steps = steps;
   whole = λ e below.
       whole_by (chart_frame events) past order
@@ -151,21 +157,22 @@ chart_order events order past linear steps none = record {
 }
 
 -- and is a linear order too
-pub drawn_linear : (events : List ChartEvent) (past : List ℕ)
-    → IsDrawingOrder (chart_frame events) past → IsLinearOrder events past
+pub drawn_linear : (events : List ChartEvent) (ranks : Option (List ℕ)) (past : List ℕ)
+    → IsDrawingOrder (chart_frame events) ranks past → IsLinearOrder events past
 unfolding IsClosed occurs
-drawn_linear events past drawn = record {
+drawn_linear events ranks past drawn = record {
   steps = linear_steps events [] past (λ x y h none. absurd (false≢true none))
-      (Steps-map (IsDrawnNext (chart_frame events)) (MayFollow (chart_frame events))
+      (Steps-map (IsDrawnNext (chart_frame events) ranks) (MayFollow (chart_frame events))
       (λ before e h. next_may h) [] past drawn.steps);
   whole = drawn.whole;
 }
 
 -- the same, of a frame that is the chart's
-pub frame_order : (f : Frame) (events : List ChartEvent) (order past : List ℕ)
-    → f ≡ chart_frame events → IsLinearOrder events order → Steps (IsDrawnNext f) [] past
-    → ((e : ℕ) → MayFollow f past e → ⊥) → IsDrawingOrder (chart_frame events) past
-frame_order f events order past is linear steps none =
-    chart_order events order past linear
-    (subst (λ (g : Frame). Steps (IsDrawnNext g) [] past) is steps)
+pub frame_order : (f : Frame) (events : List ChartEvent) (ranks : Option (List ℕ))
+    (order past : List ℕ) → f ≡ chart_frame events → IsLinearOrder events order
+    → Steps (IsDrawnNext f ranks) [] past
+    → ((e : ℕ) → MayFollow f past e → ⊥) → IsDrawingOrder (chart_frame events) ranks past
+frame_order f events ranks order past is linear steps none =
+    chart_order events ranks order past linear
+    (subst (λ (g : Frame). Steps (IsDrawnNext g ranks) [] past) is steps)
     (subst (λ (g : Frame). (e : ℕ) → MayFollow g past e → ⊥) is none)

@@ -1,6 +1,6 @@
 -- How far each line of a picture is drawn: what the code keeps so that it need not look at all events
 -- for each.
-use Rattle.std.specs.Prelude.{◌≡◌, ℕ, ◌+◌, ◌<◌, ◌≤◌, Bool, false, ◌&&◌, not, List, length, get_or, vec_len, IsTrue}
+use Rattle.std.specs.Prelude.{◌≡◌, ℕ, ◌+◌, ◌<◌, ◌≤◌, Bool, false, ◌&&◌, not, List, length, get_or, vec_len, IsTrue, Option, option_copied}
 use Rattle.msc_chart.specs.Charts.{line}
 use Rattle.msc_chart.specs.Lists.{occurs}
 use Rattle.msc_picture.specs.declared.frame.Framed.{Framed}
@@ -9,6 +9,10 @@ use Rattle.msc_picture.specs.Frames.{Frame, level, is_above, is_sent_as}
 -- what is drawn, as the code holds it
 abbrev pub frame_of : Framed → Frame
 frame_of f = record { events = f.chart.now.events; levels = f.levels.items; after = f.after.items }
+
+-- the ranks by which its events are drawn, if there are any
+abbrev pub ranks_of : Framed → Option (List ℕ)
+ranks_of f = option_copied f.ranks
 
 -- the event at a place of a course
 abbrev pub event_at : List ℕ → ℕ → ℕ

@@ -4,7 +4,7 @@ use Rattle.msc_chart.specs.Charts.{partner}
 use Rattle.msc_chart.specs.Lists.{occurs, Steps}
 use Rattle.msc_picture.specs.declared.frame.Framed.{Framed}
 use Rattle.msc_picture.specs.declared.drawn.Drawn.{Drawn}
-use Rattle.msc_picture.specs.Courses.{AreBehind, IsReached, frame_of}
+use Rattle.msc_picture.specs.Courses.{AreBehind, IsReached, frame_of, ranks_of}
 use Rattle.msc_picture.specs.Frames.{Frame, is_sent_as, is_above, is_queued_before, last_of, IsDrawnNext}
 
 -- x has to be drawn before e, and is not its output
@@ -34,8 +34,8 @@ abbrev pub IsClear : Frame → List ℕ → ℕ → Type 0
 IsClear f past e = (x : ℕ) → x < length f.events → IsTrue (blocks f x e) → IsTrue (occurs past x)
 
 -- these events are drawn
-pub record IsDrawn (f : Frame) (past : List ℕ) (last : Option ℕ) (done : List Bool) : Type 0 where
-  pub steps : Steps (IsDrawnNext f) [] past
+pub record IsDrawn (f : Frame) (ranks : Option (List ℕ)) (past : List ℕ) (last : Option ℕ) (done : List Bool) : Type 0 where
+  pub steps : Steps (IsDrawnNext f ranks) [] past
   pub end : last ≡ last_of past
   pub known : (s : ℕ) → last ≡ Some s → s < length f.events
   pub long : length done ≡ length f.events
@@ -43,7 +43,7 @@ pub record IsDrawn (f : Frame) (past : List ℕ) (last : Option ℕ) (done : Lis
 
 -- the same, as the code holds it
 abbrev pub HoldsDrawn : Framed → Drawn → Type 0
-HoldsDrawn f d = IsDrawn (frame_of f) d.past.items d.last d.done.items
+HoldsDrawn f d = IsDrawn (frame_of f) (ranks_of f) d.past.items d.last d.done.items
 
 -- how far each line is, as the code holds it
 abbrev pub HoldsBehind : Framed → Drawn → Type 0

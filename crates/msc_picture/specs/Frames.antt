@@ -1,5 +1,5 @@
 -- In which order the events of a picture are drawn (this project's own).
-use Rattle.std.specs.Prelude.{◌≡◌, ℕ, ◌<◌, Bool, false, ◌&&◌, ◌||◌, List, [], ◌∷◌, ◌++◌, Option, None, Some, get_or, length, map, IsTrue, nat_eq, nat_lt}
+use Rattle.std.specs.Prelude.{◌≡◌, ℕ, ◌<◌, ◌≤◌, ◌⊎◌, Bool, false, ◌&&◌, ◌||◌, List, [], ◌∷◌, ◌++◌, Option, None, Some, get_or, length, map, IsTrue, nat_eq, nat_lt}
 use Rattle.std.specs.List.{range_with_len}
 use Rattle.msc_chart.specs.declared.event.ChartEvent.{ChartEvent}
 use Rattle.msc_picture.specs.declared.rule.Rule.{Rule}
@@ -70,18 +70,37 @@ Fits f past Send e = MayFollow f past e × IsTrue (is_output f.events e)
 abbrev pub HasNone : Frame → List ℕ → Rule → Type 0
 HasNone f past rule = (e : ℕ) → Fits f past rule e → ⊥
 
--- after these e is drawn next: it is the least event that fits the first rule that any event fits
-pub data IsDrawnNext (f : Frame) (past : List ℕ) : ℕ → Type 0 where
-  answering : {e : ℕ} → IsLeast (Fits f past Answer) e → IsDrawnNext f past e
-  resting : {e : ℕ} → HasNone f past Answer → IsLeast (Fits f past Rest) e → IsDrawnNext f past e
-  levelling : {e : ℕ} → HasNone f past Answer → HasNone f past Rest
-      → IsLeast (Fits f past Level) e → IsDrawnNext f past e
-  sending : {e : ℕ} → HasNone f past Answer → HasNone f past Rest → HasNone f past Level
-      → IsLeast (Fits f past Send) e → IsDrawnNext f past e
+-- the rank of event e, for which a list without a number for e has 0
+abbrev pub rank_of : List ℕ → ℕ → ℕ
+rank_of ranks e = get_or ranks e 0
+
+-- x is no later than y: its rank is less, or it is the same and x is not the greater number
+abbrev pub IsNoLater : List ℕ → ℕ → ℕ → Type 0
+IsNoLater ranks x y =
+    (rank_of ranks x < rank_of ranks y) ⊎ ((rank_of ranks x ≡ rank_of ranks y) × (x ≤ y))
+
+-- e is the earliest event with a property, by these ranks
+pub record IsEarliest (ranks : List ℕ) (P : ℕ → Type 0) (e : ℕ) : Type 0 where
+  pub itself : P e
+  pub earliest : (x : ℕ) → P x → IsNoLater ranks e x
+
+-- After these e is drawn next. The input of the last event precedes all others. Then, if ranks are
+-- given, e is the earliest event that may follow. Otherwise it is the least event that fits the
+-- first rule that any event fits.
+pub data IsDrawnNext (f : Frame) (ranks : Option (List ℕ)) (past : List ℕ) : ℕ → Type 0 where
+  answering : {e : ℕ} → IsLeast (Fits f past Answer) e → IsDrawnNext f ranks past e
+  ranking : {e : ℕ} (given : List ℕ) → ranks ≡ Some given → HasNone f past Answer
+      → IsEarliest given (MayFollow f past) e → IsDrawnNext f ranks past e
+  resting : {e : ℕ} → ranks ≡ None → HasNone f past Answer → IsLeast (Fits f past Rest) e
+      → IsDrawnNext f ranks past e
+  levelling : {e : ℕ} → ranks ≡ None → HasNone f past Answer → HasNone f past Rest
+      → IsLeast (Fits f past Level) e → IsDrawnNext f ranks past e
+  sending : {e : ℕ} → ranks ≡ None → HasNone f past Answer → HasNone f past Rest
+      → HasNone f past Level → IsLeast (Fits f past Send) e → IsDrawnNext f ranks past e
 
 -- the list of all events that begins empty and goes on so
-pub record IsDrawingOrder (f : Frame) (order : List ℕ) : Type 0 where
-  pub steps : Steps (IsDrawnNext f) [] order
+pub record IsDrawingOrder (f : Frame) (ranks : Option (List ℕ)) (order : List ℕ) : Type 0 where
+  pub steps : Steps (IsDrawnNext f ranks) [] order
   pub whole : (e : ℕ) → e < length f.events → IsTrue (occurs order e)
 
 -- a chart: its levels are its segments, and no output waits for another one

@@ -1,8 +1,9 @@
 -- Laws of pictures: what the definitions of rows and of drawing orders come to.
-use Rattle.std.specs.Prelude.{◌≡◌, ℕ, ◌+◌, ◌<◌, ◌≤◌, ◌⊎◌, Bool, false, List, [], ◌∷◌, Option, None, Some, get_or, length, IsTrue}
+use Rattle.std.specs.Prelude.{◌≡◌, ℕ, ◌+◌, ◌<◌, ◌≤◌, ◌⊎◌, false, List, [], ◌∷◌, Option, None, Some, get_or, length, IsTrue}
 use Rattle.std.specs.List.{All, flat_map}
+use Rattle.std.specs.List.Sorted.{IsNonDecreasingBy}
 use Rattle.msc_chart.specs.declared.event.ChartEvent.{ChartEvent}
-use Rattle.msc_chart.specs.Charts.{line, IsLinearOrder, Visual}
+use Rattle.msc_chart.specs.Charts.{is_output, line, partner, IsLinearOrder, Visual}
 use Rattle.msc_chart.specs.Lists.{occurs, until, Occurs, StandsAt}
 use Rattle.msc_chart.specs.declared.queue.Queues.{Queues}
 use Rattle.msc_chart.specs.Drawings.{Drawing, IsAccepted}
@@ -11,7 +12,7 @@ use Rattle.msc_chart.specs.Runs.{IsWhole, Run}
 use Rattle.msc_picture.specs.declared.scene.Band.{Band}
 use Rattle.msc_picture.specs.declared.scene.RaceBar.{RaceBar}
 use Rattle.msc_picture.specs.declared.scene.Row.{Row}
-use Rattle.msc_picture.specs.Frames.{IsDrawingOrder}
+use Rattle.msc_picture.specs.Frames.{chart_frame, rank_of, IsDrawingOrder}
 use Rattle.msc_picture.specs.Bars.{AreDrawnPairs, bars_of}
 use Rattle.msc_picture.specs.RunFrames.{run_frame}
 use Rattle.msc_picture.specs.Rows.{answers_to, bands_of, begins_band, row_of_one, row_passes, rows_of, share_segment}
@@ -65,6 +66,21 @@ RowsKeepTheVisualOrder =
     → IsInRow (rows_of events order) i x → IsInRow (rows_of events order) j y → Visual events x y
     → (i < j) ⊎ ((i ≡ j) × IsTrue (answers_to events x y))
 
+-- the two ends of each message have one rank
+abbrev pub EndsShareRanks : List ChartEvent → List ℕ → Type 0
+EndsShareRanks events ranks =
+    (s : ℕ) → IsTrue (is_output events s) → rank_of ranks (partner events s) ≡ rank_of ranks s
+
+-- If some order of a chart's events keeps the visual order, ranks do not fall along it, and the two
+-- ends of each message have one rank, then ranks do not fall along the order in which the chart is
+-- drawn by them. So a diagram's arrows are drawn in the order of its text.
+abbrev pub DrawnRanksDoNotFall : Type 0
+DrawnRanksDoNotFall =
+    (events : List ChartEvent) (ranks text order : List ℕ) → IsLinearOrder events text
+    → IsNonDecreasingBy (rank_of ranks) text → EndsShareRanks events ranks
+    → IsDrawingOrder (chart_frame events) (Some ranks) order
+    → IsNonDecreasingBy (rank_of ranks) order
+
 -- two events of one line come in one order in both lists
 abbrev pub KeepsLinesOf : List ChartEvent → List ℕ → List ℕ → Type 0
 KeepsLinesOf events run order =
@@ -75,8 +91,8 @@ KeepsLinesOf events run order =
 -- run
 abbrev pub DrawnRunsAreRuns : Type 0
 DrawnRunsAreRuns =
-    (queues : Queues) (d : Drawing) (run order : List ℕ) → IsAccepted d → Run (wired queues d) run
-    → IsWhole (wired queues d) run → IsDrawingOrder (run_frame (wired queues d) run) order
+    (queues : Queues) (d : Drawing) (ranks : Option (List ℕ)) (run order : List ℕ) → IsAccepted d → Run (wired queues d) run
+    → IsWhole (wired queues d) run → IsDrawingOrder (run_frame (wired queues d) run) ranks order
     → Run (wired queues d) order × KeepsLinesOf d.events run order
 
 -- a bar has the closest race at place k of a list, whose number is one more: the race leads from an

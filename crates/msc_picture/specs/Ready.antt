@@ -1,5 +1,5 @@
 -- Which events the code looks at as the next one: those that may follow, as far as lines tell.
-use Rattle.std.specs.Prelude.{◌≡◌, ℕ, ◌*◌, ◌<◌, ◌≤◌, false, List, [], ◌∷◌, ◌++◌, length, IsTrue}
+use Rattle.std.specs.Prelude.{◌≡◌, ℕ, ◌*◌, ◌<◌, ◌≤◌, false, List, [], ◌∷◌, ◌++◌, length, IsTrue, Option, None, Some}
 use Rattle.bit_rows.specs.Rows.{has, word_count}
 use Rattle.msc_chart.specs.Charts.{partner, is_output}
 use Rattle.msc_chart.specs.Lists.{occurs, Steps}
@@ -9,7 +9,7 @@ use Rattle.msc_picture.specs.declared.ready.Ready.{Ready}
 use Rattle.msc_picture.specs.declared.rule.Rule.{Rule}
 use Rattle.msc_picture.specs.Courses.{IsOpen, ShareLevel, event_at, frame_of}
 use Rattle.msc_picture.specs.Drawn.{Holds, lacks_output}
-use Rattle.msc_picture.specs.Frames.{Frame, Fits, IsDrawnNext, is_above}
+use Rattle.msc_picture.specs.Frames.{Frame, Fits, IsDrawnNext, IsEarliest, is_above}
 
 -- e is left, and all events over it are drawn
 pub record IsFree (f : Frame) (past : List ℕ) (e : ℕ) : Type 0 where
@@ -74,11 +74,11 @@ pub record Keeps (old new : Ready) : Type 0 where
   pub levels : (e : ℕ) → IsTrue (has old.levels.items e) → IsTrue (has new.levels.items e)
 
 -- e is the last event that was drawn, and what could come next before it was listed
-pub record IsLastDrawn (f : Frame) (past : List ℕ) (r : Ready) (e : ℕ) : Type 0 where
+pub record IsLastDrawn (f : Frame) (ranks : Option (List ℕ)) (past : List ℕ) (r : Ready) (e : ℕ) : Type 0 where
   pub before : List ℕ
   pub is : past ≡ before ++ e ∷ []
-  pub steps : Steps (IsDrawnNext f) [] before
-  pub next : IsDrawnNext f before e
+  pub steps : Steps (IsDrawnNext f ranks) [] before
+  pub next : IsDrawnNext f ranks before e
   pub listed : AreListed f before r
 
 -- the event at place p of the course is listed, and where e is above it, its whole level
@@ -96,6 +96,11 @@ pub record IsRowFor (f : Frame) (past : List ℕ) (rule : Rule) (row : List ℕ)
 -- no event below n fits a rule
 abbrev pub HasNoneTo : Frame → List ℕ → Rule → ℕ → Type 0
 HasNoneTo f past rule n = (e : ℕ) → e < n → Fits f past rule e → ⊥
+
+-- of the events below n that have a property this is the earliest, or none of them has it
+abbrev pub IsEarliestTo : List ℕ → (ℕ → Type 0) → ℕ → Option ℕ → Type 0
+IsEarliestTo ranks P n None = (x : ℕ) → x < n → P x → ⊥
+IsEarliestTo ranks P n (Some e) = IsEarliest ranks (λ x. (x < n) × P x) e
 
 -- what is drawn, and all that may come next is listed
 pub record HoldsDrawing (f : Framed) (d : Drawing) : Type 0 where

@@ -80,29 +80,30 @@ pub record IsPopulated (draft : Tree) (d : Drawing) (s : Scene) : Type 0 where
   pub arrows : s.arrows ≡ map (arrow_of d) (range_with_len 0 (length d.messages))
   pub spots : s.spots ≡ map (spot_of d) (range_with_len 0 (length d.events))
 
--- the rows, the bands and the given bars of a chart
-pub record IsLaidOut (d : Drawing) (given : List RaceBar) (s : Scene) : Type 0 where
+-- the rows, the bands and the given bars of a chart, whose events are drawn by these ranks if they
+-- are given
+pub record IsLaidOut (d : Drawing) (ranks : Option (List ℕ)) (given : List RaceBar) (s : Scene) : Type 0 where
   pub order : List ℕ
-  pub drawn : IsDrawingOrder (chart_frame d.events) order
+  pub drawn : IsDrawingOrder (chart_frame d.events) ranks order
   pub linear : IsLinearOrder d.events order
   pub rows : s.rows ≡ rows_of d.events order
   pub bands : s.bands ≡ bands_of d.events s.rows
   pub bars : s.bars ≡ given
 
 -- the picture of the chart of a draft with these bars
-pub record IsMarkedSceneOf (draft : Tree) (d : Drawing) (given : List RaceBar) (s : Scene) : Type 0 where
+pub record IsMarkedSceneOf (draft : Tree) (d : Drawing) (ranks : Option (List ℕ)) (given : List RaceBar) (s : Scene) : Type 0 where
   pub shows : IsPopulated draft d s
-  pub laid_out : IsLaidOut d given s
+  pub laid_out : IsLaidOut d ranks given s
 
 -- the picture of the chart of a draft, of which these races are closest
-abbrev pub IsSceneOf : Tree → Drawing → List (ℕ × ℕ) → Scene → Type 0
-IsSceneOf draft d closest s = IsMarkedSceneOf draft d (bars_of d.events closest) s
+abbrev pub IsSceneOf : Tree → Drawing → Option (List ℕ) → List (ℕ × ℕ) → Scene → Type 0
+IsSceneOf draft d ranks closest s = IsMarkedSceneOf draft d ranks (bars_of d.events closest) s
 
 -- the rows and the bar of a run of a chart under an architecture that reverses the race (e, f) of
 -- this number; there are no bands
-pub record IsRunLaidOut (chart : WiredChart) (run : List ℕ) (e f number : ℕ) (s : Scene) : Type 0 where
+pub record IsRunLaidOut (chart : WiredChart) (ranks : Option (List ℕ)) (run : List ℕ) (e f number : ℕ) (s : Scene) : Type 0 where
   pub order : List ℕ
-  pub drawn : IsDrawingOrder (run_frame chart run) order
+  pub drawn : IsDrawingOrder (run_frame chart run) ranks order
   pub is_run : Run chart order
   pub lines : KeepsLinesOf chart.events run order
   pub rows : s.rows ≡ rows_of chart.events order
@@ -110,7 +111,7 @@ pub record IsRunLaidOut (chart : WiredChart) (run : List ℕ) (e f number : ℕ)
   pub bars : s.bars ≡ run_bar chart e f number ∷ []
 
 -- the picture of such a run of the chart of a draft
-pub record IsRunSceneOf (draft : Tree) (w : Wiring) (run : List ℕ) (e f number : ℕ) (s : Scene)
+pub record IsRunSceneOf (draft : Tree) (w : Wiring) (ranks : Option (List ℕ)) (run : List ℕ) (e f number : ℕ) (s : Scene)
     : Type 0 where
   pub shows : IsPopulated draft w.chart.now s
-  pub laid_out : IsRunLaidOut (wired_by w) run e f number s
+  pub laid_out : IsRunLaidOut (wired_by w) ranks run e f number s

@@ -9,6 +9,7 @@ ghost use Rattle.std.specs.Prelude.{length};
 ghost use Rattle.msc_chart.specs.Charts.{line};
 ghost use Rattle.msc_chart.specs.Lists.{occurs};
 ghost use Rattle.msc_picture.specs.Courses.{IsFirstOther, IsLaid, IsNextLeft, IsOpen, frame_of};
+ghost use Rattle.msc_picture.specs.Courses.{ranks_of};
 ghost use Rattle.msc_picture.specs.Drawn.{Holds, HoldsBehind, HoldsDrawn, HoldsLine};
 ghost use Rattle.msc_picture.specs.Frames.{IsDrawnNext, answers, last_of};
 
@@ -110,7 +111,7 @@ impl Drawn {
     /// Bars event `e` as drawn, without the progress of its line.
     fn push(&mut self, f: &Framed, e: Event) -> Result<(), AllocError>
         requires held { Holds f.now self.old }
-        requires next { IsDrawnNext (frame_of f.now) self.old.past.items e }
+        requires next { IsDrawnNext (frame_of f.now) (ranks_of f.now) self.old.past.items e }
         ensures held { OnOk result (HoldsDrawn f.now self.new) }
         ensures behind { OnOk result (HoldsBehind f.now self.new) }
         ensures others { OnOk result ((j : ℕ) → j < length f.now.chart.now.instances
@@ -129,7 +130,7 @@ impl Drawn {
     pub fn draw(&mut self, f: &Framed, e: Event) -> Result<(), AllocError>
         requires laid { IsLaid f.now }
         requires held { Holds f.now self.old }
-        requires next { IsDrawnNext (frame_of f.now) self.old.past.items e }
+        requires next { IsDrawnNext (frame_of f.now) (ranks_of f.now) self.old.past.items e }
         ensures held { OnOk result (Holds f.now self.new) }
         ensures past { OnOk result (self.new.past.items ≡ self.old.past.items ++ e ∷ []) }
     {

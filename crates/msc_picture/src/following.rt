@@ -62,7 +62,7 @@ impl Drawn {
 
     /// Whether event `e` may follow: it is not drawn, its output is drawn, if it has one, and
     /// nothing else blocks it.
-    fn may_follow(&self, f: &Framed, e: Event) -> bool
+    pub fn may_follow(&self, f: &Framed, e: Event) -> bool
         requires laid { IsLaid f.now }
         requires held { Holds f.now self.now }
         requires known { e < length f.now.chart.now.events }

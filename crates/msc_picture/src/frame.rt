@@ -1,9 +1,10 @@
 //! A chart as it is drawn: which of its events have to be drawn before which.
 
-ghost use Rattle.std.specs.Prelude.{◌≡◌, ◌<◌, ◌↔◌, IfOk, IsTrue, length, map, vec_len};
+ghost use Rattle.std.specs.Prelude.{◌≡◌, ◌<◌, ◌↔◌, IfOk, IsTrue, length, map, option_copied};
+ghost use Rattle.std.specs.Prelude.{vec_len};
 ghost use Rattle.std.specs.List.{range_with_len};
 ghost use Rattle.msc_chart.specs.Charts.{segment};
-ghost use Rattle.msc_picture.specs.Courses.{IsLaid, ShareLevel, frame_of};
+ghost use Rattle.msc_picture.specs.Courses.{IsLaid, ShareLevel, frame_of, ranks_of};
 ghost use Rattle.msc_picture.specs.Drawn.{blocks};
 ghost use Rattle.msc_picture.specs.Frames.{chart_frame, is_above, is_queued_before, is_sent_as};
 
@@ -12,13 +13,14 @@ use std::alloc::{AllocError, Global};
 
 /// A chart with the level of each event on its line, and for some outputs the output of the same
 /// queue that is drawn before it. The course has all events, the events of a line by their levels.
-/// Its calls take no memory.
+/// If ranks are given, they choose among the events that may come next. Its calls take no memory.
 #[derive(Drop)]
 pub struct Framed<'a> {
     pub chart: &'a Chart,
     pub levels: Vec<usize>,
     pub after: Vec<Option<Event>>,
     pub course: Vec<Event>,
+    pub ranks: Option<&'a [usize]>,
 }
 
 impl Framed<'_> {
@@ -96,10 +98,15 @@ fn numbers_to(alloc: Global, many: u32) -> Result<Vec<Event>, AllocError>
     Ok(numbers)
 }
 
-/// A chart as it is drawn: an event is below all events of the segments above its own. An error is
-/// a growth of memory that was refused.
-pub fn frame_chart(alloc: Global, chart: &Chart) -> Result<Framed, AllocError>
+/// A chart as it is drawn, by these ranks if they are given: an event is below all events of the
+/// segments above its own. An error is a growth of memory that was refused.
+pub fn frame_chart<'a>(
+    alloc: Global,
+    chart: &'a Chart,
+    ranks: Option<&'a [usize]>,
+) -> Result<Framed<'a>, AllocError>
     ensures frame { IfOk result (λ f. frame_of f ≡ chart_frame chart.now.events) }
+    ensures ranks { IfOk result (λ f. ranks_of f ≡ option_copied ranks.entry) }
     ensures laid { IfOk result (λ f. IsLaid f) }
 {
     chart.facts();
@@ -109,5 +116,6 @@ pub fn frame_chart(alloc: Global, chart: &Chart) -> Result<Framed, AllocError>
         levels: segments_of(alloc, chart)?,
         after: Vec::new(alloc),
         course: numbers_to(alloc, many)?,
+        ranks,
     })
 }

@@ -1,7 +1,8 @@
 //! Laws of pictures, over their definitions only. The functions have no code: a caller that needs a
 //! law calls its function.
 
-ghost use Rattle.msc_picture.specs.Laws.{BandsAreOfCoregions, BandsHaveNoOther, DrawnRunsAreRuns};
+ghost use Rattle.msc_picture.specs.Laws.{BandsAreOfCoregions, BandsHaveNoOther};
+ghost use Rattle.msc_picture.specs.Laws.{DrawnRanksDoNotFall, DrawnRunsAreRuns};
 ghost use Rattle.msc_picture.specs.Laws.{EachClosestRaceIsMarked, EachCoregionHasABand};
 ghost use Rattle.msc_picture.specs.Laws.{BarsHaveNoOther, OneLabelInARow, RowsAreFull};
 ghost use Rattle.msc_picture.specs.Laws.{RowsKeepTheVisualOrder, RowsReadBack};
@@ -24,6 +25,13 @@ pub fn one_label_in_a_row()
 /// An event that visibly precedes another is in a row above it, or is its output in the same row.
 pub fn rows_keep_the_visual_order()
     ensures { RowsKeepTheVisualOrder }
+{}
+
+/// Ranks that do not fall along some order of the events which keeps the visual order do not fall
+/// along the order in which the chart is drawn by them, if the two ends of each message have one
+/// rank. So the arrows of a diagram are drawn in the order of its text.
+pub fn the_order_of_the_text_is_kept()
+    ensures { DrawnRanksDoNotFall }
 {}
 
 /// The picture of a whole run is a whole run of the architecture too, and the events of each line

@@ -31,6 +31,7 @@ pub mod laws;
 mod ordering;
 mod part;
 mod piece;
+mod ranking;
 mod ready;
 mod row;
 mod rule;

@@ -4,9 +4,10 @@
 //! for an event does not grow with the number of events.
 
 ghost use Rattle.std.specs.Prelude.{◌≡◌, ℕ, ◌++◌, ◌∷◌, [], IfNone, IfOk, IfSome, OnOk};
+ghost use Rattle.std.specs.Prelude.{option_copied};
 ghost use Rattle.msc_chart.specs.Charts.{IsLinearOrder};
 ghost use Rattle.msc_chart.specs.Lists.{IsLeast};
-ghost use Rattle.msc_picture.specs.Courses.{IsLaid, frame_of};
+ghost use Rattle.msc_picture.specs.Courses.{IsLaid, frame_of, ranks_of};
 ghost use Rattle.msc_picture.specs.Drawn.{HoldsDrawn};
 ghost use Rattle.msc_picture.specs.Frames.{Fits, HasNone, IsDrawingOrder, IsDrawnNext, MayFollow};
 ghost use Rattle.msc_picture.specs.Frames.{chart_frame};
@@ -25,7 +26,7 @@ use std::alloc::{AllocError, Global};
 #[derive(Drop)]
 pub(crate) struct Drawing {
     pub drawn: Drawn,
-    ready: Ready,
+    pub ready: Ready,
 }
 
 impl Drawing {
@@ -62,13 +63,16 @@ impl Drawing {
         requires laid { IsLaid f.now }
         requires held { HoldsDrawing f.now self.now }
         ensures some { IfSome result
-            (IsDrawnNext (frame_of f.now) self.now.drawn.past.items) }
+            (IsDrawnNext (frame_of f.now) (ranks_of f.now) self.now.drawn.past.items) }
         ensures none { IfNone result
             ((e : ℕ) → MayFollow (frame_of f.now) self.now.drawn.past.items e → ⊥) }
     {
         f.chart.facts();
         if let Some(e) = self.answer(f) {
             return Some(e);
+        }
+        if let Some(ranks) = f.ranks {
+            return self.earliest(f, ranks);
         }
         if let Some(e) = least(&self.drawn, f, Rule::Rest, self.ready.rests()) {
             return Some(e);
@@ -83,7 +87,8 @@ impl Drawing {
     fn draw(&mut self, f: &Framed, e: Event) -> Result<(), AllocError>
         requires laid { IsLaid f.now }
         requires held { HoldsDrawing f.now self.old }
-        requires next { IsDrawnNext (frame_of f.now) self.old.drawn.past.items e }
+        requires next { IsDrawnNext (frame_of f.now) (ranks_of f.now)
+            self.old.drawn.past.items e }
         ensures held { OnOk result (HoldsDrawing f.now self.new) }
         ensures past { OnOk result
             (self.new.drawn.past.items ≡ self.old.drawn.past.items ++ e ∷ []) }
@@ -109,16 +114,24 @@ pub(crate) fn draw_all(alloc: Global, f: &Framed) -> Result<Drawn, AllocError>
     Ok(drawing.drawn)
 }
 
-/// The drawing order of a chart. An error is a growth of memory that was refused.
-pub fn drawing_order(alloc: Global, chart: &Chart) -> Result<Vec<Event>, AllocError>
-    ensures rules { IfOk result (λ order. IsDrawingOrder (chart_frame chart.now.events) order.items) }
+/// The drawing order of a chart. If `ranks` are given, they have a number for each event, and of
+/// the events that may come next the one with the least number is drawn, or of several such events
+/// the first; only the input of the last event precedes it. An error is a growth of memory that was
+/// refused.
+pub fn drawing_order(
+    alloc: Global,
+    chart: &Chart,
+    ranks: Option<&[usize]>,
+) -> Result<Vec<Event>, AllocError>
+    ensures rules { IfOk result (λ order.
+        IsDrawingOrder (chart_frame chart.now.events) (option_copied ranks.entry) order.items) }
 
     // All that visibly precedes an event is drawn before it.
     ensures linear { IfOk result (λ order. IsLinearOrder chart.now.events order.items) }
 {
     // A chart's linear order has all its events, so the drawing order has them too.
     let _order = chart.linear_order();
-    let f = frame_chart(alloc, chart)?;
+    let f = frame_chart(alloc, chart, ranks)?;
     let drawn = draw_all(alloc, &f)?;
     Ok(drawn.past)
 }

@@ -6,7 +6,7 @@
 ghost use Rattle.std.specs.Prelude.{◌≡◌, ◌*◌, ◌<◌, ℕ, IfOk, length};
 ghost use Rattle.bit_rows.specs.Rows.{IsWith};
 ghost use Rattle.msc_chart.specs.Charts.{partner};
-ghost use Rattle.msc_picture.specs.Courses.{IsLaid, frame_of};
+ghost use Rattle.msc_picture.specs.Courses.{IsLaid, frame_of, ranks_of};
 ghost use Rattle.msc_picture.specs.Drawn.{Holds};
 ghost use Rattle.msc_picture.specs.Ready.{AreListed, HasRoom, IsFromListed, IsLastDrawn};
 ghost use Rattle.msc_picture.specs.Ready.{IsLevelListed, IsListed, Keeps, KeepsBut};
@@ -156,7 +156,8 @@ impl Ready {
         requires held { Holds f.now d.now }
         requires known { e < length f.now.chart.now.events }
         requires room { HasRoom (length f.now.chart.now.events) self.old }
-        requires last { IsLastDrawn (frame_of f.now) d.now.past.items self.old e }
+        requires last { IsLastDrawn (frame_of f.now) (ranks_of f.now) d.now.past.items self.old
+            e }
         ensures room { HasRoom (length f.now.chart.now.events) self.new }
         ensures listed { AreListed (frame_of f.now) d.now.past.items self.new }
     {

@@ -1,10 +1,10 @@
 //! The part of a run that its picture keeps.
 
-ghost use Rattle.std.specs.Prelude.{◌≡◌, ◌<◌, IfOk, length, map};
+ghost use Rattle.std.specs.Prelude.{◌≡◌, ◌<◌, IfOk, length, map, option_copied};
 ghost use Rattle.std.specs.List.{All, range_with_len};
 ghost use Rattle.msc_chart.specs.Runs.{IsWhole, Run};
 ghost use Rattle.msc_chart.specs.Wirings.{size, wired_by};
-ghost use Rattle.msc_picture.specs.Courses.{IsLaid, frame_of};
+ghost use Rattle.msc_picture.specs.Courses.{IsLaid, frame_of, ranks_of};
 ghost use Rattle.msc_picture.specs.Frames.{IsDrawingOrder};
 ghost use Rattle.msc_picture.specs.Laws.{KeepsLinesOf};
 ghost use Rattle.msc_picture.specs.RunFrames.{place_of, queued_before, run_frame};
@@ -51,11 +51,17 @@ fn queued_of(alloc: Global, w: &Wiring, run: &[Event]) -> Result<Vec<Option<Even
     Ok(after)
 }
 
-/// A run as it is drawn: each event is a level of its own.
-fn frame_run<'a>(alloc: Global, w: &Wiring<'a>, run: &[Event]) -> Result<Framed<'a>, AllocError>
+/// A run as it is drawn, by these ranks if they are given: each event is a level of its own.
+fn frame_run<'a>(
+    alloc: Global,
+    w: &Wiring<'a>,
+    ranks: Option<&'a [usize]>,
+    run: &[Event],
+) -> Result<Framed<'a>, AllocError>
     requires run { Run (wired_by w.now) run.now }
     requires whole { IsWhole (wired_by w.now) run.now }
     ensures frame { IfOk result (λ f. frame_of f ≡ run_frame (wired_by w.now) run.now) }
+    ensures ranks { IfOk result (λ f. ranks_of f ≡ option_copied ranks.entry) }
     ensures laid { IfOk result (λ f. IsLaid f) }
 {
     Ok(Framed {
@@ -63,16 +69,24 @@ fn frame_run<'a>(alloc: Global, w: &Wiring<'a>, run: &[Event]) -> Result<Framed<
         levels: places_of(alloc, run, w.chart.events())?,
         after: queued_of(alloc, w, run)?,
         course: Vec::from_slice(alloc, run)?,
+        ranks,
     })
 }
 
 /// The order in which a run is drawn: on each line, and among the outputs of each queue, the order
-/// is that of the run. An error is a growth of memory that was refused.
-pub fn run_order(alloc: Global, w: &Wiring, run: &[Event]) -> Result<Vec<Event>, AllocError>
+/// is that of the run. Ranks choose among the events that may come next as they do for a chart. An
+/// error is a growth of memory that was refused.
+pub fn run_order(
+    alloc: Global,
+    w: &Wiring,
+    ranks: Option<&[usize]>,
+    run: &[Event],
+) -> Result<Vec<Event>, AllocError>
     requires run { Run (wired_by w.now) run.now }
     requires whole { IsWhole (wired_by w.now) run.now }
     ensures rules { IfOk result (λ order.
-        IsDrawingOrder (run_frame (wired_by w.now) run.now) order.items) }
+        IsDrawingOrder (run_frame (wired_by w.now) run.now) (option_copied ranks.entry)
+        order.items) }
 
     // It is also a run, and has the lines of the run.
     ensures run { IfOk result (λ order. Run (wired_by w.now) order.items) }
@@ -81,7 +95,7 @@ pub fn run_order(alloc: Global, w: &Wiring, run: &[Event]) -> Result<Vec<Event>,
 {
     drawn_runs_are_runs();
     w.chart.facts();
-    let f = frame_run(alloc, w, run)?;
+    let f = frame_run(alloc, w, ranks, run)?;
     let drawn = draw_all(alloc, &f)?;
     Ok(drawn.past)
 }

@@ -1,6 +1,6 @@
 //! A picture as plain data: its parts and their places, without a format.
 
-ghost use Rattle.std.specs.Prelude.{◌≡◌, ◌<◌, IfOk};
+ghost use Rattle.std.specs.Prelude.{◌≡◌, ◌<◌, IfOk, option_copied};
 ghost use Rattle.msc_chart.specs.Runs.{IsWhole, Run};
 ghost use Rattle.msc_chart.specs.Wirings.{size, wired_by};
 ghost use Rattle.msc_picture.specs.RunFrames.{run_bar};
@@ -89,18 +89,19 @@ pub struct Scene {
     pub bars: Listed<RaceBar>,
 }
 
-/// The picture of a chart, with the bars of its closest races. An error is a growth of memory that
-/// was refused.
+/// The picture of a chart, with the bars of its closest races. If `ranks` are given, its events are
+/// drawn by them, as in `drawing_order`. An error is a growth of memory that was refused.
 pub fn chart_scene(
     alloc: Global,
     draft: &Draft,
     chart: &Chart,
+    ranks: Option<&[usize]>,
     bars: Listed<RaceBar>,
 ) -> Result<Scene, AllocError>
     requires { chart.now ≡ chart_of draft.now }
-    ensures { IfOk result (IsMarkedSceneOf draft.now chart.now bars) }
+    ensures { IfOk result (IsMarkedSceneOf draft.now chart.now (option_copied ranks.entry) bars) }
 {
-    let order = drawing_order(alloc, chart)?;
+    let order = drawing_order(alloc, chart, ranks)?;
     let rows = rows_of(alloc, chart, &order)?;
     let bands = bands_of(alloc, chart, &rows)?;
     Ok(Scene {
@@ -138,12 +139,13 @@ fn bar_of(alloc: Global, w: &Wiring, race: Reversed) -> Result<RaceBar, AllocErr
     })
 }
 
-/// The picture of a whole run of a chart that reverses a race. An error is a growth of memory that
-/// was refused.
+/// The picture of a whole run of a chart that reverses a race. If `ranks` are given, its events are
+/// drawn by them, as in `run_order`. An error is a growth of memory that was refused.
 pub fn run_scene(
     alloc: Global,
     draft: &Draft,
     w: &Wiring,
+    ranks: Option<&[usize]>,
     run: &[Event],
     race: Reversed,
 ) -> Result<Scene, AllocError>
@@ -152,9 +154,10 @@ pub fn run_scene(
     requires whole { IsWhole (wired_by w.now) run.now }
     requires known { race.first < size w.now }
     ensures { IfOk result
-        (IsRunSceneOf draft.now w.now run.now race.first race.second race.number) }
+        (IsRunSceneOf draft.now w.now (option_copied ranks.entry) run.now race.first race.second
+        race.number) }
 {
-    let order = run_order(alloc, w, run)?;
+    let order = run_order(alloc, w, ranks, run)?;
     let rows = rows_of(alloc, w.chart, &order)?;
     let bar = bar_of(alloc, w, race)?;
     Ok(Scene {

@@ -10,7 +10,7 @@ use msc_arrow_marks::{AcceptedArrows, ArrowMark};
 use msc_chart::Event;
 use std::alloc::{AllocError, Global};
 
-/// Whether a mark is told of if it accepts no race: it has no arrow below it, or is for the
+/// Whether a mark is stale if it accepts no race: it has no arrow below it, or is for the
 /// architecture.
 fn mark_may_be_idle(accepted: &AcceptedArrows<'_>, mark: &ArrowMark) -> bool
     ensures { result ≡ mark_may_be_idle accepted.now mark.now }
@@ -28,7 +28,7 @@ fn may_be_idle(accepted: &AcceptedArrows<'_>, k: usize) -> bool
     }
 }
 
-/// The numbers of the marks of a diagram that are told of if they accept no race: those that have no
+/// The numbers of the marks of a diagram that are stale if they accept no race: those that have no
 /// arrow below them, and those that are for the architecture. An error is a growth of memory that
 /// was refused.
 pub fn idle_marks(alloc: Global, accepted: &AcceptedArrows<'_>) -> Result<Vec<usize>, AllocError>

@@ -15,4 +15,4 @@ mod words;
 pub use lent::{LentWords, lent_names};
 pub use marks::{MarkWords, text_end};
 pub use shown::shown_as;
-pub use words::{ChartWords, EventWords, file_said, position_said, queues_said};
+pub use words::{ChartWords, EventWords, file_said, position_said};

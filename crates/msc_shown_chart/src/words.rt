@@ -183,9 +183,8 @@ fn events_said(
     Ok(events)
 }
 
-/// An architecture as it is written, with the names of a chart's instances. The only error is want
-/// of memory.
-pub fn queues_said(alloc: Global, chart: &Chart, queues: Queues) -> Result<String, AllocError>
+/// An architecture as it is written, with the names of a chart's instances.
+fn queues_said(alloc: Global, chart: &Chart, queues: Queues) -> Result<String, AllocError>
     ensures { IfOk result (λ said. string_bytes said ≡ queues_written chart.now queues) }
 {
     let mut bytes = Vec::new(alloc);

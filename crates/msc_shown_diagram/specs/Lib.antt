@@ -5,3 +5,4 @@ pub mod Choices
 pub mod Words
 pub mod Shown
 pub mod Diagrams
+pub mod Queues

@@ -3,7 +3,7 @@
 //!
 //! [`DiagramWords`] owns the texts of a diagram, made once for all of its scenarios. [`LentDiagram`]
 //! lends them, and [`ScenarioEvents`] are the events of one scenario. [`choices_said`] names the
-//! choices of a scenario. Lines, statements and events are numbered from 0, lines of the text and
+//! choices of a scenario, and [`queues_said`] prints an architecture. Lines, statements and events are numbered from 0, lines of the text and
 //! rounds of loops from 1; places are bytes of the text, from 0. Contracts see texts as their bytes.
 //!
 //! # Choices
@@ -17,6 +17,7 @@ mod branches;
 mod choices;
 mod lent;
 mod loops;
+mod queues;
 mod shown;
 mod span;
 #[cfg(test)]
@@ -25,6 +26,7 @@ mod words;
 
 pub use choices::choices_said;
 pub use lent::{LentDiagram, ScenarioEvents};
+pub use queues::queues_said;
 pub use words::{ArrowWords, DiagramWords};
 
 /// A choice that no block has.

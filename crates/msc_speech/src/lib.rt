@@ -19,5 +19,5 @@ mod quoting;
 mod tests;
 
 pub use message::{action_said, label_said, message_said};
-pub use names::{LineName, line_names};
+pub use names::{LineName, ident_said, line_names};
 pub use quoting::quoted;

@@ -16,8 +16,8 @@ pub struct LineName<'t> {
     pub shown: Option<&'t [u8]>,
 }
 
-/// An identifier as people read it, cut if it is long.
-fn ident_said(alloc: Global, ident: &[u8]) -> Result<String, AllocError>
+/// An identifier as people read it, cut if it is long. The only error is want of memory.
+pub fn ident_said(alloc: Global, ident: &[u8]) -> Result<String, AllocError>
     ensures { IfOk result (λ said. string_bytes said ≡ ident_said ident.now) }
 {
     let text = spoken(alloc, ident)?;

@@ -1,7 +1,8 @@
 """What each command with `--from` prints of a scenario of a random Mermaid diagram.
 
-It is what the command prints of the chart that `msc import` prints of it, but for places: those of a
-chart become those of the arrows, which `msc import --list` prints. If the import is refused, each
+It is what the command prints of the chart that `msc import` prints of it, but for places and pictures:
+places of a chart become those of the arrows, which `msc import --list` prints; and the rows of pictures
+keep the order of the text, as models/picture.py draws them. If the import is refused, each
 command refuses the diagram in the same way. Two lines of the diagram name two events by a rule that
 is written here again.
 """
@@ -9,13 +10,21 @@ import itertools
 import re
 
 from generators.imports import tried
-from harness import Answer, run, shown
+from harness import Answer, joined, run, shown
+from models.chart import Chart
+from models.courses import course_of
+from models.links import Given
+from models.mermaid import choices_of, one_text, options_of
+from models.own import of_chart
+from models.picture import chart_picture, run_picture
+from models.source import source_of
 
 NEEDS_PROGRAM = True
 OPTIONS = {"number": 100}
 COMMENT = re.compile(rb" comment '(?:[^']|'')*';")
 OF_CHART = re.compile(rb"\Amsc \w+ comment ")
 PLACE = re.compile(rb"-:(\d+:\d+)")
+SVG = re.compile(rb"(?s)<svg.*?</svg>")
 EVENT = re.compile(rb"(?m)^\d+ (\S+) (out|in|action) .*\nat -:(\d+):(\d+)$")
 
 
@@ -25,6 +34,7 @@ class Imported:
     def __init__(self, trial, words, text):
         self.trial, self.text = trial, text
         self.words = ["--from", "any", *words]
+        self.given = words
         self.chart = run([trial.program, "import", *words, "-"], text)
         self.noted = run([trial.program, "import", *words, "--places", "-"], text)
         self.listed = run([trial.program, "import", *words, "--list", "-"], text)
@@ -48,6 +58,41 @@ class Imported:
             wanted = self.moved(run(said, self.chart.output))
         said = [command, *words, *self.words, "-", *map(str, named or events)]
         self.trial.compare(said, self.text, wanted)
+
+    def drawn(self, queues):
+        """The chart under an architecture, and the ranks of its events."""
+        text = self.chart.output
+        kind = of_chart(text, Given(queues[1], [])) if queues else "pair"
+        options = options_of(self.given)
+        diagram = one_text(source_of(self.text), options).diagram(options)
+        ranks = course_of(diagram, choices_of(options.choose), options).ranks()
+        return Chart(text.decode("latin-1"), kind), ranks
+
+    def draw(self, queues):
+        """Compares the picture of the chart."""
+        wanted = self.chart
+        if wanted.status == 0:
+            drawn, ranks = self.drawn(queues)
+            wanted = Answer(joined(chart_picture(drawn, bool(queues), ranks)), b"", 0)
+        self.trial.compare(["draw", *queues, *self.words, "-"], self.text, wanted)
+
+    def reverse(self, queues, pair, named):
+        """Compares the picture of a run that reverses a race."""
+        drawn, ranks = self.drawn(queues)
+        wanted = Answer(joined(run_picture(drawn, *pair, ranks)), b"", 0)
+        self.trial.compare(["reverse", *queues, *self.words, "-", *named], self.text, wanted)
+
+    def report(self, queues):
+        """Compares the report of a chosen scenario, but for its pictures."""
+        if "--choose" not in self.words:
+            return
+        said = ["report", *queues, *self.words, "-"]
+        done = run([self.trial.program, *said], self.text)
+        wanted = self.chart
+        if wanted.status == 0:
+            wanted = run([self.trial.program, "report", *queues, "-"], self.chart.output)
+        pages = [(SVG.sub(b"", it.output), it.error, it.status) for it in (done, wanted)]
+        self.trial.add(pages[0] == pages[1], shown(self.text), *said, done, wanted)
 
     def pair(self, first, second):
         """The events that two lines name, or none if it is one event."""
@@ -82,7 +127,7 @@ def compare_pairs(trial, it):
             trial.noted["pairs by lines"] += 1
             done = run([trial.program, "reverse", *queues, "-", *map(str, pair)], it.chart.output)
             if done.status == 0:
-                it.compare("reverse", *queues, events=pair, named=named)
+                it.reverse(queues, pair, named)
                 trial.noted["reversed"] += 1
 
 
@@ -107,12 +152,13 @@ def compare(trial):
         trial.compare(["read", *it.words, "-"], text, canonical)
         trial.compare(["list", *it.words, "-"], text, it.listed)
         queues = queues_of(pick, it)
-        for command in ("follow", "ready", "report"):
+        for command in ("follow", "ready"):
             it.compare(command, *queues)
+        it.report(queues)
         compare_run(trial, it, queues)
         it.compare("follow", *queues, "--places", "--words")
         it.compare("ready", *queues, "--places", "--again")
-        it.compare("draw", *(queues if pick.random() < 0.5 else []), *["--svg"] * pick.randrange(2))
+        it.draw(queues if pick.random() < 0.5 else [])
         trial.noted["refused" if it.chart.status else "imported"] += 1
         if it.chart.status == 0:
             it.compare("ready", *queues, "--format", "lines")

@@ -36,6 +36,8 @@ class Course:
         self.taken, self.asked, self.arrows = [], [], 0
         # the arrows as they are met, each with what the chart calls its message
         self.met = []
+        # the same by their numbers, each with the rounds of the loops around it
+        self.path = []
         # some parallel branches are drawn one below the other
         self.is_stacked = False
         self.segments, _ = self.through(diagram.items, ())
@@ -123,6 +125,7 @@ class Course:
         sender, receiver = names.names[left].decode(), names.names[right].decode()
         is_action = is_lost or left == right and self.options.own != "message"
         self.met.append((it, "action" if is_action else key))
+        self.path.append((it.number, rounds))
         out = Event(f"out {key} to {receiver}", "out", it, rounds)
         taken = Event(f"in {key} from {sender}", "in", it, rounds)
         if is_both:
@@ -157,6 +160,11 @@ class Course:
         for line in range(len(self.diagram.names.names)):
             for segment in self.segments.get(line, []):
                 yield from ((line, event) for event in segment)
+
+    def ranks(self):
+        """For each event the number of its arrow among those that are met."""
+        at = {arrow: number for number, arrow in enumerate(self.path)}
+        return [at[event.arrow.number, event.rounds] for _, event in self.events()]
 
     def list(self, name, file):
         """The events with their numbers, and the places of their arrows."""

@@ -25,6 +25,11 @@ def names_of(diagram):
             for name, ident in zip(said, names.idents)]
 
 
+def idents_of(diagram):
+    """The identifiers of all lines, as the closing line names them."""
+    return [cut(spoken(ident)) for ident in diagram.names.idents]
+
+
 def loops_of(items, around=()):
     """For each arrow the loops around it, outermost first."""
     found = {}
@@ -186,7 +191,7 @@ class FullOutput:
         self.most -= len(told)
         self.lines += printed(page, blocks, self.colours)
         said = self.verdict(verdict, len(listed), len(told))
-        said = closing.verdict_on(said, verdict.queues, verdict.names)
+        said = closing.verdict_on(said, verdict.queues, idents_of(verdict.diagram))
         self.close(label_of_file(text.source, text), said, is_all)
         self.has_races |= bool(listed)
         self.has_mark |= bool(verdict.marks)

@@ -66,15 +66,16 @@ def stick_blocks(speech, system, sticks, runs, has_rounds=False):
         yield stick_block(Pair(speech, system.drawn, e, f, has_rounds), more)
 
 
-def lines_of(found, speech, page, file, options):
-    """The lines for sticks with this speech, in a file of this name."""
+def lines_of(found, speech, page, file, names, options):
+    """The lines for sticks with this speech, in a file of this name; the closing line has these
+    names of instances."""
     runs = Runs(options.show)
     blocks = list(stick_blocks(speech, found.system, found.sticks, runs))
     if found.two:
         rounds = RoundSpeech(speech, found.two)
         blocks += stick_blocks(rounds, found.double, found.between, runs, True)
     blocks += [left_block(LeftPair(speech, found.drawn, e, f)) for e, f in found.left]
-    verdict = closing.verdict_on(found.verdict(options), found.drawn.queues, found.drawn.names)
+    verdict = closing.verdict_on(found.verdict(options), found.drawn.queues, names)
     lines = printed(page, blocks, options.colours)
     return [*lines, closing.closing(file, verdict, options.colours)]
 
@@ -83,4 +84,4 @@ def ready_lines(text, page, queues, options):
     """The lines for a chart, and the exit status."""
     found = Sticks(text.decode("latin-1"), queues, options)
     speech = ChartSpeech(found.drawn, text, page)
-    return lines_of(found, speech, page, page.file, options), found.status
+    return lines_of(found, speech, page, page.file, found.drawn.names, options), found.status

@@ -1,7 +1,7 @@
 """What `msc ready --from --format full` prints of a scenario of a diagram that has a chart."""
 from models.courses import course_of
 from models.diagnostic import page_of
-from models.full_diagrams import DiagramSpeech, label_of_file
+from models.full_diagrams import DiagramSpeech, idents_of, label_of_file
 from models.full_ready import Sticks, lines_of
 from models.mermaid import choices_of, one_text, options_of
 from models.own import of_diagram
@@ -20,4 +20,5 @@ def answer(text, file, words, asked):
     scenario, found = Scenario(course, queues, file), Sticks(course.text("t"), queues, asked)
     page = page_of(source)
     speech = DiagramSpeech(diagram, scenario, page)
-    return lines_of(found, speech, page, label_of_file(source, block), asked), found.status
+    label, names = label_of_file(source, block), idents_of(diagram)
+    return lines_of(found, speech, page, label, names, asked), found.status

@@ -3,7 +3,7 @@
     tools/naive/print.py picture [--queues QUEUES [RULE]..] [--race E F] < CHART
 
 prints one. With --queues the closest races of the chart are marked. With --race E F too it is the
-run of the race (E, F) that is drawn. The drawing order, the rows and the places of the text are
+run of the race (E, F) that is drawn. Of a scenario of a diagram the rows keep the order of its text. The drawing order, the rows and the places of the text are
 functions of their own, written for a reader and not for speed; the picture shares nothing with the
 crates, so that expected outputs can be taken from it. The text has to be a chart, and (E, F) a
 race.
@@ -30,10 +30,11 @@ def shown(event):
 
 
 class Order:
-    """The order in which events are drawn: levels of each line, and queues with their outputs."""
+    """The order in which events are drawn: levels of each line, and queues with their outputs; and
+    in a diagram the ranks of the events, the numbers of their arrows."""
 
-    def __init__(self, drawn, levels, queues):
-        self.drawn = drawn
+    def __init__(self, drawn, levels, queues, ranks):
+        self.drawn, self.ranks = drawn, ranks
         self.needs = {e: set() for e in drawn.all}
         for line in levels:
             above = set()
@@ -61,6 +62,8 @@ class Order:
             if self.may_follow(answer, past):
                 return answer
         ready = [e for e in drawn.all if self.may_follow(e, past)]
+        if self.ranks is not None:
+            return min(ready, key=lambda e: (self.ranks[e], e))
         still = [e for e in ready if not drawn.is_output(e)]
         level = [e for e in ready if self.may_follow(drawn.partner[e], past + [e])]
         return (still or level or ready)[0]
@@ -185,17 +188,17 @@ def closest_marks(drawn):
             yield [sorted(set(ends)) for ends in zip(*pairs)]
 
 
-def chart_picture(drawn, marked):
+def chart_picture(drawn, marked, ranks=None):
     levels = [
         [own for own in segments(drawn) if drawn.events[own[0]].line == i]
         for i in range(len(drawn.names))
     ]
     bands = [own for own in segments(drawn) if len(own) > 1]
     marks = list(closest_marks(drawn)) if marked else []
-    return picture(drawn, Order(drawn, levels, []).events, bands, marks)
+    return picture(drawn, Order(drawn, levels, [], ranks).events, bands, marks)
 
 
-def run_picture(drawn, e, f):
+def run_picture(drawn, e, f, ranks=None):
     run = drawn.witness(e)
     levels = [
         [[x] for x in run if drawn.events[x].line == i] for i in range(len(drawn.names))
@@ -204,7 +207,7 @@ def run_picture(drawn, e, f):
     for x in run:
         if drawn.is_output(x):
             queues.setdefault(drawn.queue(x), []).append(x)
-    order = Order(drawn, levels, queues.values()).events
+    order = Order(drawn, levels, queues.values(), ranks).events
     return picture(drawn, order, [], [[[f], [e]]])
 
 

@@ -1,4 +1,4 @@
-use Rattle.std.proofs.Common.{option_map}
+use Rattle.std.proofs.Common.{option_map, refl, ◌∙◌}
 use Rattle.std.proofs.lemmas.Result.{err_from_is_err_and}
 use Rattle.msc_command.proofs.ImportPages.{not_read}
 use Rattle.msc_command.specs.Importing.{wanted_with}
@@ -20,4 +20,11 @@ pub returns : goal.returns
 returns c =
     let given = option_map (λ c. c.now) c.args.choices in
     let is = c.in_ok-imported.ensures c.args.text.now (c.in_ok-diagram.ensures given) in
-    record { imported_is = is.0; again = is.1; diagram_is = c.in_ok-diagram.ensures given; number_is = c.fence_of.ensures }
+    record {
+      imported_is = is.0;
+      again = is.1;
+      diagram_is = c.in_ok-diagram.ensures given;
+      number_is = c.fence_of.ensures;
+      choices_are = c.in_ok-from_slice.ensures.items ∙ c.given_or_main.ensures;
+      manner_is = refl;
+    }

@@ -1,4 +1,4 @@
-use Rattle.std.proofs.Common.{ℕ, length, sym, ap, subst, ◌∙◌}
+use Rattle.std.proofs.Common.{ℕ, length, option_copied, sym, ap, subst, ◌∙◌}
 use Rattle.msc_draw.specs.Listed.{listed_of}
 use Rattle.msc_html.specs.Findings.{AreArticles}
 use Rattle.msc_html.specs.Reports.{report, report_text}
@@ -16,6 +16,7 @@ pub returns : goal.returns
 returns c =
     let e = c.args.enforced in
     let draft = c.args.draft.now in
+    let ranks = option_copied c.args.ranks in
     let version = c.args.version.now in
     let causes = c.what_counts_is_listed.ensures.causes e c.facts.ensures.order c.facts.ensures.chart in
     let all = c.every_race_that_counts_spans_a_closest_one.ensures.list e c.facts.ensures.order
@@ -31,10 +32,10 @@ returns c =
       are = subst (λ (x : Selected). IsClosestList (wiring_of e) (listed_of x))
           (sym c.in_ok-listing.ensures) all;
       scene = told.scene;
-      right = subst (λ (x : EnforcedChart). IsSceneOf draft x.chart closest told.scene) judged told.right;
+      right = subst (λ (x : EnforcedChart). IsSceneOf draft x.chart ranks closest told.scene) judged told.right;
       many = told.many;
       articles = told.articles;
-      tell = subst (λ (x : EnforcedChart). AreArticles draft x.chart x.queues closest told.many told.articles)
+      tell = subst (λ (x : EnforcedChart). AreArticles draft x.chart ranks x.queues closest told.many told.articles)
           judged told.are;
       text = told.text
           ∙ ap (λ (x : EnforcedChart). report_text (report x.chart x.queues c.count_races-races.result

@@ -1,4 +1,4 @@
-use Rattle.std.proofs.Common.{◌≡◌, ℕ, List, length, ap, sym, subst, ◌++◌, ◌∙◌}
+use Rattle.std.proofs.Common.{◌≡◌, ℕ, List, length, option_copied, ap, sym, subst, ◌++◌, ◌∙◌}
 use Rattle.msc_chart.specs.Drawings.{Drawing}
 use Rattle.msc_draw.specs.Listed.{listed_of}
 use Rattle.msc_html.specs.Reports.{report, report_text}
@@ -13,6 +13,7 @@ returns c =
     let s = c.args.listing.now in
     let told = c.in_ok-put_page.ensures in
     let scene = c.in_ok-scene.scene in
+    let ranks = option_copied c.args.ranks in
     let chart : c.chart-chart.result.now ≡ s.judged.chart =
     c.chart-chart.ensures ∙ ap (λ (x : EnforcedChart). x.chart) c.enforced.ensures in
     let bars = c.in_ok-bars.ensures.bars
@@ -20,8 +21,8 @@ returns c =
     let text = c.deref.ensures.value ∙ c.in_ok-text.ensures.text in
     record {
       scene = scene;
-      right = subst (λ (d : Drawing). IsSceneOf c.args.draft.now d (listed_of s) scene) chart
-          (subst (λ (m : List RaceBar). IsMarkedSceneOf c.args.draft.now c.chart-chart.result.now m scene) bars c.in_ok-scene.ensures);
+      right = subst (λ (d : Drawing). IsSceneOf c.args.draft.now d ranks (listed_of s) scene) chart
+          (subst (λ (m : List RaceBar). IsMarkedSceneOf c.args.draft.now c.chart-chart.result.now ranks m scene) bars c.in_ok-scene.ensures);
       articles = told.articles;
       many = told.many;
       are = told.are;

@@ -5,4 +5,4 @@ use Rattle.msc_picture.proofs.scene.chart_scene.Goals as goal
 
 pub rows_of-requires : goal.rows_of-requires
 rows_of-requires c =
-    rw c.deref.ensures.value (drawn_known (chart_frame c.args.chart.now.events) [] _ c.in_ok-order.ensures.rules.steps)
+    rw c.deref.ensures.value (drawn_known (chart_frame c.args.chart.now.events) _ [] _ c.in_ok-order.ensures.rules.steps)

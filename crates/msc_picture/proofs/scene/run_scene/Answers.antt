@@ -6,4 +6,4 @@ use Rattle.msc_picture.proofs.scene.run_scene.Goals as goal
 
 pub rows_of-requires : goal.rows_of-requires
 rows_of-requires c =
-    rw c.deref.ensures.value (drawn_known (run_frame (wired_by c.args.w.now) c.args.run.now) [] _ c.in_ok-order.ensures.rules.steps)
+    rw c.deref.ensures.value (drawn_known (run_frame (wired_by c.args.w.now) c.args.run.now) _ [] _ c.in_ok-order.ensures.rules.steps)

@@ -1,6 +1,6 @@
 use Rattle.std.proofs.Common.{ℕ, ◌≡◌, get_or, subst, ap, ◌∙◌, arith}
 use Rattle.msc_chart.specs.Charts.{line}
-use Rattle.msc_picture.specs.Courses.{frame_of}
+use Rattle.msc_picture.specs.Courses.{frame_of, ranks_of}
 use Rattle.msc_picture.specs.Ready.{IsFromListed}
 use Rattle.msc_picture.proofs.NextListed.{all_listed}
 use Rattle.msc_picture.proofs.ReadyLemmas.{keeps_both, keeps_but, listed_kept}
@@ -19,7 +19,7 @@ returns-clause-listed c =
     ≡ get_or c.args.d.now.firsts.items (line c.args.f.now.chart.now.events c.args.e) 0 =
     c.first.ensures
     ∙ ap (λ (w : ℕ). get_or c.args.d.now.firsts.items w 0) c.instance_of.ensures in
-    all_listed c.facts.ensures.matched c.requires.last.is c.requires.laid.course
+    all_listed (ranks_of c.args.f.now) c.facts.ensures.matched c.requires.last.is c.requires.laid.course
     (held.behind.behind _ on) (held.reached _ on) held.drawn.steps c.requires.last.listed
     (keeps_but c.take_out.ensures.kept
     (keeps_both c.list_other.ensures.kept c.list_from.ensures.kept))
