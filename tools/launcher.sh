@@ -48,7 +48,7 @@ copy() {
   rm -rf "$room/copy"
   mkdir "$room/copy"
   (cd "$top" && tar -cf - --exclude=out --exclude=must-fail msc tools crates.txt HANDLES crates \
-    charts/two_phase_commit.msc) | tar -xf - -C "$room/copy"
+    charts/two_phase_commit.msc docs/msc.1) | tar -xf - -C "$room/copy"
   if [ "${1-}" != rt ]; then
     echo "import os; os.chdir('$room/copy/crates/msc'); os.system('rt run')" \
       >"$room/copy/tools/build.py"
@@ -109,6 +109,17 @@ proved_for() {
 is_not_proved() {
   launch rt --version
   [ $? = 4 ] && grep -q 'open goal' "$room/error" && grep -q 'msc_order is not proved' "$room/error"
+}
+
+# Whether the program and its manual are installed, and whether only they are removed.
+installs() (
+  cd / && PREFIX=$room/there "$room/copy/tools/install" >"$room/log" &&
+    cmp "$real" "$room/there/bin/msc" &&
+    cmp "$top/docs/msc.1" "$room/there/share/man/man1/msc.1"
+)
+uninstalls() {
+  PREFIX=$room/there "$room/copy/tools/uninstall" >"$room/log" &&
+    [ "$(find "$room/there" -type f)" = "$room/there/bin/other" ]
 }
 
 changed_byte() { printf ' ' >>"$1"; }
@@ -172,10 +183,12 @@ copy
 touch "$room/copy/crates/msc/out"
 check 'a folder that cannot be made' proves_nothing
 copy
-(cd / && PREFIX=$room/there "$room/copy/tools/install" >"$room/log")
-check 'installed' cmp "$real" "$room/there/bin/msc"
-PREFIX=$room/there "$room/copy/tools/uninstall" >"$room/log"
-check 'uninstalled' test ! -e "$room/there/bin/msc"
+mkdir -p "$room/there/bin"
+touch "$room/there/bin/other"
+check 'installed' installs
+check 'installed again' installs
+check 'uninstalled' uninstalls
+check 'uninstalled again' uninstalls
 
 echo "launcher: $passed passed, $failed failed"
 [ "$failed" = 0 ]
