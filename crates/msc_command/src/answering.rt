@@ -51,14 +51,13 @@ use crate::surveying::{
 };
 use crate::tasks::{
     ChartCommand, CheckArgs, ChosenArgs, Drawn, ExplainArgs, FollowArgs, Format, ImportArgs,
-    LinkWords, QuietArgs, ReadyArgs, RefusalForm, ReportArgs, Request, ScenarioArgs, Task, TextArgs,
-    form_of,
+    LinkWords, QuietArgs, ReadyArgs, RefusalForm, ReportArgs, Request, ScenarioArgs, Task,
+    TextArgs, form_of,
 };
 use crate::text_chart::TextChart;
 use msc_chart::Unrolled;
 use msc_diagram::{arrows_of, rounds_of as rounds_of_events};
 use msc_findings::FullFormat;
-use msc_instance::AlwaysOpen;
 use msc_mark::Marks;
 use msc_markdown::Markdown;
 use msc_parser::Draft;
@@ -72,7 +71,6 @@ use msc_text::{
     ChartFormat, CheckInput, ReadyQuery, StickFormat, explain_pair, follow_drawing, judge_chart,
     list_chart, passes_chart, write_reading, write_ready,
 };
-use msc_tool::print_execution;
 use std::alloc::Global;
 use std::io;
 use std::io::{Read, Write};
@@ -554,12 +552,12 @@ fn answer_chart<'w, R: Threads + Wait + Sync, O: Write>(
         ChartCommand::Explain(explaining) => explain(alloc, explaining, file, source, output),
         ChartCommand::Follow(following) => follow(alloc, following, file, source, output),
         ChartCommand::Run(queues, patience) => {
-            let (page, finished) = print_execution(
+            let (page, finished) = msc_tool::print_execution(
                 rt,
                 alloc,
                 chart,
                 queues,
-                &AlwaysOpen,
+                &msc_instance::AlwaysOpen,
                 patience,
             )?;
             put(output, &page, finished_by(finished))
