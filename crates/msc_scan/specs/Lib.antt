@@ -1,0 +1,3 @@
+-- what is promised
+pub mod Names
+pub mod Walks
