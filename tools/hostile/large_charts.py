@@ -180,9 +180,10 @@ def pictures(count, program, pick, text):
 
 def faults(count, program, text):
     """Compares the notes of the fault of a chart, and of the further ones."""
-    told = notes.answer(text)
+    found = notes.faults_of(text)
+    lines = found.lines()
     for words, output, error in (
-        (["--places"], [], told), (["--format", "lines"], notes.for_editors(told), told[:1]),
+        (["--places"], [], lines), (["--format", "lines"], found.editor_lines(), lines[:1]),
     ):
         wanted = (*(lines_answer(lines, 2)[0] for lines in (output, error)), 2)
         words = ["check", "--queues", "pair", *words, "-"]

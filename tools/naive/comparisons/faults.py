@@ -11,7 +11,7 @@ import tempfile
 from generators.diagrams import in_markdown, text_of
 from generators.mistakes import mistaken
 from harness import Answer, joined, run, shown
-from models.notes import answer, for_editors, in_file
+from models.notes import answer, faults_of
 
 NEEDS_PROGRAM = True
 OPTIONS = {"number": 2000}
@@ -25,25 +25,22 @@ def diagram(pick):
     return in_markdown(pick, text)[0] if pick.random() < 0.5 else text
 
 
-def printed(lines, folder):
-    """What is printed of these lines."""
-    return joined(in_file(lines, SHOWN) if folder else lines)
-
-
-def compare_check(trial, text, wanted, folder):
+def compare_check(trial, text, faults, folder):
     """Compares what `check` prints of a text, on a file of a folder or on standard input."""
     if folder:
         (folder / FILE).write_bytes(text)
     asked, file = ["check", "--queues", "pair"], FILE if folder else "-"
-    if not wanted:
+    shown_file = SHOWN if folder else "-"
+    if not faults.printed:
         done = run([trial.program, *asked, "--places", file], text, cwd=folder)
         told = f"wanted no fault, got {done.error!r}, status {done.status}"
         trial.add(done.error == b"" and done.status in (0, 1), shown(text), told)
         return
-    told = Answer(b"", printed(wanted, folder), 2)
-    trial.compare([*asked, "--places", file], text, told, cwd=folder)
-    told = Answer(printed(for_editors(wanted), folder), joined(wanted[:1]), 2)
-    trial.compare([*asked, "--format", "lines", file], text, told, cwd=folder)
+    lines = faults.lines(shown_file)
+    wanted = Answer(b"", joined(lines), 2)
+    trial.compare([*asked, "--places", file], text, wanted, cwd=folder)
+    wanted = Answer(joined(faults.editor_lines(shown_file)), joined(lines[:1]), 2)
+    trial.compare([*asked, "--format", "lines", file], text, wanted, cwd=folder)
 
 
 def compare_read(trial, text):
@@ -58,9 +55,10 @@ def compare(trial):
         for number in range(trial.options.number):
             is_diagram = trial.pick.random() < 0.5
             text = diagram(trial.pick) if is_diagram else mistaken(trial.pick)
-            lines = answer(text)
-            compare_check(trial, text, lines, pathlib.Path(folder) if number % 2 else None)
+            faults = faults_of(text)
+            compare_check(trial, text, faults, pathlib.Path(folder) if number % 2 else None)
             if is_diagram:
                 compare_read(trial, text)
+            lines = faults.lines()
             trial.noted[re.match(r"\w+ fault \d+", lines[0])[0] if lines else "no fault"] += 1
             trial.noted.update({f"with {line.split()[0]}" for line in lines[4:]})

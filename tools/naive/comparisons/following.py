@@ -41,12 +41,12 @@ def compare_check(trial, text, given, queues, file):
     options, is_again = options_for(trial.pick, text, queues)
     marks = marks_for(text, queues)
     if is_again:
-        lines, status = check_answer(text, queues, options, marks)
+        lines, status = check_answer(text, queues, options, marks, file)
     else:
-        places = places_of(text.encode("latin-1"))
+        places = places_of(text.encode("latin-1"), file)
         lines, status = study(Chart(text, queues), places, options, marks)
     asked = ["check", *given.words(), *["--again"] * is_again, *words_of(options)]
-    wanted = Answer(joined(notes.in_file(lines, file)), b"", status)
+    wanted = Answer(joined(lines), b"", status)
     trial.compare([*asked, file], text.encode("latin-1"), wanted, cwd=TOP)
 
 

@@ -79,14 +79,15 @@ def told(lines):
 
 def compare_fault(trial, text, given, fault):
     """Compares what each command prints of a chart with a fault of its links."""
-    asked, lines = given.words(), notes.link_answer(text, fault)
+    asked, faults = given.words(), notes.link_faults(text, fault)
+    lines = faults.lines()
     for command in REFUSED:
         trial.compare([*command.split(), *asked, "-"], text, Answer(b"", told(lines[:1]), 2))
     for command in ("explain", "reverse"):
         words = [command, *asked, "-", "0", "9999"]
         trial.compare(words, text, Answer(b"", told(lines[:1]), 2))
     trial.compare(["check", *asked, "--places", "-"], text, Answer(b"", told(lines), 2))
-    wanted = Answer(told(notes.for_editors(lines)), told(lines[:1]), 2)
+    wanted = Answer(told(faults.editor_lines()), told(lines[:1]), 2)
     trial.compare(["check", *asked, "--format", "lines", "-"], text, wanted)
 
 

@@ -42,12 +42,12 @@ def options_of(words):
 
 
 def faults_of_links(text, given):
-    """What is printed of the fault of a chart's links, or None."""
+    """The fault of a chart's links, or none."""
     try:
         of_chart(text, given)
     except LinkFault as fault:
-        return notes.link_answer(text, fault)
-    return None
+        return notes.link_faults(text, fault)
+    return notes.Faults(text)
 
 
 def follow_wanted(words):
@@ -58,9 +58,10 @@ def follow_wanted(words):
         return None
     placed = file if "--places" in options else None
     if placed:
-        found = notes.answer(text, is_check=False) or faults_of_links(text, given)
-        if found:
-            return Answer(b"", joined(notes.in_file(found, file)), 2)
+        found = notes.faults_of(text, is_check=False)
+        found = found if found.printed else faults_of_links(text, given)
+        if found.printed:
+            return Answer(b"", joined(found.lines(file)), 2)
     return follow_answer(text, given, "--words" in options, placed)
 
 
@@ -71,19 +72,18 @@ def lines_wanted(words):
     if text is None or {it for it in options if it[0] == "-"} - ON_LINES or fault_of(text):
         return None
     found = faults_of_links(text, given)
-    if found:
-        lines = notes.in_file(notes.for_editors(found), file)
-        return Answer(joined(lines), joined(found[:1]), 2)
+    if found.printed:
+        return Answer(joined(found.editor_lines(file)), joined(found.lines()[:1]), 2)
     again, told, queues = "--again" in options, text.decode("latin-1"), of_chart(text, given)
     if "--accept" in options and fault_of_marks(told):
         return None
     options = [it for it in options if it not in ("--again", "--plain")]
     options, marks = vars(arguments(__doc__, ["check", *options, "own"])), marks_for(told, queues)
     if again:
-        lines, status = check_answer(told, queues, options, marks)
+        lines, status = check_answer(told, queues, options, marks, file)
     else:
-        lines, status = study(Chart(told, queues), places_of(text), options, marks)
-    return Answer(joined(notes.in_file(lines, file)), b"", status)
+        lines, status = study(Chart(told, queues), places_of(text, file), options, marks)
+    return Answer(joined(lines), b"", status)
 
 
 def wanted_of(command):

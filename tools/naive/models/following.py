@@ -106,7 +106,7 @@ def ring_steps(ring):
 
 def answer(text, queues, words=False, file=None):
     """The lines of `msc follow`, with places if a file is named, and the exit status."""
-    drawn, places = Chart(text, queues), places_of(text.encode("latin-1"))
+    drawn, places = Chart(text, queues), places_of(text.encode("latin-1"), file)
     steps = Steps(drawn)
     if steps.ring is None:
         return [*drawn.head(), "follows", *run_lines(drawn, steps.following_run(), words)], 0
@@ -114,7 +114,7 @@ def answer(text, queues, words=False, file=None):
     for x, y in ring_steps(steps.ring):
         told.append(pair_line(drawn, steps.word(x, y), x, y))
         if file is not None:
-            told.append("at " + " ".join(f"{file}{places[e][1:]}" for e in (x, y)))
+            told.append(f"at {places[x]} {places[y]}")
     return told, 1
 
 

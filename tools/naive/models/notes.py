@@ -1,5 +1,6 @@
 """Places and notes of the faults of charts: what follows the line of a text's fault with --places,
-and further faults of a draft. reading.py names the first fault itself.
+and further faults of a draft. reading.py names the first fault itself. Faults are plain data, and
+are printed as lines of text or as lines for editors.
 
     tools/naive/print.py notes < TEXT
 
@@ -8,20 +9,20 @@ reader and not for speed. The exit status is 0, or 2 where the text is refused.
 """
 import re
 import sys
+from typing import NamedTuple
 
 from harness import Answer, joined, parser, put
 from models.mermaid import has_diagram
 from models.nearness import distance
 from models.reading import ACTIONS, INSTANCES, MESSAGES, PIECE, PLACES, SUPPORTED, UNSUPPORTED
 from models.reading import Draft, Refused, chart_faults, followers, key, statements, tokens
+from models.source import Note, editor_line, note_lines
 
 # columns that are shown of a source line, those before its place, and further faults that are told
 WIDTH, BEFORE, MOST = 100, 49, 20
 # the faults of charts that are told together
 TOGETHER = (2, 3, 4, 6, 7, 8)
 MARK = b"\xef\xbb\xbf"
-# what stands for the file in a place
-PLACE = re.compile(r"(?<![^ ])-(?=:\d+:\d+)")
 
 
 def position(text, at):
@@ -31,8 +32,8 @@ def position(text, at):
     return text.count(b"\n", 0, at) + 1, column + 1
 
 
-def place(text, at):
-    return "-:{}:{}".format(*position(text, at))
+def place(text, at, file="-"):
+    return "{}:{}:{}".format(file, *position(text, at))
 
 
 def excerpt(text, at):
@@ -50,6 +51,47 @@ def excerpt(text, at):
     return ["  " + row[first - 1:first - 1 + WIDTH], "  " + " " * shown + "^"]
 
 
+class Fault(NamedTuple):
+    """A fault of a text: its line, its place if it has one, and its notes."""
+    line: str
+    at: int = None
+    notes: tuple = ()
+
+
+class Faults(NamedTuple):
+    """The faults of a text that are printed, none if there is no fault. `further` is the number of
+    all faults after the first one."""
+    text: bytes
+    printed: tuple = ()
+    further: int = 0
+
+    def where(self, file):
+        """What prints a place in a file of this name."""
+        return lambda at: place(self.text, at, file)
+
+    def lines(self, file="-"):
+        """The line of each fault, its place and its notes; the first has its source line too."""
+        where, lines = self.where(file), []
+        for number, fault in enumerate(self.printed):
+            lines += [f"further {self.further}"] if number == 1 else []
+            lines.append(fault.line)
+            if fault.at is not None:
+                lines.append(f"at {where(fault.at)}")
+                lines += excerpt(self.text, fault.at) if number == 0 else []
+            for note in fault.notes:
+                lines += note_lines(note, where)
+        return lines
+
+    def editor_lines(self, file="-"):
+        """The same as lines that editors read: each fault and each note at a place."""
+        where, lines = self.where(file), []
+        for fault in self.printed:
+            own = f"{file}:1:1" if fault.at is None else where(fault.at)
+            lines.append(f"{own}: error: {fault.line}")
+            lines += (editor_line(note, own, where) for note in fault.notes)
+        return lines
+
+
 def bytes_hint(text, at):
     """The hint on a byte that begins no token."""
     if at == 0 and text.startswith(MARK):
@@ -65,9 +107,9 @@ def lexical_notes(text, number, at):
     if number == 2:
         byte = text[at]
         found = f"character {chr(byte)}" if 33 <= byte <= 126 else f"byte {byte}"
-        return [f"found the {found}", bytes_hint(text, at)]
+        return [Note(f"found the {found}"), Note(bytes_hint(text, at))]
     if number == 5:
-        return [f"found {len(PIECE.match(text, at)[0])} bytes"]
+        return [Note(f"found {len(PIECE.match(text, at)[0])} bytes")]
     return []
 
 
@@ -87,13 +129,13 @@ def grammar_notes(text, number, at):
     token = next((it for it in found if it.at == at), None)
     notes = []
     if number == 3:
-        notes.append(f"found {words_of(token)}")
+        notes.append(Note(f"found {words_of(token)}"))
         end = last.at + len(last.bytes) if last else None
         if last and position(text, end)[0] != position(text, at)[0]:
-            notes.append(f"behind {place(text, end)}")
+            notes.append(Note("behind", end, "what stands before ends here"))
     if token and token.kind in (*SUPPORTED, *UNSUPPORTED) and PLACES[state][0] == "a name":
         word = token.bytes.decode()
-        notes.append(f"hint {word} is reserved in any case; {word}_ is a name")
+        notes.append(Note(f"hint {word} is reserved in any case; {word}_ is a name"))
     return notes
 
 
@@ -106,6 +148,10 @@ def words_of(token):
     if token.kind == "text":
         return "a text"
     return f"the reserved word {token.kind}" if token.kind.isalpha() else token.kind
+
+
+def first_note(at):
+    return Note("first", at, "the first one stands here")
 
 
 class Placed:
@@ -142,9 +188,6 @@ class Placed:
         towards = "to" if it.way == "out" else "from"
         return f"{own} {it.way} {it.name.decode()}{number} {towards} {it.address.decode()}"
 
-    def begin(self, e):
-        return place(self.text, self.begins[e])
-
     def place_of(self, number, n):
         """The byte at which a fault stands; n is the section, the header name or the event."""
         if number == 1:
@@ -175,7 +218,7 @@ class Placed:
         i = far.index(min(far))
         if 3 * far[i] > max(len(name), len(self.names[i])):
             return []
-        return [f"nearest {self.names[i].decode()} {place(self.text, self.sections[i])}"]
+        return [Note(f"nearest {self.names[i].decode()}", self.sections[i])]
 
     def partners(self, e):
         """The other ends of the message of an event."""
@@ -242,24 +285,29 @@ class Placed:
         for x, y in zip(ring, [*ring[1:], e]):
             sent = self.keys[x] and self.keys[x][0] == "out" and y in self.partners(x)
             word = "sent" if sent else "drawn"
-            yield f"{word} {x} {y}: {self.shown(x)}; {self.shown(y)}"
-            yield f"at {self.begin(x)} {self.begin(y)}"
+            said = f"{word} {x} {y}: {self.shown(x)}; {self.shown(y)}"
+            yield Note(said, self.begins[x], second=self.begins[y])
 
     def notes(self, number, n):
         """The notes of a fault."""
         if number == 2:
             first = self.sections[self.names.index(self.names[n])]
-            return [f"name {self.names[n].decode()}", f"first {place(self.text, first)}"]
+            return [Note(f"name {self.names[n].decode()}"), first_note(first)]
         if number in (3, 4):
             name = self.draft.header[n].name if number == 3 else self.events[n][2].address
-            return [f"name {name.decode()}", *self.nearest(name)]
+            return [Note(f"name {name.decode()}"), *self.nearest(name)]
         if number == 6:
-            return [f"first {self.begin(self.keys.index(self.keys[n]))}", self.apart(n)]
+            first = self.begins[self.keys.index(self.keys[n])]
+            return [first_note(first), Note(self.apart(n))]
         if number in (7, 8):
             near = self.near(n)
-            told = [] if near is None else [f"near {self.shown(near)} {self.begin(near)}"]
-            return [self.wanted(n), *told]
+            like = [] if near is None else [Note(f"near {self.shown(near)}", self.begins[near])]
+            return [Note(self.wanted(n)), *like]
         return list(self.steps(n)) if number == 9 else []
+
+    def fault(self, number, n, line):
+        """A fault with its place and its notes."""
+        return Fault(line, self.place_of(number, n), tuple(self.notes(number, n)))
 
     def further(self, faults):
         """Of the faults behind the first those that are told."""
@@ -280,36 +328,28 @@ def numbered(line):
     return int(number), int(found[1]) if found else None, f"chart fault {line}"
 
 
-def chart_answer(text):
-    """What is printed of the faults of a text's draft."""
+def draft_faults(text):
+    """The faults of a text's draft."""
     placed = Placed(text)
     faults = map(numbered, chart_faults(placed.draft))
     first = next(faults, None)
     if not first:
-        return []
-    number, n, line = first
-    at = placed.place_of(number, n)
-    answer = [line, f"at {place(text, at)}", *excerpt(text, at), *placed.notes(number, n)]
-    if number in TOGETHER:
+        return Faults(text)
+    others = []
+    if first[0] in TOGETHER:
         together = [first]
         for it in faults:
             if it[0] == 9:
                 break
             together += [it] if it[0] in TOGETHER else []
         others = placed.further(together)
-        answer += [f"further {len(others)}"] if others else []
-        for number, n, line in others[:MOST]:
-            at = place(text, placed.place_of(number, n))
-            answer += [line, f"at {at}", *placed.notes(number, n)]
-    return answer
+    printed = tuple(placed.fault(*it) for it in [first, *others[:MOST]])
+    return Faults(text, printed, len(others))
 
 
-def link_answer(text, fault):
-    """What is printed of a fault of links: one of the text's own rules has a place."""
-    line = fault.line(fault.at)
-    if fault.at is None:
-        return [line]
-    return [line, f"at {place(text, fault.at)}", *excerpt(text, fault.at)]
+def link_faults(text, fault):
+    """The fault of a chart's links: one of the text's own rules has a place."""
+    return Faults(text, (Fault(fault.line(fault.at), fault.at),))
 
 
 # the hint on a text that is no chart but a diagram, in `check` and in other commands
@@ -321,50 +361,30 @@ def with_diagram_hint(text, notes, hint):
     """The notes of a fault, of a text that is a diagram with this hint in the place of others."""
     if not has_diagram(text):
         return notes
-    found = [note for note in notes if note.startswith("found ")]
-    others = [note for note in notes if not note.startswith(("found ", "hint "))]
-    return [*found, hint, *others]
+    found = [note for note in notes if note.text.startswith("found ")]
+    others = [note for note in notes if not note.text.startswith(("found ", "hint "))]
+    return [*found, Note(hint), *others]
 
 
-def answer(text, is_check=True):
-    """What is printed on standard error, line by line, by `check` or by another command."""
+def faults_of(text, is_check=True):
+    """The faults of a chart's text, as `check` or another command prints them."""
     try:
-        return chart_answer(text)
+        return draft_faults(text)
     except Refused as refused:
         line = str(refused)
         found = re.match(r"(lexical|grammar) fault (\d) at (\d+)", line)
         if not found:
-            return [line]
+            return Faults(text, (Fault(line),))
         number, at = int(found[2]), int(found[3])
         notes = lexical_notes if found[1] == "lexical" else grammar_notes
         hint = DIAGRAM_HINTS[0 if is_check else 1]
         notes = with_diagram_hint(text, notes(text, number, at), hint)
-        return [line, f"at {place(text, at)}", *excerpt(text, at), *notes]
+        return Faults(text, (Fault(line, at, tuple(notes)),))
 
 
-# how a note that is a place alone is said there
-SAID = {"behind": "what stands before ends here", "first": "the first one stands here"}
-
-
-def for_editors(lines):
-    """The same as lines that editors read: each fault and each note at a place."""
-    told, at = [], None
-    for line, below in zip(lines, [*lines[1:], ""]):
-        beside = below[3:] if below.startswith("at ") else None
-        if re.match(r"\w+ fault \d|memory fault", line):
-            at = beside or "-:1:1"
-            told.append(f"{at}: error: {line}")
-        elif not line.startswith(("at ", "  ", "further ")):
-            own = re.search(r" (-:\d+:\d+)$", line)
-            where = own[1] if own else beside.split()[0] if beside else at
-            said = line[: own.start()] if own else line
-            told.append(f"{where}: note: {SAID.get(said, said)}")
-    return told
-
-
-def in_file(lines, file):
-    """The same lines, of a file of this name; the line of the text that is shown stays as it is."""
-    return [it if it.startswith("  ") else PLACE.sub(lambda _: file, it) for it in lines]
+def answer(text, is_check=True):
+    """What is printed on standard error, line by line, by `check` or by another command."""
+    return faults_of(text, is_check).lines()
 
 
 def main(given):

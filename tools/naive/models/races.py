@@ -108,6 +108,11 @@ def chosen(drawn, options, marks):
     return races, named, left, closest_of(drawn, left), stale
 
 
+def count_words(races, closest):
+    """The verdict of `--format count`."""
+    return f"races {len(races)} closest {len(closest)}" if races else "pass"
+
+
 def study(drawn, places, options, marks):
     """What is printed, line by line, and the exit status; `options` are as the command's words."""
     races, named, left, closest, stale = chosen(drawn, options, marks)
@@ -115,8 +120,7 @@ def study(drawn, places, options, marks):
     if options["quiet"]:
         return [], status
     if options["format"] == "count":
-        verdict = f"races {len(races)} closest {len(closest)}" if races else "pass"
-        return [f"{verdict} -"], status
+        return [f"{count_words(races, closest)} -"], status
     listed = closest if options["closest"] else left
     if options["format"] == "lines":
         told = [never_lines(drawn, places)]

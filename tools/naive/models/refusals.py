@@ -84,16 +84,14 @@ def grammar(text, number, at, hints):
     every = tokens(text)
     state, _ = place_before(every, at)
     token = next((it for it in every if it.at == at), None)
-    notes, behind = grammar_notes(text, number, at), None
-    for note in notes:
-        if note.startswith("behind "):
-            behind = max(it.at + len(it.bytes) for it in every if it.at < at)
+    notes = grammar_notes(text, number, at)
+    behind = next((note.at for note in notes if note.text == "behind"), None)
     mark = Mark(at, at + len(token.bytes) if token else at + 1, "^")
     marks = [mark]
     if behind is not None:
         marks = [mark._replace(label="found here"),
                  Mark(behind - 1, behind, "-", "expected behind this")]
-    own = [note.removeprefix("hint ") for note in notes if note.startswith("hint ")]
+    own = [it.text.removeprefix("hint ") for it in notes if it.text.startswith("hint ")]
     sentence = f"expected {wanted(state)}, found {found(token)}"
     if number == 2:
         sentence = f"{found(token)} is not supported"
@@ -119,7 +117,7 @@ class ChartFaults:
         """The mark at the section whose name may be meant."""
         if not self.placed.nearest(name):
             return []
-        own = self.placed.nearest(name)[0].split()[1].encode()
+        own = self.placed.nearest(name)[0].text.split()[1].encode()
         at = self.placed.sections[self.placed.names.index(own)]
         return [self.name_mark(at, "-", "is this one meant?")]
 

@@ -148,9 +148,9 @@ def editor_lines(two, places, options, pairs, listed):
             yield f"{places[f]}: note: the event of the next round"
 
 
-def check_answer(text, queues, options=PLAIN, marks=()):
-    """The lines of `msc check --again`, and the exit status."""
-    two, places = Several(text, queues, 2), places_of(text.encode("latin-1"))
+def check_answer(text, queues, options=PLAIN, marks=(), file="-"):
+    """The lines of `msc check --again` of a file of this name, and the exit status."""
+    two, places = Several(text, queues, 2), places_of(text.encode("latin-1"), file)
     lines, status = study(two.one, places, options, marks)
     pairs = [race for race in two.closest() if two.crosses(*race)]
     pairs = [race for race in pairs if kind(two, *race) not in options["allow"]]

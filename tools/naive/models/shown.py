@@ -3,10 +3,10 @@ from models.notes import place
 from models.reading import tokens
 
 
-def places_of(text):
-    """The place of each event, in the order of the text."""
+def places_of(text, file="-"):
+    """The place of each event in a file of this name, in the order of the text."""
     found = tokens(text)
-    return [place(text, it.at) for it in found if it.kind in ("out", "in", "action")]
+    return [place(text, it.at, file) for it in found if it.kind in ("out", "in", "action")]
 
 
 def named(drawn, e):

@@ -38,10 +38,25 @@ class Span(NamedTuple):
 
 
 class Note(NamedTuple):
-    """A line behind a fault, with a place of its own if it has one, and what editors read then."""
+    """A line that follows a fault, with its own place if it has one, and what editors read then. A
+    line that shows two events has two places."""
     text: str
     at: int = None
     said: str = None
+    second: int = None
+
+
+def note_lines(note, where):
+    """The lines of a note; `where` prints a place."""
+    if note.second is not None:
+        return [note.text, f"at {where(note.at)} {where(note.second)}"]
+    return [note.text if note.at is None else f"{note.text} {where(note.at)}"]
+
+
+def editor_line(note, own, where):
+    """The line of a note that editors read; it is at `own` if the note has no place."""
+    place = own if note.at is None else where(note.at)
+    return f"{place}: note: {note.said or note.text}"
 
 
 def found_note(shown):
@@ -162,7 +177,7 @@ class Source:
             yield f"at {self.where(fault.at)}"
             yield from self.excerpt(fault.at)
         for note in fault.notes:
-            yield note.text if note.at is None else f"{note.text} {self.where(note.at)}"
+            yield from note_lines(note, self.where)
 
     def editor_lines(self, fault, has_notes=True):
         """The same as lines that editors read; without notes the line of the fault alone."""
@@ -173,8 +188,7 @@ class Source:
         where = f"{self.file}:1:1" if fault.at is None else self.where(fault.at)
         yield f"{where}: error: {self.fault_line(fault)}"
         for note in fault.notes:
-            own = where if note.at is None else self.where(note.at)
-            yield f"{own}: note: {note.said or note.text}"
+            yield editor_line(note, where, self.where)
 
 
 def source_of(text, file="-"):
