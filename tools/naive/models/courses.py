@@ -3,7 +3,7 @@ how many there are.
 """
 import argparse
 
-from models.diagrams import Arrow, Block, Event, made_of_text
+from models.diagrams import Arrow, Block, Event, instance_number, made_of_text
 from models.source import Note, Refused
 
 # arrows, rounds, scenarios
@@ -120,8 +120,7 @@ class Course:
         is_lost = it.fate == "lost" or it.fate == "either" and self.choice(it) == 0
         if self.arrows > self.most:
             raise Refused(15, f"more than {ARROWS} arrows", it.at)
-        key = made_of_text(it.label.held, b"m").decode() + ", "
-        key += "_".join(str(n) for n in (it.number, *rounds))
+        key = f"{made_of_text(it.label.held, b'm').decode()}, {instance_number(it, rounds)}"
         sender, receiver = names.names[left].decode(), names.names[right].decode()
         is_action = is_lost or left == right and self.options.own != "message"
         self.met.append((it, "action" if is_action else key))

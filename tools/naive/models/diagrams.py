@@ -50,6 +50,12 @@ class Arrow(NamedTuple):
         return self.left.held == self.right.held
 
 
+def instance_number(arrow, rounds):
+    """The message instance name of an arrow's message: the arrow's count, and the rounds of the
+    loops around it."""
+    return "_".join(str(n) for n in (arrow.number, *rounds))
+
+
 class Event(NamedTuple):
     """One end of an arrow: what is printed of it, and which end it is: `out`, `in` or `action`. A
     message that is lost goes out. `rounds` are those of the loops around it."""

@@ -24,17 +24,18 @@ from models.full_ready import ready_lines
 from models.links import LinkFault, add_queues, given_of
 from models.marks import comments, marks_for
 from models.marks import fault_of as fault_of_marks
-from models.notes import DIAGRAM_HINTS
+from models.notes import DIAGRAM_HINTS, Fault, Faults, faults_of, link_faults
 from models.own import of_chart
-from models.races import KINDS, chosen, kind, shown_run
+from models.races import KINDS, chosen, shown_run
 from models.reading import tokens
 from models.ready import ALL
 from models.refusals import Told, error, of_accept, of_chart_text, of_device, of_fixed_line, of_link
 from models.rounds import Several, fault_of_rounds
+from models.shown import named
 from models.source import file_shown
 from models.spoken import all_shown
-from models.wording import ChartSpeech, Pair, RoundSpeech, never_block, race_block, run_note
-from models.wording import stale_block
+from models.wording import ChartSpeech, Finding, Pair, RoundSpeech, never_block, race_finding
+from models.wording import run_steps, stale_block
 
 
 class Printed:
@@ -63,54 +64,30 @@ def text_span(text, at):
 
 def fault_told(text, page, options):
     """The refusal of a text, without blocks if it is not refused, and the architecture."""
-    told = of_chart_text(text, page, DIAGRAM_HINTS[options.command != "check"])
+    is_check = options.command == "check"
+    told = of_chart_text(text, page, DIAGRAM_HINTS[not is_check])
     if told.blocks:
-        return told, None
+        return told._replace(faults=faults_of(text, is_check)), None
     try:
         queues = of_chart(text, given_of(options))
     except LinkFault as fault:
         span = None if fault.at is None else text_span(text, fault.at)
-        return Told([of_link(fault, page.file, span)]), None
+        return Told([of_link(fault, page.file, span)], 0, link_faults(text, fault)), None
     held = text.decode("latin-1")
     found = options.accept and fault_of_marks(held)
     if found:
         number, at = map(int, re.findall(r"\d+", found)[:2])
-        return Told([of_accept(number, text_span(text, at))]), None
+        faults = Faults(text, (Fault(found, at),))
+        return Told([of_accept(number, text_span(text, at))], 0, faults), None
     names = Chart(held, queues).names
     lacking = next((name for name in options.only if name not in names), None)
     if lacking is not None:
         sentence = f'no instance is named "{all_shown(file_shown(lacking))}"'
         return Told([error("ready 1", sentence, file=page.file)]), None
     found = options.again and fault_of_rounds(held, queues)
-    return Told([of_fixed_line(found, page.file)] if found else []), queues
-
-
-class Shows:
-    """Counts the findings that are printed, and those that get a run."""
-
-    def __init__(self, most, show):
-        self.most, self.show, self.told = most, show, 0
-
-    def take(self):
-        """Whether one more finding is printed."""
-        is_told = self.told < self.most
-        self.told += is_told
-        return is_told
-
-    def take_run(self):
-        """Whether one more finding gets a run."""
-        self.show -= 1
-        return self.show >= 0
-
-
-def race_blocks(speech, drawn, races, shows, is_next=False):
-    """The blocks of the races that are printed."""
-    for e, f in races:
-        if shows.take():
-            run = None
-            if shows.take_run():
-                run = run_note(speech, shown_run(drawn, e, f, True), is_next)
-            yield race_block(Pair(speech, drawn, e, f, is_next), run=run)
+    if found:
+        return Told([of_fixed_line(found, page.file)], 0, Faults(text, (Fault(found),))), None
+    return Told([]), queues
 
 
 def races_said(count, between):
@@ -121,38 +98,83 @@ def races_said(count, between):
     return f"{told} in a round, {between or 'none'} between rounds"
 
 
+class Checked:
+    """What `check` finds of a chart: the races that count and the stale marks, and with `--again`
+    the races between two rounds."""
+
+    def __init__(self, text, page, queues, options):
+        held = text.decode("latin-1")
+        self.text, self.options, self.drawn = text, options, Chart(held, queues)
+        self.speech = ChartSpeech(self.drawn, text, page)
+        self.never = never_block(self.speech, self.drawn)
+        self.marks = marks_for(held, queues) if options.accept else {}
+        self.races, self.named, self.left, self.closest, self.stale = chosen(
+            self.drawn, vars(options), self.marks)
+        self.comments = comments(held)
+        self.two = Several(held, queues, 2) if options.again else None
+        self.between = self.two.between(options.allow) if options.again else []
+        self.status = int(bool(self.left or self.stale or self.between))
+
+    def has_mark(self):
+        """The text has a mark, and marks count."""
+        said = [comment[1] for comment in self.comments if comment]
+        return self.options.accept and any(it.startswith("race ok") for it in said)
+
+    def pair(self, e, f, is_next):
+        """A race, whose events are of two rounds if `is_next`."""
+        if is_next:
+            return Pair(RoundSpeech(self.speech, self.two), self.two, e, f, True)
+        return Pair(self.speech, self.drawn, e, f)
+
+    def event_of(self, x, is_next):
+        """The event of the chart that is meant by an event of a race."""
+        return self.two.place[x][0] if is_next else x
+
+    def race_finding(self, e, f, is_next, has_run):
+        """The finding of a race."""
+        pair, steps = self.pair(e, f, is_next), ()
+        if has_run:
+            steps = run_steps(pair.speech, shown_run(pair.drawn, e, f, True), is_next)
+        first, second = (self.event_of(x, is_next) for x in (e, f))
+        name = f"{named(self.drawn, first)}; {self.drawn.events[second].text}"
+        return race_finding(pair, "again " * is_next + name, steps=steps)
+
+    def stale_finding(self, e):
+        block = stale_block(text_span(self.text, self.comments[e][0]))
+        return Finding(block, f"stale {named(self.drawn, e)}")
+
+    def findings(self, most, show):
+        """The findings, with so many races, and with a run for so many of these."""
+        pairs = [*((e, f, False) for e, f in self.closest),
+                 *((e, f, True) for e, f in self.between)]
+        races = [self.race_finding(*pair, number < show)
+                 for number, pair in enumerate(pairs[:most])]
+        of_round = min(most, len(self.closest))
+        never = [Finding(self.never, "never")] if self.never else []
+        stale = map(self.stale_finding, self.stale)
+        return [*never, *races[:of_round], *stale, *races[of_round:]]
+
+    def verdict(self, most):
+        """What the closing line says, if so many races are printed."""
+        count = len(self.closest) + len(self.between)
+        between = len(self.between) if self.two else None
+        parts = closing.parts(
+            len(self.left) - len(self.closest), len(self.races) - len(self.named),
+            len(self.named) - len(self.left), len(self.stale), most if most < count else None)
+        said = ", ".join([races_said(len(self.closest), between), *parts])
+        said += "; it can never happen as it is drawn" if self.never else ""
+        return closing.verdict_on(said, self.drawn.queues, self.drawn.names)
+
+
 def check(text, page, queues, options):
     """What `check` prints of a chart."""
-    held = text.decode("latin-1")
-    drawn = Chart(held, queues)
-    speech, shows = ChartSpeech(drawn, text, page), Shows(options.most, options.show)
-    marks = marks_for(held, queues) if options.accept else {}
-    races, named, left, closest, stale = chosen(drawn, vars(options), marks)
-    never = never_block(speech, drawn)
-    blocks = [never] if never else []
-    blocks += race_blocks(speech, drawn, closest, shows)
-    said = comments(held)
-    blocks += [stale_block(text_span(text, said[e][0])) for e in stale]
-    between = None
-    if options.again:
-        two = Several(held, queues, 2)
-        pairs = [race for race in two.closest() if two.crosses(*race)]
-        pairs = [race for race in pairs if kind(two, *race) not in options.allow]
-        between = len(pairs)
-        blocks += race_blocks(RoundSpeech(speech, two), two, pairs, shows, True)
-    count = len(closest) + (between or 0)
-    parts = closing.parts(len(left) - len(closest), len(races) - len(named), len(named) - len(left),
-                          len(stale), shows.told if shows.told < count else None)
-    verdict = ", ".join([races_said(len(closest), between), *parts])
-    verdict += "; it can never happen as it is drawn" if never else ""
+    found = Checked(text, page, queues, options)
+    blocks = [it.block for it in found.findings(options.most, options.show)]
     lines = printed(page, blocks, options.colours)
-    verdict = closing.verdict_on(verdict, queues, drawn.names)
-    lines.append(closing.closing(page.file, verdict, options.colours))
-    has_mark = options.accept and any(it and it[1].startswith("race ok") for it in said)
-    if closest and not has_mark:
+    lines.append(closing.closing(page.file, found.verdict(options.most), options.colours))
+    if found.closest and not found.has_mark():
         lines.append(closing.help_line(closing.OF_CHARTS, options.colours))
-    status = int(bool(left or stale or between))
-    return Printed([] if options.quiet else lines, status)
+    return Printed([] if options.quiet else lines, found.status)
 
 
 def answer(text, options):

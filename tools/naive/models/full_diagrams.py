@@ -9,7 +9,7 @@ from models.diagnostic import page_of, printed
 from models.import_refusals import refusal_of
 from models.short_runs import short_witness
 from models.spoken import cut, quoted, spoken, spoken_name, text_shown
-from models.wording import Pair, race_block, run_note, stale_block
+from models.wording import Finding, Pair, does, race_finding, run_steps, stale_block
 
 # the choices of a scenario that are told
 CHOICES = 8
@@ -159,6 +159,49 @@ def label_of_file(source, text):
     return f"{file}:{text.line}" if text is not None and text.number is not None else file
 
 
+def race_finding_of(verdict, page, at, race, has_run):
+    """The finding of a race of this scenario."""
+    scenario, steps = verdict.every[at], ()
+    speech = DiagramSpeech(verdict.diagram, scenario, page)
+    if has_run:
+        steps = run_steps(speech, short_witness(scenario.drawn, *race)[0])
+    pair = Pair(speech, scenario.drawn, *race, speech.is_next(*race))
+    first, second = (does(speech, e) for e in race)
+    name = f"{speech.name(pair.line)} {first}; {second}"
+    return race_finding(pair, name, where(verdict, at, race), steps)
+
+
+def stale_finding(diagram, mark):
+    """The finding of a stale mark. One without an arrow below it has the number that this arrow
+    would have."""
+    number = mark.arrow.number if mark.arrow else diagram.arrows + 1
+    return Finding(stale_block((mark.at, mark.past), mark.arrow), f"stale {number}")
+
+
+def findings_of(verdict, page, most, show):
+    """The findings of a diagram, with so many races, and with a run for so many of these."""
+    races = verdict.first_races(True)[:most]
+    found = [race_finding_of(verdict, page, at, race, number < show)
+             for number, (at, race) in enumerate(races)]
+    return [*found, *(stale_finding(verdict.diagram, mark) for mark in verdict.stale)]
+
+
+def verdict_said(verdict, most):
+    """What the closing line says of a diagram, if so many races are printed."""
+    several, count = len(verdict.every), len(verdict.first_races(True))
+    said = closing.counted(count, "race", "races")
+    if several > 1:
+        said = closing.counted(count, "distinct race", "distinct races")
+        said = said if count else f"no races in {several} scenarios"
+    wider = len(verdict.counting(False)) - count
+    parts = closing.parts(wider, len(verdict.allowed()), len(verdict.accepted()),
+                          len(verdict.stale), most if most < count else None)
+    said = ", ".join([said, *parts])
+    if several > 1 and count:
+        said += closing.free_part(verdict.free(), several)
+    return closing.verdict_on(said, verdict.queues, idents_of(verdict.diagram))
+
+
 class FullOutput:
     """What is printed of the diagrams of a file."""
 
@@ -182,56 +225,18 @@ class FullOutput:
 
     def judged(self, verdict, name, text, is_all):
         """Prints a diagram that is checked, one of several if all of a text are."""
-        page, every = page_of(text.source), verdict.every
-        verdict.where_counted = counts(verdict)
-        listed = verdict.first_races(True)
-        told = listed[:self.most]
-        blocks = [self.block(verdict, page, at, race) for at, race in told]
-        blocks += [stale_block((mark.at, mark.past), mark.arrow) for mark in verdict.stale]
-        self.most -= len(told)
-        self.lines += printed(page, blocks, self.colours)
-        said = self.verdict(verdict, len(listed), len(told))
-        said = closing.verdict_on(said, verdict.queues, idents_of(verdict.diagram))
+        page = page_of(text.source)
+        found = findings_of(verdict, page, self.most, self.show)
+        said = verdict_said(verdict, self.most)
+        count = min(self.most, len(verdict.first_races(True)))
+        self.most, self.show = self.most - count, max(self.show - count, 0)
+        self.lines += printed(page, [it.block for it in found], self.colours)
         self.close(label_of_file(text.source, text), said, is_all)
-        self.has_races |= bool(listed)
+        self.has_races |= bool(verdict.first_races(True))
         self.has_mark |= bool(verdict.marks)
-        self.status = max(self.status, int(bool(listed or verdict.stale)))
-
-    def block(self, verdict, page, at, race):
-        """The block of a race."""
-        scenario, run = verdict.every[at], None
-        speech = DiagramSpeech(verdict.diagram, scenario, page)
-        if self.show > 0:
-            self.show -= 1
-            run = run_note(speech, short_witness(scenario.drawn, *race)[0])
-        pair = Pair(speech, scenario.drawn, *race, speech.is_next(*race))
-        return race_block(pair, where(verdict, at, race), run)
-
-    def verdict(self, verdict, count, told):
-        """The verdict of the closing line, without the queues."""
-        several = len(verdict.every)
-        said = closing.counted(count, "race", "races")
-        if several > 1:
-            said = closing.counted(count, "distinct race", "distinct races")
-            said = said if count else f"no races in {several} scenarios"
-        wider = len(verdict.counting(False)) - count
-        parts = closing.parts(wider, len(verdict.allowed()), len(verdict.accepted()),
-                              len(verdict.stale), told if told < count else None)
-        said = ", ".join([said, *parts])
-        if several > 1 and count:
-            said += closing.free_part(verdict.free(), several)
-        return said
+        self.status = max(self.status, verdict.status())
 
     def end(self):
         """What follows the last diagram."""
         if self.has_races and not self.has_mark:
             self.lines.append(closing.help_line(closing.OF_DIAGRAMS, self.colours))
-
-
-def counts(verdict):
-    """For each place in how many scenarios a race counts there."""
-    found = {}
-    for scenario in verdict.every:
-        for place in {scenario.ends(race) for race in scenario.left(verdict.allow, False)}:
-            found[place] = found.get(place, 0) + 1
-    return found

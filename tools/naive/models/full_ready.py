@@ -5,7 +5,8 @@ from models.chart import Chart
 from models.diagnostic import Note, printed
 from models.ready import Ready
 from models.rounds import Several
-from models.wording import ChartSpeech, LeftPair, Pair, RoundSpeech, left_block, run_note, stick_block
+from models.wording import ChartSpeech, LeftPair, Pair, RoundSpeech, left_block, run_note, run_steps
+from models.wording import stick_block
 
 
 class Runs:
@@ -62,7 +63,7 @@ def stick_blocks(speech, system, sticks, runs, has_rounds=False):
             name, line = speech.name(speech.owner(first)), speech.line(first)
             more = Note("note", f"{name} blocks at line {line} before that")
         elif runs.take():
-            more = run_note(speech, system.stick_run(f), has_rounds)
+            more = run_note(run_steps(speech, system.stick_run(f), has_rounds))
         yield stick_block(Pair(speech, system.drawn, e, f, has_rounds), more)
 
 

@@ -63,14 +63,20 @@ def written(usual, others):
     return "; ".join(parts)
 
 
+def names_of(link):
+    """The names of a LINK, or none if it is no LINK."""
+    names = [name.strip(BLANKS) for name in link.split(b">")]
+    return names if len(names) <= 2 and all(names) else []
+
+
 def kinds_of(rules, find, shown=row_shown):
     """The kinds that these rules give. `find` gives the number of an instance by its name, or None,
     and `shown` what is printed of bytes."""
     kinds = {}
     for kind, link in rules:
         link = link.strip(BLANKS)
-        names = [name.strip(BLANKS) for name in link.split(b">")]
-        if len(names) > 2 or not all(names):
+        names = names_of(link)
+        if not names:
             raise LinkFault(1, f"{shown(link)} is no link")
         ends = [find(name) for name in names]
         if None in ends:
@@ -82,9 +88,10 @@ def kinds_of(rules, find, shown=row_shown):
 
 class Given(NamedTuple):
     """What a command line says of queues: the value of `--queues`, and rules, each a kind and a
-    LINK."""
+    LINK. A command for many files passes over the rules that name an instance that a text lacks."""
     queues: str
     rules: list = []
+    passes_over: bool = False
 
     def words(self):
         """The words of the command line."""
@@ -97,6 +104,8 @@ class Given(NamedTuple):
         """The kinds that the rules give; those for `pair` come first, whatever their order."""
         ordered = sorted(self.rules, key=lambda rule: KINDS.index(rule[0]))
         rules = [(kind, link.encode()) for kind, link in ordered]
+        if self.passes_over:
+            rules = [(kind, link) for kind, link in rules if None not in map(find, names_of(link))]
         return kinds_of(rules, find, lambda held: file_shown(held.decode()))
 
 
@@ -113,13 +122,15 @@ def parted(words):
     return Given(queues, rules), others
 
 
-def add_queues(words, name, **more):
-    """Puts the options on queues, of which `name` is the one of the usual kind."""
-    words.add_argument(name, choices=(*KINDS, "own"), **more)
+def add_queues(words, name, others=("own",), **more):
+    """Puts the options on queues, of which `name` is the one of the usual kind. It takes the kinds
+    and these others."""
+    words.add_argument(name, choices=(*KINDS, *others), **more)
     for kind in KINDS:
         words.add_argument(f"--{kind}", action="append", default=[], metavar="LINK")
 
 
 def given_of(options):
     """What these options say of queues."""
-    return Given(options.queues, [(kind, it) for kind in KINDS for it in vars(options)[kind]])
+    rules = [(kind, it) for kind in KINDS for it in vars(options)[kind]]
+    return Given(options.queues, rules, vars(options).get("passes_over", False))

@@ -181,6 +181,12 @@ def blocks_of(source):
     return blocks
 
 
+def names_sequence(row):
+    """The first word of a line begins like the word for sequence diagrams, in any case."""
+    at = after_space(row.held, 0)
+    return row.held[at:at + 8].lower() == b"sequence"
+
+
 def is_sequence(source, block):
     """The block is a sequence diagram, if perhaps a wrong one."""
     if block.stray is not None:
@@ -189,10 +195,7 @@ def is_sequence(source, block):
         first = next(counting(source, block.rows), None)
     except Refused:
         return any(HEAD in row.held for row in block.rows)
-    if first is None:
-        return False
-    at = after_space(first.held, 0)
-    return first.held[at:at + 8].lower() == b"sequence"
+    return first is not None and names_sequence(first)
 
 
 def stray_fault(at):

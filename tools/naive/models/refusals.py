@@ -6,7 +6,8 @@ from typing import NamedTuple
 
 from models.diagnostic import Block, Mark, Note
 from models.mermaid import has_diagram
-from models.notes import MOST, TOGETHER, Placed, bytes_hint, grammar_notes, numbered, place_before
+from models.notes import MOST, TOGETHER, Faults, Placed, bytes_hint, grammar_notes, numbered
+from models.notes import place_before
 from models.reading import PIECE, PLACES, Draft, Refused, chart_faults, tokens
 from models.spoken import all_shown, cut, quoted, text_shown
 from models.wording import ring_marks, ring_notes, statements_of
@@ -26,9 +27,11 @@ IN_WORDS = ("a ", "an ", "the ")
 
 
 class Told(NamedTuple):
-    """The blocks of a refusal, and the number of further faults that have none."""
+    """The blocks of a refusal, the number of further faults that have none, and the faults of the
+    blocks, if they are asked for."""
     blocks: list
     further: int = 0
+    faults: Faults = None
 
 
 def error(stage, sentence, marks=(), notes=(), file=""):

@@ -93,6 +93,11 @@ class Several(Chart):
     def closest(self):
         return closest_of(self, self.races())
 
+    def between(self, allow):
+        """The closest races of the first round and the second, but those of the kinds `allow`."""
+        pairs = [race for race in self.closest() if self.crosses(*race)]
+        return [race for race in pairs if kind(self, *race) not in allow]
+
 
 def said(two, x):
     """An event as it is told in words: behind the name of its instance, without its round."""
@@ -152,8 +157,7 @@ def check_answer(text, queues, options=PLAIN, marks=(), file="-"):
     """The lines of `msc check --again` of a file of this name, and the exit status."""
     two, places = Several(text, queues, 2), places_of(text.encode("latin-1"), file)
     lines, status = study(two.one, places, options, marks)
-    pairs = [race for race in two.closest() if two.crosses(*race)]
-    pairs = [race for race in pairs if kind(two, *race) not in options["allow"]]
+    pairs = two.between(options["allow"])
     _, _, left, closest, _ = chosen(two.one, options, marks)
     listed = len(closest if options["closest"] else left)
     status = int(status or bool(pairs))

@@ -14,6 +14,7 @@ those of courses.py, their races and what is told of them those of chart.py and 
 those of diagram_marks.py. It shares nothing with the crates. The exit status is 0, 1 if a race or a
 stale mark is listed, or 2 if a diagram is refused.
 """
+import functools
 import pathlib
 import sys
 
@@ -111,6 +112,19 @@ class Verdict:
         """The places that neither count nor are allowed."""
         return self.places - self.counting(False) - self.allowed()
 
+    @functools.cached_property
+    def where_counted(self):
+        """For each place in how many scenarios a race counts there."""
+        found = {}
+        for scenario in self.every:
+            for place in {scenario.ends(race) for race in scenario.left(self.allow, False)}:
+                found[place] = found.get(place, 0) + 1
+        return found
+
+    def status(self):
+        """The exit status of a check of the diagram."""
+        return int(bool(self.listed or self.stale))
+
     def free(self):
         """How many scenarios have no race that counts."""
         return sum(not it.left(self.allow, False) for it in self.every)
@@ -148,14 +162,19 @@ class Verdict:
         return f"races {len(self.places)} closest {closest}" if self.places else "pass"
 
 
+def runs_of(options):
+    """How many races have a run in other forms than `full`."""
+    if options.show is not None:
+        return options.show
+    return ALL if options.words or options.short else 0
+
+
 class Output:
     """What is printed of the diagrams of a file, in other forms than `full`."""
 
     def __init__(self, options):
         self.options, self.lines, self.error, self.status = options, [], b"", 0
-        self.most, self.show = options.most, options.show
-        if self.show is None:
-            self.show = ALL if options.words or options.short else 0
+        self.most, self.show = options.most, runs_of(options)
 
     def refused(self, source, fault, name=None, text=None):
         """Tells of a diagram that is refused; it has a name if others may follow."""
@@ -178,7 +197,7 @@ class Output:
             self.lines.append(f"{verdict.count()} {file}")
         else:
             self.lines += self.whole(verdict, name)
-        self.status = max(self.status, int(bool(verdict.listed or verdict.stale)))
+        self.status = max(self.status, verdict.status())
 
     def end(self):
         """Nothing follows the last diagram."""

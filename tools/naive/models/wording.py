@@ -222,13 +222,28 @@ def kinds_of_links(drawn, e, f):
     return [drawn.queues.kind(it.sender, it.receiver) for it in ends]
 
 
-def run_note(speech, run, has_rounds=False):
-    """A run, event by event."""
-    gap, rows = len(str(len(run))), []
-    for number, x in enumerate(run, 1):
+class Step(NamedTuple):
+    """An event of a run in words: its statement, the line of that, and what happens."""
+    span: tuple
+    line: int
+    text: str
+
+
+def run_steps(speech, run, has_rounds=False):
+    """The events of a run in words."""
+    steps = []
+    for x in run:
         of_round = f"round {speech.round(x)}: " if has_rounds else ""
-        rows.append(f"{number:>{gap}}. {of_round}{speech.name(speech.owner(x))} "
-                    f"{does(speech, x)}{in_line(speech, x)}")
+        text = f"{of_round}{speech.name(speech.owner(x))} {does(speech, x)}"
+        steps.append(Step(speech.span(x), speech.line(x), text))
+    return tuple(steps)
+
+
+def run_note(steps):
+    """The note that shows a run, step by step."""
+    gap = len(str(len(steps)))
+    rows = (f"{number:>{gap}}. {step.text} (line {step.line})"
+            for number, step in enumerate(steps, 1))
     return Note("note", "a run that shows it:", tuple(rows))
 
 
@@ -239,6 +254,19 @@ def race_block(pair, where=None, run=None):
              pair.help("the order holds", marks), run]
     ident = kind(pair.drawn, pair.e, pair.f)
     return Block(level, ident, pair.sentence(), marks, tuple(filter(None, notes)))
+
+
+class Finding(NamedTuple):
+    """A finding: its block, a name that stays when its lines move, and the steps of the run that
+    the block shows, if it shows one."""
+    block: Block
+    name: str = ""
+    steps: tuple = ()
+
+
+def race_finding(pair, name, where=None, steps=()):
+    """The finding of a race. The note `where` is on scenarios."""
+    return Finding(race_block(pair, where, run_note(steps) if steps else None), name, steps)
 
 
 class LeftPair(Pair):
