@@ -1,5 +1,5 @@
 #!/usr/bin/env python3
-"""Prints what a model says of a text.
+"""Prints what a model says of a text, or of files.
 
     tools/naive/print.py MODEL [WORD ..] < TEXT
 
@@ -7,9 +7,11 @@ MODEL is a module of tools/naive/models that has a command line; its docstring d
 Expected outputs can be taken from it. For instance
 
     tools/naive/print.py chart pair < charts/relay.msc
+    tools/naive/print.py scan --format text charts
 
-prints what `msc check --queues pair` prints. RULE is `--pair LINK`, `--mailbox LINK` or `--single
-LINK` there; the line of its fault goes to standard error. The exit status is that of `msc`.
+print what `msc check --queues pair` prints of a chart, and `msc scan --format text` of all files in
+charts. RULE is `--pair LINK`, `--mailbox LINK` or `--single LINK`; the line of its fault goes to
+standard error. The exit status is that of `msc`.
 """
 import importlib
 import pathlib
