@@ -35,10 +35,9 @@ def has_scan(program):
 def contents(folder):
     """The files of a folder, as they are shown of a failure."""
     for path in sorted(folder.rglob("*")):
-        if path.is_file():
-            yield f"{path.relative_to(folder)}: {shown(path.read_bytes())}"
-        else:
-            yield f"{path.relative_to(folder)}"
+        is_read = path.is_file() and os.access(path, os.R_OK)
+        text = shown(path.read_bytes()) if is_read else ""
+        yield f"{path.relative_to(folder)}: {text}"
 
 
 def compare_scan(trial, folder, words, stdin=b"", jobs=((),)):

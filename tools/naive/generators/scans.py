@@ -109,7 +109,7 @@ def page_text(pick):
 
 def text_for(pick, name):
     """A text for a file of this name; a few are of another sort."""
-    if pick.random() < 0.08:
+    if pick.random() < 0.05:
         return pick.choice(WORDS).encode()
     sorts = {".msc": chart_text, ".mmd": diagram_text, ".mermaid": diagram_text}
     own = sorts.get(pathlib.Path(name).suffix, page_text)
@@ -147,8 +147,8 @@ class Tree(NamedTuple):
 
 def linked(pick, folder, files, folders):
     """Makes links to files and folders, and now and then to nothing and in a ring."""
-    for name in pick.sample(["l.msc", "l.mmd", "l.md", "r.msc"], pick.choice([0, 0, 1, 2])):
-        some = [*files, *folders] if pick.random() < 0.8 else ["nobody", name]
+    for name in pick.sample(["l.msc", "l.mmd", "l.md", "r.msc"], pick.choice([0, 0, 0, 1, 2])):
+        some = [*files, *folders] if pick.random() < 0.9 else ["nobody", name]
         target = pick.choice(some)
         where = pathlib.Path(pick.choice(["", *folders]), name)
         if not os.path.lexists(folder / where):
@@ -172,7 +172,7 @@ def make_tree(pick, folder, most=7):
             (folder / own).write_bytes(text_for(pick, name))
             files.append(str(own))
     linked(pick, folder, files, folders)
-    is_odd = pick.random() < 0.05
+    is_odd = pick.random() < 0.04
     if is_odd:
         where = os.fsencode(folder / pick.choice(["", *folders]))
         pathlib.Path(os.fsdecode(os.path.join(where, NO_NAME))).write_bytes(b"")
