@@ -6,7 +6,6 @@ prints what `msc check --format json` prints. WORD is an option of `msc check`, 
 `msc`. verdicts.py has what is found, and wording.py sentences and notes.
 """
 import re
-import sys
 
 from harness import Answer, put
 from models.diagrams import instance_number
