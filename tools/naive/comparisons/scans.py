@@ -17,6 +17,8 @@ from harness import difference, run, shown
 from models import scan
 
 NEEDS_PROGRAM = True
+# the program does not have the command yet
+WAITS = True
 OPTIONS = {"number": 40}
 # the forms that are compared; the program does not have JSON and SARIF yet
 WITH_RECORDS = False
@@ -25,11 +27,6 @@ SCANS, MANY = 4, 150
 # the options with which the examples are scanned
 EXAMPLES = ("", "--queues all", "--queues single --queues own", "--no-accept --queues pair",
             "--only-races --closest", "-q", "--single b --single nobody --again --short")
-
-
-def has_scan(program):
-    """The program has the command."""
-    return b"\n  scan " in run([program, "--help"]).output
 
 
 def contents(folder):
@@ -116,10 +113,6 @@ def compare_workers(trial):
 
 
 def compare(trial):
-    if not has_scan(trial.program):
-        trial.add(True)
-        trial.noted["programs without scan"] += 1
-        return
     trial.version = run([trial.program, "--version"]).output.decode().split()[1]
     compare_examples(trial)
     compare_levels(trial)
