@@ -101,11 +101,17 @@ def with_file(words, file):
     return [file if word == "FILE" else word for word in words]
 
 
-def renamed(text, name, is_count):
+def place_of(words):
+    """Where an answer to these words has `-`, the name of standard input."""
+    if "count" in words:
+        return re.compile(r"(?<= )-(?=$|#\d+$)")
+    if words[:2] == ["report", "--from"]:
+        return re.compile(r"(?<=[ >])-(?=:)")
+    return re.compile(r"(?<![^ ])-(?=:\d+:\d+)")
+
+
+def renamed(text, name, place):
     """What is printed of standard input, as it is of a file."""
-    place = re.compile(r"(?<![^ ])-(?=:\d+:\d+)")
-    if is_count:
-        place = re.compile(r"(?<= )-(?=$|#\d+$)")
     lines = text.decode("latin-1").split("\n")
     # the line of the text that is shown has two blanks before it, and is left as it is
     is_text = [line.startswith("  ") and not line.startswith("  at ") for line in lines]
@@ -128,7 +134,8 @@ def named_files(count, program, folder):
                 for name in NAMES if len(text) < 1000 else NAMES[:1]:
                     (folder / name).write_bytes(text)
                     got = run([program, *with_file(words, name)], cwd=folder)
-                    parts = (renamed(part, shown(name), "count" in words) for part in plain[:2])
+                    place = place_of(words)
+                    parts = (renamed(part, shown(name), place) for part in plain[:2])
                     wanted = Answer(*parts, plain.status)
                     count.compare(got, wanted, kind, *words, repr(name))
                     count.add(is_clean(got), "bytes that are not shown", kind, *words, repr(name))
