@@ -6,7 +6,7 @@ use Rattle.msc_record.specs.declared.event.EventNumber.{EventNumber}
 use Rattle.msc_record.specs.declared.event.Position.{Position}
 use Rattle.msc_record.specs.declared.event.Statement.{Statement}
 use Rattle.msc_record.specs.declared.fault.FaultPosition.{FaultPosition}
-use Rattle.msc_record.specs.Plain.{ChartFindings, Checked, Entry, Event, EventKind, Fault, FaultNote, Findings, Head, Link, ListedEntry, ListedScenario, Message, Opening, Refusal}
+use Rattle.msc_record.specs.Plain.{CheckedChart, Checked, Entry, Event, EventKind, Fault, FaultNote, CheckRecord, Head, Link, ListedEntry, ListedScenario, Message, Opening, Refusal}
 use Rattle.msc_record.specs.Plain.Checked.{Chart, Diagram}
 use Rattle.msc_record.specs.Plain.EventKind.{Output, Input, Action}
 use Rattle.msc_record.specs.Members.{Member, array_of, items_of, member_if, member_if_any, members_of, natural, or_null, text}
@@ -14,27 +14,27 @@ use Rattle.msc_record.specs.Events.{event_json, event_members, kind_members, mes
 use Rattle.msc_record.specs.Entries.{again_members, entry_members, listed_json, pair_members, run_json, scenario_members, spoken_members}
 use Rattle.msc_record.specs.Heads.{counts_members, events_json, follows_members, head_members, link_json, link_members, name_members, opening_members, own_members, positions_json, queues_members, scenarios_members}
 use Rattle.msc_record.specs.Faults.{fault_json, fault_members, faults_json, note_json, notes_json as fault_notes_json, place_if, place_members, refusal_members}
-use Rattle.msc_record.specs.Records.{findings_json, refusal_json}
+use Rattle.msc_record.specs.Records.{check_json, refusal_json}
 
 -- the values of members nest at most so deep
-abbrev Within : ℕ → List Member → Type 0
+abbrev pub Within : ℕ → List Member → Type 0
 Within n ms = members_depth (members_of ms) ≤ n
 
-within_append : (n : ℕ) (xs ys : List Member) → Within n xs → Within n ys → Within n (xs ++ ys)
+pub within_append : (n : ℕ) (xs ys : List Member) → Within n xs → Within n ys → Within n (xs ++ ys)
 within_append n [] ys first second = second
 within_append n (x ∷ xs) ys first second =
     let rest : Within n (xs ++ ys) = within_append n xs ys (omega arith) second in
     omega arith
 
-items_within : {A : Type 0} (json : A → Json) (n : ℕ) → ((x : A) → depth (json x) ≤ n) → (xs : List A) → items_depth (items_of (map json xs)) ≤ n
+pub items_within : {A : Type 0} (json : A → Json) (n : ℕ) → ((x : A) → depth (json x) ≤ n) → (xs : List A) → items_depth (items_of (map json xs)) ≤ n
 items_within json n each [] = omega arith
 items_within json n each (x ∷ xs) = omega (arith, each x, items_within json n each xs)
 
-member_if_within : {A : Type 0} (json : A → Json) (n : ℕ) (name : List ℕ) → ((x : A) → depth (json x) ≤ n) → (o : Option A) → Within n (member_if json name o)
+pub member_if_within : {A : Type 0} (json : A → Json) (n : ℕ) (name : List ℕ) → ((x : A) → depth (json x) ≤ n) → (o : Option A) → Within n (member_if json name o)
 member_if_within json n name each None = omega arith
 member_if_within json n name each (Some x) = omega (arith, each x)
 
-member_if_any_within : {A : Type 0} (json : A → Json) (n : ℕ) (name : List ℕ) → ((x : A) → depth (json x) ≤ n) → (xs : List A) → Within (n + 1) (member_if_any json name xs)
+pub member_if_any_within : {A : Type 0} (json : A → Json) (n : ℕ) (name : List ℕ) → ((x : A) → depth (json x) ≤ n) → (xs : List A) → Within (n + 1) (member_if_any json name xs)
 member_if_any_within json n name each [] = omega arith
 member_if_any_within json n name each (x ∷ xs) = omega (arith, each x, items_within json n each xs)
 
@@ -46,7 +46,7 @@ or_null_within json n each (Some x) = each x
 flat_text : (t : List ℕ) → depth (text t) ≤ 0
 flat_text t = omega arith
 
-flat_natural : (n : ℕ) → depth (natural n) ≤ 0
+pub flat_natural : (n : ℕ) → depth (natural n) ≤ 0
 flat_natural n = omega arith
 
 -- ---- events
@@ -159,7 +159,7 @@ events_depth events = omega (arith, items_within event_json 1 event_depth events
 positions_depth : (positions : List Position) → depth (positions_json positions) ≤ 2
 positions_depth positions = omega (arith, items_within position_json 1 (λ p. omega (arith, position_within p)) positions)
 
-chart_within : (c : ChartFindings) → Within 2 (own_members (Chart c))
+chart_within : (c : CheckedChart) → Within 2 (own_members (Chart c))
 chart_within c =
     let again : Within 2 (member_if natural (codes "again") c.again) = omega (arith, member_if_within natural 0 (codes "again") flat_natural c.again) in
     let stale = member_if_within events_json 2 (codes "stale") events_depth c.stale in
@@ -181,8 +181,8 @@ head_within h =
     (within_append 2 (scenarios_members h.checked) _ (scenarios_within h.checked)
     (within_append 2 (counts_members h.counts) (own_members h.checked) counts (own_within h.checked)))))
 
-pub findings_depth : (f : Findings) → depth (findings_json f) ≤ 5
-findings_depth f =
+pub check_depth : (f : CheckRecord) → depth (check_json f) ≤ 5
+check_depth f =
     let list : Within 4 ((codes "list", array_of (map listed_json f.list)) ∷ []) = omega (arith, items_within listed_json 3 listed_depth f.list) in
     let head : Within 4 (head_members f.head) = omega (arith, head_within f.head) in
     omega (arith, within_append 4 (head_members f.head) ((codes "list", array_of (map listed_json f.list)) ∷ []) head list)

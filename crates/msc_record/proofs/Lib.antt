@@ -4,3 +4,9 @@ pub mod WritingLemmas
 pub mod NumberLemmas
 pub mod DepthLemmas
 pub mod PrintLemmas
+pub mod UriLemmas
+pub mod MarkLemmas
+pub mod RecordLemmas
+pub mod DocumentLemmas
+pub mod SarifNumberLemmas
+pub mod SarifDepthLemmas

@@ -12,11 +12,11 @@ use Rattle.json.specs.Written.{Written}
 use Rattle.json.proofs.Numbered.{ArePrintableOrBad-tokens}
 use Rattle.msc_record.specs.declared.event.EventNumber.{EventNumber}
 use Rattle.msc_record.specs.Members.{Member, array_of, items_of, member_if, members_of, tokens_of}
-use Rattle.msc_record.specs.Plain.{Findings, ListedEntry}
+use Rattle.msc_record.specs.Plain.{CheckRecord, ListedEntry}
 use Rattle.msc_record.specs.Entries.{entry_members, listed_json, run_json}
 use Rattle.msc_record.specs.Heads.{head_members}
 use Rattle.msc_record.specs.Numbers.{HeadHasNumbers, ListedHasNumbers, HaveNumbers, RunHasNumbers}
-use Rattle.msc_record.specs.Records.{findings_json}
+use Rattle.msc_record.specs.Records.{check_json}
 use Rattle.msc_record.specs.Writing.{Adds}
 
 -- what is read can be printed
@@ -68,7 +68,7 @@ added_is_printable {E} {r} {old} {new} ts start added back =
     on_ok_weaker r (λ e. subst ArePrintableOrBad (e ∙ ap (λ l. l ++ ts) start) (printable new.tokens back)) added.ok
 
 -- members in two parts
-numbers_append : (xs ys : List Member) → HaveNumbers xs → HaveNumbers ys → HaveNumbers (xs ++ ys)
+pub numbers_append : (xs ys : List Member) → HaveNumbers xs → HaveNumbers ys → HaveNumbers (xs ++ ys)
 numbers_append [] ys first second = second
 numbers_append (x ∷ xs) ys first second = (first.0, numbers_append xs ys first.1 second)
 
@@ -84,5 +84,5 @@ list_numbers [] h = tt
 list_numbers (e ∷ es) h = (listed_numbers e h.0, list_numbers es h.1)
 
 -- the numbers of all parts of a record are those of the record
-pub findings_numbers : (f : Findings) → HeadHasNumbers f.head → AllByRecursion ListedHasNumbers f.list → HasNumbers (findings_json f)
-findings_numbers f head list = numbers_append (head_members f.head) ((codes "list", array_of (map listed_json f.list)) ∷ []) head (list_numbers f.list list, tt)
+pub check_numbers : (f : CheckRecord) → HeadHasNumbers f.head → AllByRecursion ListedHasNumbers f.list → HasNumbers (check_json f)
+check_numbers f head list = numbers_append (head_members f.head) ((codes "list", array_of (map listed_json f.list)) ∷ []) head (list_numbers f.list list, tt)

@@ -1,9 +1,9 @@
 -- Tokens that are written one after another.
-use Rattle.std.proofs.Common.{◌≡◌, List, [], ◌∷◌, ◌++◌, Result, Ok, Err, subst, sym, ap, ◌∙◌, append_assoc, append-nil}
+use Rattle.std.proofs.Common.{◌≡◌, ℕ, List, [], ◌∷◌, ◌++◌, Result, Ok, Err, subst, sym, ap, ◌∙◌, append_assoc, append-nil}
 use Rattle.std.specs.Prelude.{OnOk}
 use Rattle.std.proofs.lemmas.Result.{on_ok_weaker}
 use Rattle.json.specs.Token.{Token}
-use Rattle.json.specs.Written.{Written}
+use Rattle.json.specs.Written.{Writes, Written}
 use Rattle.std.proofs.lemmas.Grind.{flat_map-append}
 use Rattle.msc_record.specs.Members.{Member, member_tokens, tokens_of}
 use Rattle.msc_record.specs.Writing.{Adds}
@@ -44,3 +44,13 @@ adds_more xs ys first second = adds_same (sym (flat_map-append member_tokens xs 
 pub on_ok_always : {T E P : Type 0} (r : Result T E) → P → OnOk r P
 on_ok_always (Ok x) p = p
 on_ok_always (Err e) p = tt
+
+-- one token
+pub adds_token : {E : Type 0} {r : Result (Unit {0}) E} {old new : Written} {t : Token} → Writes r old new t → Adds r old new (t ∷ [])
+adds_token h = record { before = h.room.0; ok = h.ok }
+
+-- bytes after others
+pub puts_on : {E : Type 0} (r : Result (Unit {0}) E) (old mid new xs ys : List ℕ)
+    → mid ≡ old ++ xs → OnOk r (new ≡ mid ++ ys) → OnOk r (new ≡ old ++ (xs ++ ys))
+puts_on r old mid new xs ys first second =
+    on_ok_weaker r (λ e. e ∙ ap (λ l. l ++ ys) first ∙ append_assoc old xs ys) second

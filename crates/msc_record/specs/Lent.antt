@@ -10,14 +10,14 @@ use Rattle.msc_record.specs.declared.entry.ListedScenario.{ListedScenario as Len
 use Rattle.msc_record.specs.declared.fault.Fault.{Fault as LentFault}
 use Rattle.msc_record.specs.declared.fault.FaultNote.{FaultNote as LentNote}
 use Rattle.msc_record.specs.declared.fault.Refusal.{Refusal as LentRefusal}
-use Rattle.msc_record.specs.declared.head.ChartFindings.{ChartFindings as LentChart}
+use Rattle.msc_record.specs.declared.head.CheckedChart.{CheckedChart as LentChart}
 use Rattle.msc_record.specs.declared.head.Checked.{Checked as LentChecked}
 use Rattle.msc_record.specs.declared.head.Checked.TheVariants as checked
-use Rattle.msc_record.specs.declared.head.DiagramFindings.{DiagramFindings as LentDiagram}
+use Rattle.msc_record.specs.declared.head.CheckedDiagram.{CheckedDiagram as LentDiagram}
 use Rattle.msc_record.specs.declared.head.Head.{Head as LentHead}
 use Rattle.msc_record.specs.declared.head.Link.{Link as LentLink}
 use Rattle.msc_record.specs.declared.head.Opening.{Opening as LentOpening}
-use Rattle.msc_record.specs.Plain.{ChartFindings, Checked, DiagramFindings, Entry, Event, EventKind, Fault, FaultNote, Head, Link, ListedScenario, Message, Opening, Refusal}
+use Rattle.msc_record.specs.Plain.{CheckedChart, Checked, CheckedDiagram, Entry, Event, EventKind, Fault, FaultNote, Head, Link, ListedScenario, Message, Opening, Refusal}
 use Rattle.msc_record.specs.Plain.Checked.{Chart, Diagram}
 use Rattle.msc_record.specs.Plain.EventKind.{Output, Input, Action}
 
@@ -65,7 +65,7 @@ abbrev pub plain_link : LentLink → Link
 plain_link l =
     record { sender = option_copied l.sender; receiver = l.receiver.now; kind = l.kind.now }
 
-abbrev pub plain_chart : LentChart → ChartFindings
+abbrev pub plain_chart : LentChart → CheckedChart
 plain_chart c = record {
   name = c.name.now;
   ring = option_copied c.ring;
@@ -73,7 +73,7 @@ plain_chart c = record {
   stale = option_map (λ events. map plain_event events.now) c.stale;
 }
 
-abbrev pub plain_diagram : LentDiagram → DiagramFindings
+abbrev pub plain_diagram : LentDiagram → CheckedDiagram
 plain_diagram d = record {
   name = d.name.now;
   serves = map (λ name. name.now) d.serves.now;

@@ -69,7 +69,7 @@ pub record Link : Type 0 where
 -- of a chart: the events that wait for each other in a ring, if no run follows the drawing; the
 -- number of pairs of two rounds, if these are included; and the events whose marks accept no race,
 -- if marks count
-pub record ChartFindings : Type 0 where
+pub record CheckedChart : Type 0 where
   pub name : List ℕ
   pub ring : Option (List ℕ)
   pub again : Option ℕ
@@ -77,7 +77,7 @@ pub record ChartFindings : Type 0 where
 
 -- of a diagram: the instances that serve each request by itself, the number of scenarios, the
 -- number of those in which no race counts, and the marks that accept no race, if marks count
-pub record DiagramFindings : Type 0 where
+pub record CheckedDiagram : Type 0 where
   pub name : List ℕ
   pub serves : List (List ℕ)
   pub scenarios : ℕ
@@ -85,8 +85,8 @@ pub record DiagramFindings : Type 0 where
   pub stale : Option (List Position)
 
 pub data Checked : Type 0 where
-  Chart : ChartFindings → Checked
-  Diagram : DiagramFindings → Checked
+  Chart : CheckedChart → Checked
+  Diagram : CheckedDiagram → Checked
 
 -- all before the list
 pub record Head : Type 0 where
@@ -111,7 +111,7 @@ pub record Fault : Type 0 where
   pub notes : List FaultNote
 
 -- what a check of a chart or a diagram found
-pub record Findings : Type 0 where
+pub record CheckRecord : Type 0 where
   pub head : Head
   pub list : List ListedEntry
 

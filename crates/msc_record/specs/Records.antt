@@ -6,14 +6,14 @@ use Rattle.json.specs.Token.{Token, begin_array, begin_object, key}
 use Rattle.msc_record.specs.declared.event.EventNumber.{EventNumber}
 use Rattle.msc_record.specs.Members.{array_of, object_of, tokens_of}
 use Rattle.msc_record.specs.Values.{json_text}
-use Rattle.msc_record.specs.Plain.{Entry, Findings, Head, Refusal}
+use Rattle.msc_record.specs.Plain.{Entry, CheckRecord, Head, Refusal}
 use Rattle.msc_record.specs.Entries.{entry_members, listed_json, run_json}
 use Rattle.msc_record.specs.Faults.{refusal_members}
 use Rattle.msc_record.specs.Heads.{head_members}
 
 -- the record of what a check found, and that of a refusal
-abbrev pub findings_json : Findings → Json
-findings_json f =
+abbrev pub check_json : CheckRecord → Json
+check_json f =
     object_of (head_members f.head ++ (codes "list", array_of (map listed_json f.list)) ∷ [])
 
 abbrev pub refusal_json : Refusal → Json

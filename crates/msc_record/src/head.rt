@@ -124,7 +124,7 @@ impl Object for Counts {
 
 /// A chart, and its findings besides races.
 #[derive(Clone, Copy)]
-pub struct ChartFindings<'t> {
+pub struct CheckedChart<'t> {
     pub name: &'t [u8],
     /// If no run follows the drawing: events that wait for each other in a ring.
     pub ring: Option<&'t [u32]>,
@@ -160,7 +160,7 @@ fn write_stale(
 
 /// A diagram, and its findings besides races.
 #[derive(Clone, Copy)]
-pub struct DiagramFindings<'t> {
+pub struct CheckedDiagram<'t> {
     pub name: &'t [u8],
     /// The instances that serve each request by itself.
     pub serves: &'t [&'t [u8]],
@@ -183,8 +183,8 @@ fn write_serves(alloc: Global, writer: &mut Writer, serves: &[&[u8]]) -> Result<
 /// A chart or a diagram that was checked.
 #[derive(Clone, Copy)]
 pub enum Checked<'t> {
-    Chart(ChartFindings<'t>),
-    Diagram(DiagramFindings<'t>),
+    Chart(CheckedChart<'t>),
+    Diagram(CheckedDiagram<'t>),
 }
 
 impl Checked<'_> {

@@ -1,35 +1,23 @@
 //! Records, printed in parts: a head, entries, and an end; or a refusal.
 
-ghost use Rattle.std.specs.Prelude.{◌≡◌, ◌++◌, [], ◌∷◌, IfOk, OnOk, map};
+ghost use Rattle.std.specs.Prelude.{◌≡◌, ◌++◌, IfOk, OnOk};
 ghost use Rattle.std.specs.Option.{option_copied};
-ghost use Rattle.json.specs.Print.{print};
-ghost use Rattle.json.specs.Token.{begin_object};
 ghost use Rattle.msc_record.specs.Lent.{plain_entry, plain_head, plain_refusal};
-ghost use Rattle.msc_record.specs.Members.{object_of, tokens_of};
-ghost use Rattle.msc_record.specs.Numbers.{HeadHasNumbers, EntryHasNumbers, HaveNumbers};
-ghost use Rattle.msc_record.specs.Numbers.{RunHasNumbers};
-ghost use Rattle.msc_record.specs.Records.{comma, end_text, entry_text, head_text, head_tokens};
+ghost use Rattle.msc_record.specs.Numbers.{HeadHasNumbers, EntryHasNumbers, RunHasNumbers};
+ghost use Rattle.msc_record.specs.Records.{end_text, entry_text, head_text, head_tokens};
 ghost use Rattle.msc_record.specs.Records.{refusal_json, refusal_text, run_part};
 ghost use Rattle.msc_record.specs.Records.{run_text};
-ghost use Rattle.msc_record.specs.Values.{ReadsBack, json_text};
+ghost use Rattle.msc_record.specs.Values.{ReadsBack};
 ghost use Rattle.msc_record.specs.Writing.{Adds};
 
 use crate::entry::Entry;
 use crate::event::EventNumber;
 use crate::fault::Refusal;
 use crate::head::Head;
-use crate::value::{Object, write_array, write_object};
+use crate::part::{print_comma, print_object, print_open, writer_after};
+use crate::value::{Object, write_array};
 use json::Writer;
 use std::alloc::{AllocError, Global};
-use std::mem::replace;
-
-/// A writer that writes after what a page has, and leaves the page empty.
-fn writer_after(alloc: Global, page: &mut Vec<u8>) -> Writer
-    ensures before { result.before ≡ page.old.items }
-    ensures tokens { result.tokens ≡ [] }
-{
-    Writer::new(replace(page, Vec::new(alloc)))
-}
 
 /// Writes the tokens of a head.
 fn write_head(alloc: Global, writer: &mut Writer, head: &Head<'_>) -> Result<(), AllocError>
@@ -54,37 +42,6 @@ pub fn print_head(alloc: Global, page: &mut Vec<u8>, head: &Head<'_>) -> Result<
     written
 }
 
-/// Writes the tokens of an object but for the brace that closes it.
-fn write_open<T: Object>(alloc: Global, writer: &mut Writer, object: &T) -> Result<(), AllocError>
-    ensures { Adds result writer.old writer.new
-        (begin_object ∷ tokens_of (T.members object.now)) }
-{
-    writer.begin_object()?;
-    object.write_members(alloc, writer)
-}
-
-/// Appends an object to a page, but for the brace that closes it.
-fn print_open<T: Object>(alloc: Global, page: &mut Vec<u8>, object: &T) -> Result<(), AllocError>
-    ensures printed { OnOk result (page.new.items
-        ≡ page.old.items ++ print (begin_object ∷ tokens_of (T.members object.now))) }
-    ensures numbers { OnOk result (HaveNumbers (T.members object.now)) }
-{
-    let mut writer = writer_after(alloc, page);
-    let written = write_open(alloc, &mut writer, object);
-    *page = writer.into_inner();
-    written
-}
-
-/// Appends a comma to a page, unless this is the first entry.
-fn print_comma(page: &mut Vec<u8>, is_first: bool) -> Result<(), AllocError>
-    ensures { OnOk result (page.new.items ≡ page.old.items ++ comma is_first) }
-{
-    if is_first {
-        return Ok(());
-    }
-    page.extend_from_slice(b",")
-}
-
 /// Appends the text of a run to a page as a member, if there is one.
 fn print_run(page: &mut Vec<u8>, run: Option<&[u8]>) -> Result<(), AllocError>
     ensures { OnOk result
@@ -98,8 +55,8 @@ fn print_run(page: &mut Vec<u8>, run: Option<&[u8]>) -> Result<(), AllocError>
 }
 
 /// Appends an entry of the list of a record to a page, after a comma if it is not the first. `run`
-/// is the text of a run that shows it, which `run_text` makes. The only error is want of memory; the
-/// page then has any bytes.
+/// is the text of a run that shows it, which `run_text` makes. The only error is want of memory;
+/// the page then has any bytes.
 pub fn print_entry(
     alloc: Global,
     page: &mut Vec<u8>,
@@ -133,18 +90,6 @@ pub fn print_end(page: &mut Vec<u8>) -> Result<(), AllocError>
     ensures { OnOk result (page.new.items ≡ page.old.items ++ end_text) }
 {
     page.extend_from_slice(b"]}\n")
-}
-
-/// Appends an object to a page.
-fn print_object<T: Object>(alloc: Global, page: &mut Vec<u8>, object: &T) -> Result<(), AllocError>
-    ensures printed { OnOk result (page.new.items
-        ≡ page.old.items ++ json_text (object_of (T.members object.now))) }
-    ensures numbers { OnOk result (HaveNumbers (T.members object.now)) }
-{
-    let mut writer = writer_after(alloc, page);
-    let written = write_object(alloc, &mut writer, object);
-    *page = writer.into_inner();
-    written
 }
 
 /// Appends a whole record to a page, of a text that is refused or a file that cannot be read, with

@@ -1,7 +1,7 @@
 //! Records of a chart, of a diagram, and of refused texts.
 
 use crate::{
-    ChartFindings, Checked, Counts, DiagramFindings, Entry, Event, EventKind, EventNumber, Fault,
+    Checked, CheckedChart, CheckedDiagram, Counts, Entry, Event, EventKind, EventNumber, Fault,
     FaultNote, FaultPosition, Head, Link, ListedScenario, Message, Opening, Position, Refusal,
     Statement, print_end, print_entry, print_head, print_refusal, run_text,
 };
@@ -33,7 +33,7 @@ const TWO_SENDERS: Head<'static> = Head {
         accepted: None,
         closest: None,
     },
-    checked: Checked::Chart(ChartFindings {
+    checked: Checked::Chart(CheckedChart {
         name: b"t",
         ring: None,
         again: None,
@@ -150,7 +150,7 @@ const UPLOADS: Head<'static> = Head {
         accepted: Some(0),
         closest: None,
     },
-    checked: Checked::Diagram(DiagramFindings {
+    checked: Checked::Diagram(CheckedDiagram {
         name: b"uploads",
         serves: &[],
         scenarios: 1,
@@ -311,7 +311,11 @@ fn print_cancel(alloc: Global) -> Result<Vec<u8>, AllocError> {
 }
 
 /// Compares what was printed with the wanted parts.
-fn check<R: Abort + AllocGlobal>(rt: &R, printed: Result<Vec<u8>, AllocError>, wanted: &[&str]) {
+pub(crate) fn check<R: Abort + AllocGlobal>(
+    rt: &R,
+    printed: Result<Vec<u8>, AllocError>,
+    wanted: &[&str],
+) {
     let printed = printed.expect(rt, "memory for a record");
     let wanted = joined(rt.alloc(), wanted).expect(rt, "memory for a record");
     assert_eq!(rt; printed.as_slice(), wanted.as_slice());

@@ -1,4 +1,4 @@
-use Rattle.msc_record.proofs.PrintLemmas.{entry_is_json, parts_are_the_record}
+use Rattle.msc_record.proofs.RecordLemmas.{entry_is_json, parts_are_the_record}
 use Rattle.msc_record.proofs.laws.parts_make_records.Goals as goal
 
 pub returns-clause-parts : goal.returns-clause-parts

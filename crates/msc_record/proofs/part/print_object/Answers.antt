@@ -2,7 +2,7 @@ use Rattle.std.proofs.lemmas.Result.{on_ok_weaker}
 use Rattle.json.specs.Tree.{json_tokens}
 use Rattle.msc_record.specs.Members.{object_of}
 use Rattle.msc_record.proofs.NumberLemmas.{added_is_printable, numbers_of_json}
-use Rattle.msc_record.proofs.printing.print_object.Goals as goal
+use Rattle.msc_record.proofs.part.print_object.Goals as goal
 
 pub returns-clause-numbers : goal.returns-clause-numbers
 returns-clause-numbers g c =

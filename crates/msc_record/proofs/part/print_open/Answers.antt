@@ -3,7 +3,7 @@ use Rattle.std.proofs.lemmas.Result.{on_ok_weaker}
 use Rattle.json.specs.Token.{begin_object}
 use Rattle.msc_record.specs.Members.{tokens_of}
 use Rattle.msc_record.proofs.NumberLemmas.{added_is_printable, numbers_of_members}
-use Rattle.msc_record.proofs.printing.print_open.Goals as goal
+use Rattle.msc_record.proofs.part.print_open.Goals as goal
 
 pub returns-clause-numbers : goal.returns-clause-numbers
 returns-clause-numbers g c =

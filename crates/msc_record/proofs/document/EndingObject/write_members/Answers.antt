@@ -1,0 +1,6 @@
+use Rattle.msc_record.proofs.WritingLemmas.{adds_end, adds_on}
+use Rattle.msc_record.proofs.document.EndingObject.write_members.Goals as goal
+
+pub returns : goal.returns
+returns c =
+    adds_on c.in_ok-write_files.ensures (adds_end c.write_list.ensures)

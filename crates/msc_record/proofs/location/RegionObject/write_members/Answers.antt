@@ -1,0 +1,6 @@
+use Rattle.msc_record.proofs.WritingLemmas.{adds_on}
+use Rattle.msc_record.proofs.location.RegionObject.write_members.Goals as goal
+
+pub returns : goal.returns
+returns c =
+    adds_on c.in_ok-write_member.ensures (adds_on c.in_ok-write_member-2.ensures (adds_on c.in_ok-write_member-3.ensures c.write_member-4.ensures))
