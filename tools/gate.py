@@ -28,7 +28,7 @@ TOP = pathlib.Path(__file__).resolve().parent.parent
 # crates with wrong bodies that a promise is known by, as `visual_as_enforced` and `take_skips`
 KNOWN = ("msc_chart", "msc_fifo", "msc_gather", "msc_instance", "msc_order", "msc_race")
 # The last commit at which `./test` had tried all edits below must-fail, and each was refused.
-ALL_TRIED = "87a65194"
+ALL_TRIED = "e851aacf"
 LISTED = re.compile(r"(?m)^(\w+)[^:#\n]*:")
 THIRDS = 3
 

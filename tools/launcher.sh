@@ -115,7 +115,10 @@ is_not_proved() {
 installs() (
   cd / && PREFIX=$room/there "$room/copy/tools/install" >"$room/log" &&
     cmp "$real" "$room/there/bin/msc" &&
-    cmp "$top/docs/msc.1" "$room/there/share/man/man1/msc.1"
+    cmp "$top/docs/msc.1" "$room/there/share/man/man1/msc.1" &&
+    cmp <("$real" completions bash) "$room/there/share/bash-completion/completions/msc" &&
+    cmp <("$real" completions zsh) "$room/there/share/zsh/site-functions/_msc" &&
+    cmp <("$real" completions fish) "$room/there/share/fish/vendor_completions.d/msc.fish"
 )
 uninstalls() {
   PREFIX=$room/there "$room/copy/tools/uninstall" >"$room/log" &&

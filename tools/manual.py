@@ -5,7 +5,8 @@
 
 The sections COMMANDS, OPTIONS and EXIT STATUS have to list what `PROGRAM --help` and the help of
 each command list, and nothing else: the commands, the options with their values and the commands
-that take them, and the statuses. Nowhere may the manual name another command, option or value.
+that take them, where `all` are those that take FILE, and the statuses. Nowhere may the manual name
+another command, option or value.
 
 An example is a display in the section EXAMPLES. The command after its `$ ` is run by a shell, in a
 folder with links to the files of the repository. It has to print the lines below it, if there are
@@ -25,7 +26,8 @@ import sys
 import tempfile
 
 sys.dont_write_bytecode = True
-from options import commands_of, help_of, section
+from options import arguments_in, commands_of, help_of, options_in, section, status_of
+from options import with_file
 
 TOP = pathlib.Path(__file__).resolve().parent.parent
 PAGE = "docs/msc.1"
@@ -58,9 +60,9 @@ def tag(line):
     return " ".join(word for _, word in words(line)).replace(" | ", "|").replace(" ,", ",")
 
 
-def options_of_manual(lines, commands):
+def options_of_manual(lines, files):
     """The options of the manual, each with the commands that take it: those in parentheses, or else
-    those that its part names before its list."""
+    those that its part names before its list. `files` are the commands that take FILE."""
     takers, before, is_before = {}, [], True
     for line, below in zip(lines, [*lines[1:], ""]):
         if line.startswith(".Ss"):
@@ -70,8 +72,8 @@ def options_of_manual(lines, commands):
         elif line.startswith(".Cm") and is_before:
             before += [word for _, word in words(line)]
         elif line.startswith(".It Fl"):
-            own = [word for _, word in words(below)] if below.startswith(".Pq") else before
-            takers[tag(line)] = {*(commands if own == ["all"] else own)} - MARKS
+            own = {word for _, word in words(below)} if below.startswith(".Pq") else {*before}
+            takers[tag(line)] = (own | {*files} if "all" in own else own) - {"all", *MARKS}
     return takers
 
 
@@ -79,7 +81,7 @@ def options_of_help(program, commands):
     """The options of the program, each with the commands that take it."""
     takers = {}
     for command in [(), *((name,) for name in commands)]:
-        for name, _ in section(help_of(program, *command), "Options"):
+        for name, _ in options_in(help_of(program, *command)):
             takers.setdefault(re.sub("[<>]", "", name), set()).update(command)
     return takers
 
@@ -96,9 +98,16 @@ def compared(what, manual, help):
             yield None
 
 
-def strangers(lines, commands, options):
-    """The words that should be a command, an option or a value, and are none, or None."""
-    known = {"--", *MARKS, *commands, *(it for name in options for it in re.split("[ ,|]+", name))}
+def values_of(program, commands):
+    """The words that the arguments of the commands are one of."""
+    pages = [help_of(program, command) for command in commands]
+    return [value for page in pages for _, values in arguments_in(page) for value in values]
+
+
+def strangers(lines, known, options):
+    """The words that should be a command, an option or a value, and are none, or None. `known` are
+    the commands, and the words that arguments are one of."""
+    known = {"--", *MARKS, *known, *(it for name in options for it in re.split("[ ,|]+", name))}
     found = {word for line in lines for macro, word in words(line) if macro in ("Fl", "Cm")}
     unknown = " ".join(sorted(found - known))
     return f"no command, option or value: {unknown}" if unknown else None
@@ -161,13 +170,14 @@ def findings(program, text):
     """For each thing that is compared what is wrong with it, or None."""
     parts, commands = sections(text), commands_of(program)
     named, options = [*commands, "help"], options_of_help(program, commands)
+    files, values = with_file(program), values_of(program, commands)
     items = [tag(line).split()[0] for line in parts["COMMANDS"] if line.startswith(".It")]
     yield from compared("command", dict.fromkeys(items), dict.fromkeys(named))
-    yield from compared("option", options_of_manual(parts["OPTIONS"], commands), options)
+    yield from compared("option", options_of_manual(parts["OPTIONS"], files), options)
     items = [tag(line) for line in parts["EXIT STATUS"] if line.startswith(".It")]
     statuses = [status for status, _ in section(help_of(program), "Exit status")]
     yield from compared("status", dict.fromkeys(items), dict.fromkeys(statuses))
-    yield strangers(text.splitlines(), named, options)
+    yield strangers(text.splitlines(), [*named, *values], options)
     displays = [*examples(parts["EXAMPLES"])]
     for text, display in displays or [("", [])]:
         yield tried(program, text, display)
@@ -182,12 +192,7 @@ def main():
     arguments = argparse.ArgumentParser(description=__doc__, formatter_class=style)
     arguments.add_argument("program", metavar="PROGRAM")
     program = pathlib.Path(arguments.parse_args().program).resolve()
-    found = [*findings(program, (TOP / PAGE).read_text())]
-    wrong = [it for it in found if it]
-    for it in wrong:
-        print(f"manual: {it}")
-    print(f"manual: {len(found) - len(wrong)} passed, {len(wrong)} failed")
-    return int(bool(wrong))
+    return status_of("manual", findings(program, (TOP / PAGE).read_text()))
 
 
 if __name__ == "__main__":

@@ -4,10 +4,10 @@
     tools/options.py PROGRAM            compares
     tools/options.py --write PROGRAM    writes the tables
 
-A table stands between the lines `<!-- NAME -->` and `<!-- end of NAME -->`. The options are those
-of `PROGRAM COMMAND --help`; commands that print the same text for an option share a row. The
-statuses are those of `PROGRAM --help`. The exit status is 1 if a table differs, or if the page does
-not have these lines once.
+The tables of a kind stand between the lines `<!-- NAME -->` and `<!-- end of NAME -->`. The options
+are those of `PROGRAM COMMAND --help`, with a table for each of its groups; commands that print the
+same text for an option share a row. The statuses are those of `PROGRAM --help`. The exit status is
+1 if a table differs, or if the page does not have these lines once.
 """
 import argparse
 import pathlib
@@ -18,6 +18,10 @@ import sys
 PAGE = pathlib.Path(__file__).resolve().parent.parent / "docs/OUTPUT.md"
 # an option or a status, and the beginning of what the help says of it
 BEGINS = re.compile(r"  (?:(\d)  | *(-\S.*?)(?:  |$))\s*(.*)")
+# the heading of a group of options
+HEADING = re.compile(r"(\w+):")
+# an argument, and the words that it is one of
+ARGUMENT = re.compile(r"  <(\w+)>.*?(?: \[possible values: (.*)\])?")
 
 
 def help_of(program, *command):
@@ -36,7 +40,26 @@ def section(lines, title):
             rows.append([begun[1] or begun[2], begun[3]])
         elif is_inside and rows:
             rows[-1][1] = f"{rows[-1][1]} {line.strip()}".strip()
-    return [(name, re.sub(r" \[possible values: .*\]", "", text)) for name, text in rows]
+    return rows
+
+
+def groups(lines):
+    """The groups of options of a help: the heading, and the rows."""
+    for heading in filter(None, map(HEADING.fullmatch, lines)):
+        rows = [row for row in section(lines, heading[1]) if row[0].startswith("-")]
+        if rows:
+            yield heading[1], rows
+
+
+def options_in(lines):
+    """The rows of all options of a help."""
+    return [row for _, rows in groups(lines) for row in rows]
+
+
+def arguments_in(lines):
+    """The arguments of a help, each with the words that it is one of, if it is one of some."""
+    found = filter(None, map(ARGUMENT.fullmatch, lines))
+    return [(it[1], it[2].split(", ") if it[2] else []) for it in found]
 
 
 def commands_of(program):
@@ -45,6 +68,16 @@ def commands_of(program):
     first = lines.index("Commands:") + 1
     names = [line.split()[0] for line in lines[first : lines.index("", first)]]
     return [name for name in names if name != "help"]
+
+
+def status_of(name, found):
+    """Prints what was found wrong, and how much; what is right is nothing. Gives the exit status."""
+    found = [*found]
+    wrong = [it for it in found if it]
+    for it in wrong:
+        print(f"{name}: {it}")
+    print(f"{name}: {len(found) - len(wrong)} passed, {len(wrong)} failed")
+    return int(bool(wrong))
 
 
 def code(text):
@@ -58,26 +91,48 @@ def table(head, rows):
     return [lines[0], "|---" * len(head) + "|", *lines[1:]]
 
 
+def in_order(lists):
+    """The items of lists in one order: an item precedes those that follow it in each list."""
+    order = []
+    for items in lists:
+        at = len(order)
+        for item in reversed(items):
+            if item in order:
+                at = order.index(item)
+            else:
+                order.insert(at, item)
+    return order
+
+
+def with_file(program):
+    """The commands that take FILE."""
+    pages = ((command, help_of(program, command)) for command in commands_of(program))
+    return [command for command, page in pages if ("FILE", []) in arguments_in(page)]
+
+
 def options_of(program):
-    """The rows of all options: the name, the commands that take it, and what it does."""
-    commands = commands_of(program)
-    takers = {}
-    for command in commands:
-        for name, text in section(help_of(program, command), "Options"):
-            takers.setdefault(name, {}).setdefault(text, []).append(command)
-    del takers["-h, --help"]
-    for name, texts in takers.items():
-        for text, own in texts.items():
-            yield code(name), "all" if own == commands else ", ".join(own), text
+    """The rows of all options, by their group: the name, the commands that take it, and what it
+    does."""
+    takers, lists = {}, []
+    for command in commands_of(program):
+        own = [(group, *row) for group, rows in groups(help_of(program, command)) for row in rows]
+        for group, name, text in own:
+            takers.setdefault((group, name), {}).setdefault(text, []).append(command)
+        lists.append([(group, name) for group, name, _ in own if name != "-h, --help"])
+    found, files = {}, with_file(program)
+    for group, name in in_order(lists):
+        for text, own in takers[group, name].items():
+            row = code(name), "all with FILE" if own == files else ", ".join(own), text
+            found.setdefault(group, []).append(row)
+    return found
 
 
 def tables(program):
-    """Each table by its name."""
-    statuses = section(help_of(program), "Exit status")
-    return {
-        "options": table(["Option", "Commands", "Effect"], options_of(program)),
-        "statuses": table(["Status", "Meaning"], statuses),
-    }
+    """The tables of each kind, in lines."""
+    options, statuses = [], section(help_of(program), "Exit status")
+    for group, rows in options_of(program).items():
+        options += [f"**{group}**", "", *table(["Option", "Commands", "Effect"], rows), ""]
+    return {"options": options[:-1], "statuses": table(["Status", "Meaning"], statuses)}
 
 
 def main():
@@ -96,11 +151,11 @@ def main():
         elif options.write:
             text = "".join([*parts[:2], made, *parts[3:]])
         elif parts[2] != made:
-            print(f"options: the table of {name} differs from the help: tools/options.py --write")
+            print(f"options: the {name} differ from the help: tools/options.py --write PROGRAM")
             failed += 1
     if options.write:
         PAGE.write_text(text)
-    print(f"options: 2 tables, {failed} failed")
+    print(f"options: 2 compared, {failed} failed")
     return int(failed > 0)
 
 

@@ -1,7 +1,8 @@
 //! The program `msc`.
 #![tactic(auto)]
 
-use msc_command::{Recorded, command, refuse_words};
+use msc_answer::Recorded;
+use msc_command::{command, refuse_words};
 use std::env::VarError;
 use std::io::IsTerminal;
 use std::process::ExitCode;

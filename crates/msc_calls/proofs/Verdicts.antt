@@ -18,7 +18,7 @@ use Rattle.msc_reason.specs.PairTables.{PairTable}
 use Rattle.msc_reason.specs.declared.cause.Cause.{Cause}
 use Rattle.msc_reason.specs.declared.left_out.LeftOut.{LeftOut}
 use Rattle.msc_judge.specs.declared.marking.Marking.{Marking}
-use Rattle.msc_judge.specs.Findings.{passes, AreWitness}
+use Rattle.msc_judge.specs.Findings.{passes_in, AreWitness}
 use Rattle.msc_print.specs.Pages.{Tells}
 use Rattle.msc_print.specs.declared.page.WriteFault.{WriteFault}
 use Rattle.msc_print.specs.declared.page.WriteFault.TheVariants as writing
@@ -30,6 +30,7 @@ use Rattle.msc_source.specs.Texts.{IsChartOf}
 use Rattle.msc_calls.specs.Checking.{BeginsVerdict, Prints, ShowsRaces, WritesVerdict}
 use Rattle.msc_text.specs.Judging.{left_out, JudgesChart}
 use Rattle.msc_calls.specs.Plain.{no_kind, plain, plain_style}
+use Rattle.msc_text.specs.declared.judging.Judged.{Judged}
 use Rattle.msc_text.specs.declared.judging.ChartFormat.TheVariants.{Lines}
 
 -- each race of a verdict is reversed by the witness of its first event
@@ -61,8 +62,8 @@ passes_plain e m causes none no_stale =
 
 module _ (text : List ℕ) (queues : Queues) (show : ℕ) (d : Drawing) (of_text : IsChartOf text d) (verdicts : EnforcedOrdersTellVerdicts) (whole : WitnessesAreWhole) (reverses : WitnessesReverseRaces) where
   -- what is printed of a text for a verdict is the verdict and its races
-  prints : (passed : Bool) (printed : List ℕ) → JudgesChart d queues (plain show) None false (Lines plain_style) passed printed → Prints text queues show passed printed
-  prints passed printed judged =
+  prints : (found : Judged) (printed : List ℕ) → JudgesChart d queues (plain show) None false (Lines plain_style) found printed → Prints text queues show (passes_in found.totals) printed
+  prints found printed judged =
       let e = enforced_chart d queues judged.order in
       let told = verdicts queues d judged.accepted judged.order judged.by_order.enforced in
       let v = verdict_by d.events judged.order in
@@ -75,7 +76,7 @@ module _ (text : List ℕ) (queues : Queues) (show : ℕ) (d : Drawing) (of_text
         verdict = v;
         races = told.0;
         reversed = told.1;
-        answered = judged.answered ∙ passes_plain e judged.marking judged.tables.causes judged.marked.0 judged.marked.1
+        answered = ap passes_in judged.answered ∙ passes_plain e judged.marking judged.tables.causes judged.marked.0 judged.marked.1
             ∙ passes_told (races_of e) (length (races_of e)) refl;
         shown = record {
           runs = judged.tables.runs;
@@ -86,16 +87,16 @@ module _ (text : List ℕ) (queues : Queues) (show : ℕ) (d : Drawing) (of_text
       }
 
   -- what was told is written
-  pub writes_verdict : {W : Type 0} (contents : W → Option (List ℕ)) (passed : Bool) (old new : W)
-      → Tells contents (JudgesChart d queues (plain show) None false (Lines plain_style)) (Ok passed) old new
-      → WritesVerdict text queues show passed (contents old) (contents new)
-  writes_verdict contents passed old new (printed, judged, wrote) = (printed, prints passed printed judged, wrote)
+  pub writes_verdict : {W : Type 0} (contents : W → Option (List ℕ)) (found : Judged) (old new : W)
+      → Tells contents (JudgesChart d queues (plain show) None false (Lines plain_style)) (Ok found) old new
+      → WritesVerdict text queues show (passes_in found.totals) (contents old) (contents new)
+  writes_verdict contents found old new (printed, judged, wrote) = (printed, prints found printed judged, wrote)
 
   -- and where memory ran out a beginning of it, or nothing
   pub begins_verdict : {W : Type 0} (contents : W → Option (List ℕ)) (f : WriteFault) (old new : W)
       → Tells contents (JudgesChart d queues (plain show) None false (Lines plain_style)) (Err f) old new → of_writing f ≡ Memory
       → (new ≡ old) ⊎ BeginsVerdict text queues show (contents old) (contents new)
   begins_verdict contents writing.Memory old new (inl none) memory = inl none
-  begins_verdict contents writing.Memory old new (inr (passed, printed, judged, begun)) memory =
-      inr (passed, printed, prints passed printed judged, begun)
+  begins_verdict contents writing.Memory old new (inr (found, printed, judged, begun)) memory =
+      inr (passes_in found.totals, printed, prints found printed judged, begun)
   begins_verdict contents writing.Device old new said memory = absurd cc

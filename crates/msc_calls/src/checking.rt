@@ -67,5 +67,6 @@ pub fn check_text<W: Write>(
     let source = Source::of(alloc, Language::MscPr, text)?;
     let input = CheckInput::of(source.chart(), queues, None, None);
     let options = all_races(show);
-    Ok(judge_chart(alloc, input, options, plain_lines(), writer)?)
+    let found = judge_chart(alloc, input, options, plain_lines(), writer)?;
+    Ok(found.totals.passes())
 }

@@ -1,44 +1,26 @@
 -- What the status tells of an answer.
-use Rattle.std.proofs.Common.{◌≡◌, ℕ, Bool, true, false, List, Option, Some, None, Result, Ok, Err, inl, inr, refl, sym, ap, ◌∙◌, subst}
+use Rattle.std.proofs.Common.{◌≡◌, ℕ, false, List, Option, Some, None, Result, Ok, Err, inl, inr, refl, sym, subst}
 use Rattle.clap.specs.declared.parser.matches.Found.{Found}
 use Rattle.msc_report.specs.declared.fault.Fault.TheVariants.{Parse, Chart, NotStarted, Memory, Device}
-use Rattle.msc_diagram.specs.declared.scenario.Scenario.{Scenario}
 use Rattle.std.specs.Io.KnownBytes.{Appends}
 use Rattle.msc_markdown.specs.Markdowns.{Found as Markdown}
-use Rattle.msc_command.specs.Scenarios.{checked_under, PrintsAll}
-use Rattle.msc_command.specs.Surveys.{many_in, Surveys}
-use Rattle.msc_command.specs.declared.tasks.CheckArgs.{CheckArgs}
-use Rattle.msc_command.specs.declared.ending.Refusal.{Refusal}
-use Rattle.msc_command.specs.declared.ending.Refusal.TheVariants as refusals
-use Rattle.msc_command.specs.declared.ending.Status.{Status}
-use Rattle.msc_command.specs.declared.ending.Status.TheVariants.{Done, Races, Refused, Unfinished, Failed}
-use Rattle.msc_command.specs.declared.scenarios.Surveyed.{Surveyed}
-use Rattle.msc_command.specs.declared.scenarios.Told.{Told}
-use Rattle.msc_command.specs.declared.tasks.ChartCommand.TheVariants as chart_commands
-use Rattle.msc_command.specs.declared.tasks.ScenarioArgs.{ScenarioArgs}
-use Rattle.msc_command.specs.declared.tasks.Task.{Task}
-use Rattle.msc_command.specs.declared.tasks.Task.TheVariants as tasks
-use Rattle.msc_command.specs.Answering.{ends_with, Performs, Prints, PrintsDiagrams}
-use Rattle.msc_command.specs.Ending.{ended_by, finished_by, status_code}
-use Rattle.msc_command.specs.Program.{Obeys, Tells, TellsAnswer, TellsRefused}
-use Rattle.msc_command.specs.Refused.{form_of, TellsIn}
-use Rattle.msc_command.specs.declared.tasks.RefusalForm.{RefusalForm}
-use Rattle.msc_command.specs.declared.tasks.RefusalForm.TheVariants as forms
-
--- no run that tells whether something holds ends as refused
-never_ended : (holds : Bool) → Refused ≡ ended_by holds → ⊥
-never_ended true same = cc
-never_ended false same = cc
-
--- and none of a chart that is run
-never_finished : (finished : Bool) → Refused ≡ finished_by finished → ⊥
-never_finished true same = cc
-never_finished false same = cc
-
--- and none of scenarios
-never_surveyed : (quiet : Bool) (c : CheckArgs) (t : Told) (ss : List Scenario) (printed : List ℕ) → PrintsAll quiet c t ss Refused printed → ⊥
-never_surveyed true c t ss printed (one, ends, (marks, used, (passed, same, says, none))) = never_ended passed (sym ends ∙ ap (λ (s : Surveyed). s.status) same)
-never_surveyed false c t ss printed (one, ends, (marks, used, (format, its, judged, same, says))) = never_ended _ (sym ends ∙ ap (λ (s : Surveyed). s.status) same)
+use Rattle.msc_answer.proofs.Endings.{never_ended, never_finished, never_surveyed}
+use Rattle.msc_answer.specs.Scenarios.{checked_under}
+use Rattle.msc_answer.specs.Surveys.{many_in, Surveys}
+use Rattle.msc_answer.specs.declared.ending.Refusal.{Refusal}
+use Rattle.msc_answer.specs.declared.ending.Refusal.TheVariants as refusals
+use Rattle.msc_answer.specs.declared.ending.Status.{Status}
+use Rattle.msc_answer.specs.declared.ending.Status.TheVariants.{Done, Races, Refused, Unfinished, Failed}
+use Rattle.msc_answer.specs.declared.tasks.ChartCommand.TheVariants as chart_commands
+use Rattle.msc_answer.specs.declared.tasks.ScenarioArgs.{ScenarioArgs}
+use Rattle.msc_answer.specs.declared.tasks.Task.{Task}
+use Rattle.msc_answer.specs.declared.tasks.Task.TheVariants as tasks
+use Rattle.msc_answer.specs.Answering.{ends_with, Performs, Prints, PrintsDiagrams}
+use Rattle.msc_answer.specs.Ending.{status_code}
+use Rattle.msc_command.specs.Program.{IsCompleted, Obeys, Tells, TellsAnswer, TellsRefused}
+use Rattle.msc_answer.specs.Refused.{form_of, TellsIn}
+use Rattle.msc_answer.specs.declared.tasks.RefusalForm.{RefusalForm}
+use Rattle.msc_answer.specs.declared.tasks.RefusalForm.TheVariants as forms
 
 -- one of several diagrams is refused
 abbrev pub RefusesOne : List ℕ → Type 0
@@ -52,7 +34,7 @@ diagram_refused (Some f) x file text printed is says = (x, file, text, f, is, sa
 -- so of what is printed for a task only several diagrams are
 printed_refused : (task : Task) (file text printed : List ℕ) → Prints task file text Refused printed → RefusesOne printed
 printed_refused (tasks.Read chosen) file text printed (draft, has, same, is) = absurd cc
-printed_refused (tasks.Chart (chart_commands.Check c) links) file text printed (d, s, of_text, (under, linked, (chart_format, its, marks, are, room, passed, same, says))) = absurd (never_ended passed same)
+printed_refused (tasks.Chart (chart_commands.Check c) links) file text printed (d, s, of_text, (under, linked, (found, same, says))) = absurd (never_ended _ same)
 printed_refused (tasks.Chart (chart_commands.Quiet x) links) file text printed (d, s, of_text, (under, linked, (marks, are, room, passed, same, says, none))) = absurd (never_ended passed same)
 printed_refused (tasks.Chart (chart_commands.Explain x) links) file text printed (d, s, of_text, (under, linked, (e, f, two, style, its, enforced, same, says))) = absurd (never_ended enforced same)
 printed_refused (tasks.Chart (chart_commands.Follow x) links) file text printed (d, s, of_text, (under, linked, (style, its, follows, same, says))) = absurd (never_ended follows same)
@@ -110,12 +92,21 @@ module _ {W : Type 0} (contents : W → Option (List ℕ)) where
   tells task file reads (Err (refusals.Import e)) old new (inl (text, read, (refused, told))) = refused_told (form_of task) file text (refusals.Import e) old new told
   tells task file reads (Err (refusals.Import e)) old new (inr (never, same)) = absurd never
 
+  -- of completions it tells nothing
+  completed : (status : Status) (old new : W) → IsCompleted contents status old new → TellsAnswer contents status old new
+  completed Done old new said = tt
+  completed Races old new said = absurd said
+  completed Refused old new said = absurd said
+  completed Unfinished old new said = absurd said
+  completed Failed old new said = tt
+
   -- and of words that were obeyed
-  pub obeyed : (name : List ℕ) (found : Found) (status : Status) (reads : List ℕ → Type 0) (old new : W)
-      → Obeys contents name found status reads old new → TellsAnswer contents status old new
-  obeyed name found status reads old new (inl none) = rw (none.ends) (inl none.kept)
-  obeyed name found status reads old new (inr done) =
+  pub obeyed : {R : Type 0} (name : List ℕ) (found : Found) (status : Status) (reads : List ℕ → Type 0) (rest left : R) (old new : W)
+      → Obeys contents name found status reads rest left old new → TellsAnswer contents status old new
+  obeyed name found status reads rest left old new (inl none) = rw (none.ends) (inl none.kept)
+  obeyed name found status reads rest left old new (inr (inl done)) =
       subst (λ (s : Status). TellsAnswer contents s old new) (sym done.ends.1) (tells done.task _ reads done.ends.0 old new done.ends.2)
+  obeyed name found status reads rest left old new (inr (inr done)) = completed status old new done.ends
 
   -- where the exit status is 1, an answer that tells so went out
   pub told_races : (status : Status) (old new : W) → TellsAnswer contents status old new → status_code status ≡ 1 → Tells contents Races old new

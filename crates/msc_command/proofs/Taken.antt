@@ -12,11 +12,11 @@ use Rattle.clap.specs.declared.parser.matches.ArgMatches.{ArgMatches}
 use Rattle.clap.specs.declared.parser.matches.ArgMatches.TheViews.{out-SubCommand}
 use Rattle.clap.specs.declared.parser.matches.SubCommand.{SubCommand}
 use Rattle.msc_command.specs.Grammar.{AreParsers, AreTaken, IsGrammar, architecture_words, format_words, kind_words, parsers_of}
-use Rattle.msc_command.specs.declared.grammar.Choices.{Choices}
-use Rattle.msc_command.specs.Words.{color_words, cross_words, language_words, own_words, par_words, stick_format_words}
+use Rattle.msc_command.specs.declared.alternatives.Choices.{Choices}
+use Rattle.msc_command.specs.Words.{color_words, cross_words, language_words, own_words, par_words, shell_words, stick_format_words}
 use Rattle.msc_command.specs.Program.{ObeysMatches, ObeysNamed}
-use Rattle.msc_command.specs.declared.ending.Status.{Status}
-use Rattle.msc_command.specs.declared.ending.Status.TheVariants.{Refused}
+use Rattle.msc_answer.specs.declared.ending.Status.{Status}
+use Rattle.msc_answer.specs.declared.ending.Status.TheVariants.{Refused}
 
 -- the parsers take the words of which options take one
 pub are_parsers : (lent : Choices)
@@ -25,8 +25,9 @@ pub are_parsers : (lent : Choices)
     → map (λ word. word.now) lent.owns.words.now ≡ own_words → map (λ word. word.now) lent.crosses.words.now ≡ cross_words
     → map (λ word. word.now) lent.pars.words.now ≡ par_words
     → map (λ word. word.now) lent.stick_formats.words.now ≡ stick_format_words → map (λ word. word.now) lent.colors.words.now ≡ color_words
+    → map (λ word. word.now) lent.shells.words.now ≡ shell_words
     → AreParsers (parsers_of lent)
-are_parsers lent one two three four five six seven eight nine = record {
+are_parsers lent one two three four five six seven eight nine ten = record {
   architectures = (_, refl, one);
   kinds = (_, refl, two);
   formats = (_, refl, three);
@@ -36,6 +37,7 @@ are_parsers lent one two three four five six seven eight nine = record {
   owns = (_, refl, five);
   crosses = (_, refl, six);
   pars = (_, refl, seven);
+  shells = (_, refl, ten);
 }
 
 -- where neither of two steps fails, the second does not

@@ -15,6 +15,7 @@ use Rattle.msc_reason.specs.Causes.{kind_word}
 use Rattle.msc_reason.specs.declared.cause.RaceKind.{RaceKind}
 use Rattle.msc_reason.specs.Kinds.{has_kind}
 use Rattle.msc_reason.specs.declared.kinds.KindSet.{KindSet}
+use Rattle.msc_findings.specs.declared.format.Following.TheVariants.{Help}
 use Rattle.msc_judge.specs.declared.options.CheckOptions.{CheckOptions}
 use Rattle.msc_report.specs.declared.pair.EventName.{EventName}
 use Rattle.msc_report.specs.declared.pair.EventName.TheVariants.{Number, Line}
@@ -28,32 +29,33 @@ use Rattle.msc_mermaid.specs.declared.statement.Cross.{Cross}
 use Rattle.msc_mermaid.specs.declared.statement.Cross.TheVariants as crosses
 use Rattle.msc_draw.specs.declared.picture_format.PictureFormat.{PictureFormat as PictureFormat}
 use Rattle.msc_draw.specs.declared.picture_format.PictureFormat.TheVariants as pictures
-use Rattle.msc_command.specs.declared.tasks.CheckArgs.{CheckArgs}
-use Rattle.msc_command.specs.declared.tasks.Drawn.TheVariants as drawn
-use Rattle.msc_command.specs.declared.tasks.ReverseArgs.{ReverseArgs}
-use Rattle.msc_command.specs.declared.tasks.ExplainArgs.{ExplainArgs}
-use Rattle.msc_command.specs.declared.tasks.FollowArgs.{FollowArgs}
-use Rattle.msc_command.specs.declared.tasks.DiagramArgs.{DiagramArgs}
-use Rattle.msc_command.specs.declared.tasks.ImportArgs.{ImportArgs}
-use Rattle.msc_command.specs.declared.tasks.ChosenArgs.{ChosenArgs}
-use Rattle.msc_command.specs.declared.tasks.TextArgs.{TextArgs}
-use Rattle.msc_command.specs.declared.tasks.EventStyle.{EventStyle}
-use Rattle.msc_command.specs.declared.tasks.QuietArgs.{QuietArgs}
-use Rattle.msc_command.specs.declared.tasks.ReadyArgs.{ReadyArgs}
-use Rattle.msc_command.specs.declared.tasks.ReportArgs.{ReportArgs}
-use Rattle.msc_command.specs.declared.tasks.ScenarioArgs.{ScenarioArgs}
-use Rattle.msc_command.specs.declared.tasks.ChartCommand.TheVariants.{Check, Quiet, Explain, Follow, Run, List as Listing, Ready}
-use Rattle.msc_command.specs.declared.tasks.Format.{Format}
-use Rattle.msc_command.specs.declared.tasks.Format.TheVariants as formats
-use Rattle.msc_command.specs.declared.tasks.LinkWords.{LinkWords}
-use Rattle.msc_command.specs.declared.tasks.Task.{Task}
-use Rattle.msc_command.specs.declared.tasks.Task.TheVariants.{Read, Chart, Draw, Import, Scenarios, Report}
+use Rattle.msc_answer.specs.declared.tasks.CheckArgs.{CheckArgs}
+use Rattle.msc_answer.specs.declared.tasks.Drawn.TheVariants as drawn
+use Rattle.msc_answer.specs.declared.tasks.ReverseArgs.{ReverseArgs}
+use Rattle.msc_answer.specs.declared.tasks.ExplainArgs.{ExplainArgs}
+use Rattle.msc_answer.specs.declared.tasks.FollowArgs.{FollowArgs}
+use Rattle.msc_answer.specs.declared.tasks.DiagramArgs.{DiagramArgs}
+use Rattle.msc_answer.specs.declared.tasks.ImportArgs.{ImportArgs}
+use Rattle.msc_answer.specs.declared.tasks.ChosenArgs.{ChosenArgs}
+use Rattle.msc_answer.specs.declared.tasks.TextArgs.{TextArgs}
+use Rattle.msc_answer.specs.declared.tasks.EventStyle.{EventStyle}
+use Rattle.msc_answer.specs.declared.tasks.QuietArgs.{QuietArgs}
+use Rattle.msc_answer.specs.declared.tasks.ReadyArgs.{ReadyArgs}
+use Rattle.msc_answer.specs.declared.tasks.ReportArgs.{ReportArgs}
+use Rattle.msc_answer.specs.declared.tasks.ScenarioArgs.{ScenarioArgs}
+use Rattle.msc_answer.specs.declared.tasks.ChartCommand.TheVariants.{Check, Quiet, Explain, Follow, Run, List as Listing, Ready}
+use Rattle.msc_answer.specs.declared.tasks.Format.{Format}
+use Rattle.msc_answer.specs.declared.tasks.Format.TheVariants as formats
+use Rattle.msc_answer.specs.declared.tasks.LinkWords.{LinkWords}
+use Rattle.msc_answer.specs.declared.tasks.Task.{Task}
+use Rattle.msc_answer.specs.declared.tasks.Task.TheVariants.{Read, Chart, Draw, Import, Scenarios, Report}
 use Rattle.msc_command.specs.declared.words.CommandName.{CommandName}
 use Rattle.msc_command.specs.declared.words.CommandName.TheVariants as command_names
 use Rattle.msc_command.specs.declared.words.ArgName.{ArgName}
 use Rattle.msc_command.specs.declared.words.ArgName.TheVariants as words
-use Rattle.msc_command.specs.Importing.{gives_choices, gives_rounds, title_of}
-use Rattle.msc_command.specs.Words.{format_of_word, arg_word}
+use Rattle.msc_answer.specs.Importing.{gives_choices, gives_rounds, title_of}
+use Rattle.msc_command.specs.Words.{arg_word}
+use Rattle.msc_answer.specs.Tasks.{format_of_word, is_full, unlimited}
 
 -- the word by which a text is asked for its own queues
 abbrev pub is_own_word : List ℕ → Bool
@@ -137,10 +139,6 @@ names_kind words kind = list_any (λ word. bytes_eq word (kind_word kind)) words
 abbrev pub AreAllowed : Found → KindSet → Type 0
 AreAllowed found set = (kind : RaceKind) → has_kind set kind ≡ names_kind (args_of found (arg_word words.Allow)) kind
 
--- how many races are listed and shown where no option says: more than any chart has
-abbrev pub unlimited : ℕ
-unlimited = 4294967295
-
 -- after how many rounds of takes in a row without a find an instance gives up, where no option says
 abbrev pub default_patience : ℕ
 default_patience = 1000000000
@@ -166,13 +164,6 @@ format found = format_named (first_value found (arg_word words.ChartFormat))
 -- the same of the words of `ready`
 abbrev pub format_of_sticks : Found → Format
 format_of_sticks found = format_named (first_value found (arg_word words.FormatSticks))
-
--- whether a format is that of findings as people read them
-abbrev pub is_full : Format → Bool
-is_full formats.Text = false
-is_full formats.Count = false
-is_full formats.Lines = false
-is_full formats.Full = true
 
 -- how many races of a chart are shown by runs in a format, if no word gives a number
 abbrev pub runs_in : Format → ℕ
@@ -223,6 +214,7 @@ pub record AreCheckArgs (found : Found) (shown : ℕ) (c : CheckArgs) : Type 0 w
   pub auto : Bool
   pub colours : c.colours ≡ colours_by (first_value found (arg_word words.Color)) auto
   pub event_style : IsEventStyle found c.event_style
+  pub following : c.following ≡ Help
 
 -- what the words of `check` ask the status to tell alone
 pub record AreQuietArgs (found : Found) (x : QuietArgs) : Type 0 where
@@ -273,7 +265,7 @@ pub record AreReadyArgs (found : Found) (x : ReadyArgs) : Type 0 where
   pub architecture_is : architecture found ≡ Some x.queues
   pub only : map (λ word. word.now) x.only.now ≡ args_of found (arg_word words.Only)
   pub show : IsOptionNumber found (arg_word words.ShowSticks) (runs_in (format_of_sticks found)) x.show
-  pub again : IsFlag found (arg_word words.Again) x.again
+  pub again : IsFlag found (arg_word words.AgainSticks) x.again
   pub format_is : x.format ≡ format_of_sticks found
   pub auto : Bool
   pub colours : x.colours ≡ colours_by (first_value found (arg_word words.Color)) auto

@@ -12,13 +12,14 @@ use Rattle.clap.specs.declared.builder.value_parser.ValueParser.TheVariants.{Nam
 use Rattle.clap.specs.declared.error.kind.ErrorKind.{ErrorKind}
 use Rattle.msc_chart.specs.Architectures.{link_word}
 use Rattle.msc_chart.specs.declared.queue.LinkKind.TheVariants.{Pair, Mailbox, Single}
-use Rattle.msc_command.specs.declared.grammar.Choices.{Choices}
-use Rattle.msc_command.specs.declared.tasks.Format.TheVariants as formats
+use Rattle.msc_command.specs.declared.alternatives.Choices.{Choices}
+use Rattle.msc_answer.specs.declared.tasks.Format.TheVariants as formats
 use Rattle.msc_command.specs.declared.words.ValueKind.{ValueKind}
 use Rattle.msc_command.specs.declared.words.ValueKind.TheVariants as value_kind
 use Rattle.msc_command.specs.declared.words.CommandName.{CommandName}
 use Rattle.msc_command.specs.declared.words.ArgName.{ArgName}
-use Rattle.msc_command.specs.Words.{format_word, value_kind_of, command_word, command_of_word, command_names, arg_word, args_of, color_words, cross_words, language_words, own_words, par_words, stick_format_words}
+use Rattle.msc_command.specs.Words.{value_kind_of, command_word, command_of_word, command_names, arg_word, args_of, color_words, cross_words, language_words, own_words, par_words, shell_words, stick_format_words}
+use Rattle.msc_answer.specs.Tasks.{format_word}
 use Rattle.msc_reason.specs.Causes.{kind_word}
 use Rattle.msc_reason.specs.declared.cause.RaceKind.TheVariants.{Early, Queues, Unordered, Overtaken}
 
@@ -49,6 +50,10 @@ number_parser = Signed (pos 0) (pos 4294967295)
 -- an argument that names a file or an event
 abbrev pub file_rule : Text → Rule
 file_rule name = record (new_rule name) { required = true }
+
+-- an argument that is one of the words that a parser takes
+abbrev pub one_rule : Text → ValueParser → Rule
+one_rule name parser = record (new_rule name) { parser = Some parser; required = true }
 
 -- an option that stands alone
 abbrev pub flag_rule : Text → Rule
@@ -105,6 +110,7 @@ pub record Parsers : Type 0 where
   pub owns : ValueParser
   pub crosses : ValueParser
   pub pars : ValueParser
+  pub shells : ValueParser
 
 -- those that take these words
 abbrev pub parsers_of : Choices → Parsers
@@ -118,12 +124,14 @@ parsers_of lent = record {
   owns = Names lent.owns.words;
   crosses = Names lent.crosses.words;
   pars = Names lent.pars.words;
+  shells = Names lent.shells.words;
 }
 
 -- how a word of this name that takes this is read
 abbrev pub rule_by : Parsers → Text → ValueKind → Rule
 rule_by p name value_kind.File = file_rule name
 rule_by p name value_kind.Event = file_rule name
+rule_by p name value_kind.Shell = one_rule name p.shells
 rule_by p name value_kind.Nothing = flag_rule name
 rule_by p name value_kind.NothingOrQ = letter_rule name
 rule_by p name value_kind.Number = number_rule name
@@ -184,8 +192,8 @@ abbrev pub IsOneOf : List Text → ValueParser → Type 0
 IsOneOf words parser = (names : Bor (List (Bor Text)))
     × (parser ≡ Names names) × (map (λ name. name.now) names.now ≡ words)
 
--- the parsers take the words of architectures, of kinds, of forms, of colours, of languages, and of
--- what arrows and parallel branches are
+-- the parsers take the words of architectures, of kinds, of forms, of colours, of languages, of what
+-- arrows and parallel branches are, and of shells
 pub record AreParsers (p : Parsers) : Type 0 where
   pub architectures : IsOneOf architecture_words p.architectures
   pub kinds : IsOneOf kind_words p.kinds
@@ -196,6 +204,7 @@ pub record AreParsers (p : Parsers) : Type 0 where
   pub owns : IsOneOf own_words p.owns
   pub crosses : IsOneOf cross_words p.crosses
   pub pars : IsOneOf par_words p.pars
+  pub shells : IsOneOf shell_words p.shells
 
 -- what `clap` is told of the program's words
 abbrev pub IsGrammar : App → Type 0

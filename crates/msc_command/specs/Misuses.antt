@@ -5,11 +5,12 @@ use Rattle.clap.specs.Matches.{first_value}
 use Rattle.clap.specs.declared.parser.matches.Found.{Found}
 use Rattle.msc_report.specs.declared.pair.EventName.{EventName}
 use Rattle.msc_command.specs.Asking.{architecture, default_limit, is_limit, is_of_scenarios, lacks_from, lacks_queues, lacks_rounds, IsEventWord, IsFlag, IsNoName, IsOptionNumber, IsOrigin, IsTwofold}
-use Rattle.msc_command.specs.Importing.{gives_choices, gives_rounds}
+use Rattle.msc_answer.specs.Importing.{gives_choices, gives_rounds}
+use Rattle.msc_command.specs.Invocations.{shell_in}
 use Rattle.msc_command.specs.Words.{arg_word}
 use Rattle.msc_command.specs.declared.misuse.Misuse.{Misuse}
-use Rattle.msc_command.specs.declared.misuse.Misuse.TheVariants.{Excluded, NoQueues, LacksEvent, NoEvent, NoChoices, NoDiagram, NotOfDiagrams, NoRounds, NoLimit}
-use Rattle.msc_command.specs.declared.tasks.ChosenArgs.{ChosenArgs}
+use Rattle.msc_command.specs.declared.misuse.Misuse.TheVariants.{Excluded, NoQueues, Lacks, NoEvent, NoChoices, NoDiagram, NotOfDiagrams, NoRounds, NoLimit}
+use Rattle.msc_answer.specs.declared.tasks.ChosenArgs.{ChosenArgs}
 use Rattle.msc_command.specs.declared.words.CommandName.{CommandName}
 use Rattle.msc_command.specs.declared.words.CommandName.TheVariants as command_names
 use Rattle.msc_command.specs.declared.words.ArgName.{ArgName}
@@ -22,7 +23,7 @@ IsQueuesMisuse found misuse = (misuse ≡ NoQueues) × (architecture found ≡ N
 -- the word for an event is missing
 abbrev pub IsMissing : Found → ArgName → Misuse → Type 0
 IsMissing found word misuse =
-    (misuse ≡ LacksEvent word) × (first_value found (arg_word word) ≡ None)
+    (misuse ≡ Lacks word) × (first_value found (arg_word word) ≡ None)
 
 -- the word for an event is given and names none
 pub record IsNoEvent (found : Found) (word : ArgName) (misuse : Misuse) : Type 0 where
@@ -34,6 +35,10 @@ pub record IsNoEvent (found : Found) (word : ArgName) (misuse : Misuse) : Type 0
 -- the word for an event is missing, or names none
 abbrev pub IsEventMisuse : Found → ArgName → Misuse → Type 0
 IsEventMisuse found word misuse = IsMissing found word misuse ⊎ IsNoEvent found word misuse
+
+-- the word for a shell is missing, or names none
+abbrev pub IsShellMisuse : Found → Misuse → Type 0
+IsShellMisuse found misuse = (misuse ≡ Lacks words.Shell) × (shell_in found ≡ None)
 
 -- this is so of the first of two events; or of the second one, behind a first that is named
 abbrev pub IsPairMisuse : Found → Misuse → Type 0
@@ -107,6 +112,7 @@ IsWordMisuse command_names.Read found misuse = IsOriginMisuse found misuse
 IsWordMisuse command_names.List found misuse = IsOriginMisuse found misuse
 IsWordMisuse command_names.Draw found misuse = IsDrawMisuse found misuse
 IsWordMisuse command_names.Import found misuse = IsImportMisuse found misuse
+IsWordMisuse command_names.Completions found misuse = IsShellMisuse found misuse
 IsWordMisuse command_names.Check found misuse = IsQueuesMisuse found misuse ⊎ IsCheckMisuse found misuse
 IsWordMisuse command_names.Explain found misuse = IsQueuesMisuse found misuse ⊎ IsPairedMisuse found misuse
 IsWordMisuse command_names.Reverse found misuse = IsQueuesMisuse found misuse ⊎ IsPairedMisuse found misuse

@@ -8,20 +8,24 @@ use Rattle.clap.specs.declared.parser.matches.ArgMatches.{ArgMatches}
 use Rattle.clap.specs.declared.parser.matches.Found.{Found}
 use Rattle.msc_markdown.specs.Markdowns.{Found as Markdown}
 use Rattle.msc_source.specs.Inputs.{IsReadFrom}
-use Rattle.msc_command.specs.Answering.{EndsAs, Prints}
-use Rattle.msc_command.specs.Asking.{file_of, AsksFor, IsTwofold}
+use Rattle.msc_answer.specs.Answering.{EndsAs, Prints}
+use Rattle.msc_command.specs.Asking.{file_of, IsTwofold}
 use Rattle.msc_command.specs.Grammar.{AreAnswered, AreTaken}
+use Rattle.msc_command.specs.Invocations.{Invokes}
 use Rattle.msc_command.specs.Misuses.{IsNoCommand}
-use Rattle.msc_command.specs.Refused.{AreTold}
-use Rattle.msc_command.specs.Surveys.{many_in, Surveys}
+use Rattle.msc_answer.specs.Refused.{AreTold}
+use Rattle.msc_answer.specs.Surveys.{many_in, Surveys}
 use Rattle.msc_command.specs.Words.{command_of_word}
-use Rattle.msc_command.specs.declared.ending.Refusal.{Refusal}
-use Rattle.msc_command.specs.declared.ending.Status.{Status}
-use Rattle.msc_command.specs.declared.ending.Status.TheVariants.{Done, Races, Refused, Unfinished, Failed}
-use Rattle.msc_command.specs.declared.tasks.RefusalForm.{RefusalForm}
-use Rattle.msc_command.specs.declared.tasks.ScenarioArgs.{ScenarioArgs}
-use Rattle.msc_command.specs.declared.tasks.Task.{Task}
+use Rattle.msc_answer.specs.declared.ending.Refusal.{Refusal}
+use Rattle.msc_answer.specs.declared.ending.Status.{Status}
+use Rattle.msc_answer.specs.declared.ending.Status.TheVariants.{Done, Races, Refused, Unfinished, Failed}
+use Rattle.msc_answer.specs.declared.tasks.RefusalForm.{RefusalForm}
+use Rattle.msc_answer.specs.declared.tasks.ScenarioArgs.{ScenarioArgs}
+use Rattle.msc_answer.specs.declared.tasks.Task.{Task}
+use Rattle.msc_command.specs.declared.invocation.Invocation.{Invocation}
+use Rattle.msc_command.specs.declared.invocation.Invocation.TheVariants as invocations
 use Rattle.msc_command.specs.declared.words.CommandName.{CommandName}
+use Rattle.msc_command.specs.declared.words.Shell.{Shell}
 
 -- a text is all bytes of the input where FILE is `-`
 abbrev pub IsFileText : Found → Option (List ℕ) → Option (List ℕ) → List ℕ → Type 0
@@ -31,10 +35,10 @@ IsFileText found rest left text = file_of found ≡ codes "-" → IsReadFrom res
 abbrev pub IsNamedVainly : List ℕ → Found → Type 0
 IsNamedVainly name found = MatchOption (command_of_word name) (Unit {0}) (λ command_name. IsNoCommand command_name found)
 
--- the words behind a command of this name ask for a task
-abbrev pub IsNamed : List ℕ → Found → Task → Type 0
-IsNamed name found task =
-    (command_name : CommandName) × (command_of_word name ≡ Some command_name) × AsksFor command_name found task × IsTwofold found false
+-- the words behind a command of this name ask for this
+abbrev pub IsNamed : List ℕ → Found → Invocation → Type 0
+IsNamed name found invocation =
+    (command_name : CommandName) × (command_of_word name ≡ Some command_name) × Invokes command_name found invocation × IsTwofold found false
 
 -- nothing is done for words that name no task
 pub record AsksNothing {W : Type 0} (name : List ℕ) (found : Found) (status : Status) (old new : W) : Type 0 where
@@ -45,14 +49,30 @@ pub record AsksNothing {W : Type 0} (name : List ℕ) (found : Found) (status : 
 -- a task that the words behind a command ask for was performed
 pub record PerformsAsked {W : Type 0} (contents : W → Option (List ℕ)) (name : List ℕ) (found : Found) (status : Status) (reads : List ℕ → Type 0) (old new : W) : Type 0 where
   pub task : Task
-  pub asked : IsNamed name found task
+  pub asked : IsNamed name found (invocations.Task task)
   pub ends : EndsAs contents task (file_of found) reads status old new
 
--- The words behind a command were obeyed as a status tells: a task that they ask for was performed,
--- or they ask for none.
-abbrev pub Obeys : {W : Type 0} → (W → Option (List ℕ)) → List ℕ → Found → Status → (List ℕ → Type 0) → W → W → Type 0
-Obeys contents name found status reads old new =
-    AsksNothing name found status old new ⊎ PerformsAsked contents name found status reads old new
+-- The completions of a shell follow the known bytes of a writer; or memory ran out, or the writer
+-- failed. Which bytes they are is only tested.
+abbrev pub IsCompleted : {W : Type 0} → (W → Option (List ℕ)) → Status → W → W → Type 0
+IsCompleted contents Done old new = (printed : List ℕ) × Appends (contents old) (contents new) printed
+IsCompleted contents Failed old new = Unit {0}
+IsCompleted contents status old new = ⊥
+
+-- the completions of a shell that the words behind a command ask for were printed, and the input was
+-- not touched
+pub record CompletesAsked {R W : Type 0} (contents : W → Option (List ℕ)) (name : List ℕ) (found : Found) (status : Status) (rest left : R) (old new : W) : Type 0 where
+  pub shell : Shell
+  pub asked : IsNamed name found (invocations.Completions shell)
+  pub ends : IsCompleted contents status old new
+  pub unread : left ≡ rest
+
+-- The words behind a command were obeyed as a status tells: they ask for nothing; or a task that they
+-- ask for was performed; or the completions of a shell were printed.
+abbrev pub Obeys : {R W : Type 0} → (W → Option (List ℕ)) → List ℕ → Found → Status → (List ℕ → Type 0) → R → R → W → W → Type 0
+Obeys contents name found status reads rest left old new =
+    AsksNothing name found status old new
+    ⊎ (PerformsAsked contents name found status reads old new ⊎ CompletesAsked contents name found status rest left old new)
 
 -- where FILE is not `-` the input is not touched
 abbrev pub LeavesInput : {R : Type 0} → Found → R → R → Type 0
@@ -63,7 +83,7 @@ LeavesInput found input_old input_new = file_of found ≢ codes "-" → input_ne
 abbrev pub ObeysNamed : {R W : Type 0} → (R → Option (List ℕ)) → (W → Option (List ℕ)) → Text × List Row → Status → R → R → W → W → Type 0
 ObeysNamed remaining contents named status rest left old new =
     (found : Found) × (named.1 ≡ rows_of found)
-    × Obeys contents named.0 found status (IsFileText found (remaining rest) (remaining left)) old new
+    × Obeys contents named.0 found status (IsFileText found (remaining rest) (remaining left)) rest left old new
     × LeavesInput found rest left
 
 -- The words that `clap` took are obeyed; such as name no command are refused.

@@ -1,16 +1,16 @@
--- The commands of the program and the words behind them.
-use Rattle.std.specs.Prelude.{ℕ, List, [], ◌∷◌, Option, codes, find}
+-- The commands of the program and their words.
+use Rattle.std.specs.Prelude.{ℕ, Bool, true, false, List, [], ◌∷◌, Option, codes, find}
 use Rattle.std.specs.Str.{bytes_eq}
-use Rattle.msc_command.specs.declared.tasks.Format.{Format}
-use Rattle.msc_command.specs.declared.tasks.Format.TheVariants as formats
 use Rattle.msc_command.specs.declared.words.ValueKind.{ValueKind}
 use Rattle.msc_command.specs.declared.words.ValueKind.TheVariants as value_kind
 use Rattle.msc_command.specs.declared.words.CommandName.{CommandName}
-use Rattle.msc_command.specs.declared.words.CommandName.TheVariants.{Read, Check, Explain, Follow, Run, List as Listing, Draw, Reverse, Report, Ready, Import}
+use Rattle.msc_command.specs.declared.words.CommandName.TheVariants.{Read, Check, Explain, Follow, Run, List as Listing, Draw, Reverse, Report, Ready, Import, Completions}
+use Rattle.msc_command.specs.declared.words.Shell.{Shell as ShellName}
+use Rattle.msc_command.specs.declared.words.Shell.TheVariants.{Bash, Zsh, Fish}
 use Rattle.msc_command.specs.declared.words.ArgName.{ArgName}
-use Rattle.msc_command.specs.declared.words.ArgName.TheVariants.{File, Queues, QueuesIfAny, Pair, Mailbox, Single, Closest, Why, Most, Show, ShowSticks, Only, Allow, ChartFormat, FormatSticks, Color, Quiet, Words, Short, Accept, Again, Patience, Places, Plain, Svg, FirstEvent, SecondEvent, From, ScenarioFrom, Choose, Listed, Name, Own, Cross, Par, ScenariosFrom, Rounds, Limit, Fence}
+use Rattle.msc_command.specs.declared.words.ArgName.TheVariants.{File, Queues, QueuesIfAny, Pair, Mailbox, Single, Closest, Why, Most, Show, ShowSticks, Only, Allow, ChartFormat, FormatSticks, Color, Quiet, Words, Short, Accept, Again, AgainSticks, Patience, Places, Plain, Svg, FirstEvent, SecondEvent, Shell, From, ScenarioFrom, Choose, Listed, Name, Own, Cross, Par, ScenariosFrom, Rounds, Limit, Fence}
 
--- the name of a word behind a command
+-- the name of a word of a command
 abbrev pub arg_word : ArgName → List ℕ
 arg_word File = codes "FILE"
 arg_word Queues = codes "queues"
@@ -33,6 +33,7 @@ arg_word Words = codes "words"
 arg_word Short = codes "short"
 arg_word Accept = codes "accept"
 arg_word Again = codes "again"
+arg_word AgainSticks = codes "again"
 arg_word Patience = codes "patience"
 arg_word Places = codes "places"
 arg_word Plain = codes "plain"
@@ -51,6 +52,7 @@ arg_word Limit = codes "limit"
 arg_word Fence = codes "fence"
 arg_word FirstEvent = codes "E"
 arg_word SecondEvent = codes "F"
+arg_word Shell = codes "SHELL"
 
 -- what it is, and takes
 abbrev pub value_kind_of : ArgName → ValueKind
@@ -75,6 +77,7 @@ value_kind_of Words = value_kind.Nothing
 value_kind_of Short = value_kind.Nothing
 value_kind_of Accept = value_kind.Nothing
 value_kind_of Again = value_kind.Nothing
+value_kind_of AgainSticks = value_kind.Nothing
 value_kind_of Patience = value_kind.Number
 value_kind_of Places = value_kind.Nothing
 value_kind_of Plain = value_kind.Nothing
@@ -93,6 +96,27 @@ value_kind_of Limit = value_kind.Number
 value_kind_of Fence = value_kind.Number
 value_kind_of FirstEvent = value_kind.Event
 value_kind_of SecondEvent = value_kind.Event
+value_kind_of Shell = value_kind.Shell
+
+-- a word of this kind is an argument; otherwise it is an option
+abbrev pub is_argument : ValueKind → Bool
+is_argument value_kind.File = true
+is_argument value_kind.Event = true
+is_argument value_kind.Shell = true
+is_argument kind = false
+
+-- an option of this kind has a value
+abbrev pub has_value : ValueKind → Bool
+has_value value_kind.Nothing = false
+has_value value_kind.NothingOrQ = false
+has_value kind = true
+
+-- an option of this kind may be repeated
+abbrev pub may_be_repeated : ValueKind → Bool
+may_be_repeated value_kind.Kinds = true
+may_be_repeated value_kind.Names = true
+may_be_repeated value_kind.Links = true
+may_be_repeated kind = false
 
 -- the name of a command
 abbrev pub command_word : CommandName → List ℕ
@@ -107,47 +131,55 @@ command_word Reverse = codes "reverse"
 command_word Report = codes "report"
 command_word Ready = codes "ready"
 command_word Import = codes "import"
+command_word Completions = codes "completions"
 
 -- all commands
 abbrev pub command_names : List CommandName
-command_names = Read ∷ Check ∷ Explain ∷ Follow ∷ Run ∷ Listing ∷ Draw ∷ Reverse ∷ Report ∷ Ready ∷ Import ∷ []
+command_names = Read ∷ Check ∷ Explain ∷ Follow ∷ Run ∷ Listing ∷ Draw ∷ Reverse ∷ Report ∷ Ready ∷ Import ∷ Completions ∷ []
 
 -- the command of a name
 unfoldable pub command_of_word : List ℕ → Option CommandName
 command_of_word name = find (λ command_name. bytes_eq name (command_word command_name)) command_names
 
--- the words behind a command
+-- the words of a command
 abbrev pub args_of : CommandName → List ArgName
-args_of Read = ScenarioFrom ∷ Choose ∷ Fence ∷ Name ∷ Own ∷ Cross ∷ Par ∷ Places ∷ Plain ∷ File ∷ []
+args_of Read = Places ∷ Plain ∷ ScenarioFrom ∷ Choose ∷ Fence ∷ Name ∷ Own ∷ Cross ∷ Par ∷ File ∷ []
 args_of Check =
-    Queues ∷ Pair ∷ Mailbox ∷ Single ∷ Closest ∷ Why ∷ Most ∷ Show ∷ Allow ∷ Accept ∷ Again ∷ ChartFormat ∷ Color ∷ Quiet ∷ Words ∷ Short
-    ∷ ScenariosFrom ∷ Choose ∷ Rounds ∷ Limit ∷ Fence ∷ Name ∷ Own ∷ Cross ∷ Par ∷ Places ∷ Plain ∷ File ∷ []
-args_of Explain = Queues ∷ Pair ∷ Mailbox ∷ Single ∷ Words ∷ Short ∷ ScenarioFrom ∷ Choose ∷ Fence ∷ Name ∷ Own ∷ Cross ∷ Par ∷ Places ∷ Plain ∷ File ∷ FirstEvent ∷ SecondEvent ∷ []
-args_of Follow = Queues ∷ Pair ∷ Mailbox ∷ Single ∷ Words ∷ ScenarioFrom ∷ Choose ∷ Fence ∷ Name ∷ Own ∷ Cross ∷ Par ∷ Places ∷ Plain ∷ File ∷ []
-args_of Run = Queues ∷ Pair ∷ Mailbox ∷ Single ∷ Patience ∷ ScenarioFrom ∷ Choose ∷ Fence ∷ Name ∷ Own ∷ Cross ∷ Par ∷ Places ∷ Plain ∷ File ∷ []
-args_of Listing = ScenarioFrom ∷ Choose ∷ Fence ∷ Name ∷ Own ∷ Cross ∷ Par ∷ Places ∷ Plain ∷ File ∷ []
-args_of Draw = QueuesIfAny ∷ Pair ∷ Mailbox ∷ Single ∷ Svg ∷ ScenarioFrom ∷ Choose ∷ Fence ∷ Name ∷ Own ∷ Cross ∷ Par ∷ Places ∷ Plain ∷ File ∷ []
-args_of Reverse = Queues ∷ Pair ∷ Mailbox ∷ Single ∷ Svg ∷ ScenarioFrom ∷ Choose ∷ Fence ∷ Name ∷ Own ∷ Cross ∷ Par ∷ Places ∷ Plain ∷ File ∷ FirstEvent ∷ SecondEvent ∷ []
-args_of Report = Queues ∷ Pair ∷ Mailbox ∷ Single ∷ ScenarioFrom ∷ Choose ∷ Fence ∷ Name ∷ Own ∷ Cross ∷ Par ∷ Places ∷ Plain ∷ File ∷ []
+    ChartFormat ∷ Color ∷ Quiet ∷ Words ∷ Short ∷ Places ∷ Plain ∷ Queues ∷ Pair ∷ Mailbox ∷ Single ∷ Closest ∷ Why ∷ Most ∷ Show ∷ Allow ∷ Accept ∷ Again
+    ∷ ScenariosFrom ∷ Choose ∷ Rounds ∷ Limit ∷ Fence ∷ Name ∷ Own ∷ Cross ∷ Par ∷ File ∷ []
+args_of Explain =
+    Words ∷ Short ∷ Places ∷ Plain ∷ Queues ∷ Pair ∷ Mailbox ∷ Single ∷ ScenarioFrom ∷ Choose ∷ Fence ∷ Name ∷ Own ∷ Cross ∷ Par ∷ File ∷ FirstEvent ∷ SecondEvent ∷ []
+args_of Follow = Words ∷ Places ∷ Plain ∷ Queues ∷ Pair ∷ Mailbox ∷ Single ∷ ScenarioFrom ∷ Choose ∷ Fence ∷ Name ∷ Own ∷ Cross ∷ Par ∷ File ∷ []
+args_of Run = Places ∷ Plain ∷ Queues ∷ Pair ∷ Mailbox ∷ Single ∷ Patience ∷ ScenarioFrom ∷ Choose ∷ Fence ∷ Name ∷ Own ∷ Cross ∷ Par ∷ File ∷ []
+args_of Listing = Places ∷ Plain ∷ ScenarioFrom ∷ Choose ∷ Fence ∷ Name ∷ Own ∷ Cross ∷ Par ∷ File ∷ []
+args_of Draw =
+    Svg ∷ Places ∷ Plain ∷ QueuesIfAny ∷ Pair ∷ Mailbox ∷ Single ∷ ScenarioFrom ∷ Choose ∷ Fence ∷ Name ∷ Own ∷ Cross ∷ Par ∷ File ∷ []
+args_of Reverse =
+    Svg ∷ Places ∷ Plain ∷ Queues ∷ Pair ∷ Mailbox ∷ Single ∷ ScenarioFrom ∷ Choose ∷ Fence ∷ Name ∷ Own ∷ Cross ∷ Par ∷ File ∷ FirstEvent ∷ SecondEvent ∷ []
+args_of Report = Places ∷ Plain ∷ Queues ∷ Pair ∷ Mailbox ∷ Single ∷ ScenarioFrom ∷ Choose ∷ Fence ∷ Name ∷ Own ∷ Cross ∷ Par ∷ File ∷ []
 args_of Ready =
-    Queues ∷ Pair ∷ Mailbox ∷ Single ∷ Only ∷ ShowSticks ∷ Again ∷ FormatSticks ∷ Color ∷ Words ∷ ScenarioFrom ∷ Choose ∷ Fence ∷ Name ∷ Own ∷ Cross ∷ Par ∷ Places ∷ Plain ∷ File ∷ []
+    FormatSticks ∷ Color ∷ Words ∷ Places ∷ Plain ∷ Queues ∷ Pair ∷ Mailbox ∷ Single ∷ Only ∷ ShowSticks ∷ AgainSticks ∷ ScenarioFrom ∷ Choose ∷ Fence ∷ Name ∷ Own ∷ Cross ∷ Par ∷ File ∷ []
 args_of Import =
-    From ∷ Fence ∷ Choose ∷ Listed ∷ Name ∷ Own ∷ Cross ∷ Par ∷ Places ∷ Plain ∷ File ∷ []
+    Listed ∷ Places ∷ Plain ∷ From ∷ Choose ∷ Fence ∷ Name ∷ Own ∷ Cross ∷ Par ∷ File ∷ []
+args_of Completions = Shell ∷ []
 
--- the word for the format of an answer
-abbrev pub format_word : Format → List ℕ
-format_word formats.Text = codes "text"
-format_word formats.Count = codes "count"
-format_word formats.Lines = codes "lines"
-format_word formats.Full = codes "full"
+-- the name of a shell
+abbrev pub shell_word : ShellName → List ℕ
+shell_word Bash = codes "bash"
+shell_word Zsh = codes "zsh"
+shell_word Fish = codes "fish"
 
--- all forms
-abbrev pub formats_all : List Format
-formats_all = formats.Text ∷ formats.Count ∷ formats.Lines ∷ formats.Full ∷ []
+-- all shells
+abbrev pub shell_names : List ShellName
+shell_names = Bash ∷ Zsh ∷ Fish ∷ []
 
--- the form of a word
-unfoldable pub format_of_word : List ℕ → Option Format
-format_of_word word = find (λ format. bytes_eq word (format_word format)) formats_all
+-- the shell of a name
+unfoldable pub shell_of_word : List ℕ → Option ShellName
+shell_of_word name = find (λ shell. bytes_eq name (shell_word shell)) shell_names
+
+-- the words of the shells
+abbrev pub shell_words : List (List ℕ)
+shell_words = shell_word Bash ∷ shell_word Zsh ∷ shell_word Fish ∷ []
 
 -- the words for the formats of answers on ready instances
 abbrev pub stick_format_words : List (List ℕ)

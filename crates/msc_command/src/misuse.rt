@@ -2,8 +2,8 @@
 //! needs, or name no event. They are refused in the form in which `clap` refuses words. No clause
 //! is about what is printed; transcripts compare it.
 
-use crate::tasks::GREATEST_LIMIT;
 use crate::words::ArgName;
+use msc_answer::GREATEST_LIMIT;
 use std::io;
 use std::io::Write;
 
@@ -17,8 +17,8 @@ pub(crate) enum Misuse<'w> {
     Excluded,
     /// The option `--queues` is missing.
     NoQueues,
-    /// The argument for this event is missing.
-    LacksEvent(ArgName),
+    /// This argument is missing.
+    Lacks(ArgName),
     /// This argument, with this text, names no event.
     NoEvent(ArgName, &'w str),
     /// The word of `--choose` has no choices.
@@ -52,15 +52,15 @@ fn write_no_event<E: Write>(faults: &mut E, word: ArgName, text: &str) -> io::Re
     writeln!(faults, "{HELP}")
 }
 
-/// Writes that an argument is missing.
-fn write_missing<E: Write>(faults: &mut E, argument: &str) -> io::Result<()> {
+/// Writes that an option is missing.
+fn write_missing<E: Write>(faults: &mut E, option: &str) -> io::Result<()> {
     writeln!(
         faults,
-        "error: the following required arguments were not provided:\n  {argument}{HELP}"
+        "error: the following required arguments were not provided:\n  {option}{HELP}"
     )
 }
 
-/// Writes that the argument for an event is missing.
+/// Writes that an argument is missing.
 fn write_lacking<E: Write>(faults: &mut E, word: ArgName) -> io::Result<()> {
     let name = word.name();
     writeln!(
@@ -106,7 +106,7 @@ pub(crate) fn write_misuse<E: Write>(faults: &mut E, misuse: Misuse<'_>) -> io::
             "error: the argument '--places' cannot be used with '--plain'{HELP}"
         ),
         Misuse::NoQueues => write_missing(faults, "--queues <QUEUES>"),
-        Misuse::LacksEvent(word) => write_lacking(faults, word),
+        Misuse::Lacks(word) => write_lacking(faults, word),
         Misuse::NoEvent(word, text) => write_no_event(faults, word, text),
         Misuse::NoChoices(text) => {
             let expected = "main, or numbers with commas";

@@ -5,24 +5,25 @@ ghost use Rattle.std.specs.IoError.{error_kind};
 ghost use Rattle.std.specs.declared.io.ErrorKind.TheVariants.{OutOfMemory};
 ghost use Rattle.std.specs.String.{string_bytes};
 ghost use Rattle.clap.specs.Words.{found_of, kind_of};
-ghost use Rattle.msc_command.specs.Answering.{EndsAs};
-ghost use Rattle.msc_command.specs.Ending.{status_code};
+ghost use Rattle.msc_answer.specs.Answering.{EndsAs};
+ghost use Rattle.msc_answer.specs.Ending.{status_code};
 ghost use Rattle.msc_command.specs.Program.{EndsUsage, FollowsWords, IsFileText, IsNamed};
 ghost use Rattle.msc_command.specs.Program.{IsNamedVainly, LeavesInput, Obeys, ObeysMatches};
 ghost use Rattle.msc_command.specs.Program.{Tells, TellsAnswer, TellsRefused};
-ghost use Rattle.msc_command.specs.declared.ending.Status.{Status};
-ghost use Rattle.msc_command.specs.declared.ending.Status.TheVariants.{Races, Unfinished};
+ghost use Rattle.msc_answer.specs.declared.ending.Status.{Status};
+ghost use Rattle.msc_answer.specs.declared.ending.Status.TheVariants.{Races, Unfinished};
 ghost use Rattle.msc_source.specs.Inputs.{IsReadFrom};
 
-use crate::answering::{end_unread_task, perform};
-use crate::ending::{Status, end_with};
-use crate::grammar::{Lists, grammar};
+use crate::alternatives::Lists;
+use crate::asking::{file_of, notes_of};
+use crate::completions::print_completions;
+use crate::grammar::grammar;
+use crate::invocation::{Invocation, invocation_of};
 use crate::misuse::write_misuse;
-use crate::recorded::{ShowsColours, TellsFailure};
 use crate::shown::Shown;
-use crate::tasks::{Request, Task, file_of, notes_of, task_of};
 use crate::words::CommandName;
 use clap::{ArgMatches, Error};
+use msc_answer::{Request, ShowsColours, Status, TellsFailure, end_unread_task, end_with, perform};
 use msc_report::Fault;
 use msc_source::ReadFault;
 use std::alloc::{AllocError, Global};
@@ -75,19 +76,19 @@ fn tell_usage<O: Write, E: Write>(output: &mut O, faults: &mut E, error: &Error)
     }
 }
 
-/// The task of the words after a command of this name; `auto` says whether findings have colours
+/// What the words after a command of this name ask for; `auto` says whether findings have colours
 /// without `--color`. Why they are no command goes to `faults`.
-fn task_named<'w, E: Write>(
+fn invocation_named<'w, E: Write>(
     name: &str,
     words: &'w ArgMatches,
     auto: bool,
     faults: &mut E,
-) -> Option<Task<'w>>
+) -> Option<Invocation<'w>>
     ensures { MatchOption result (IsNamedVainly name.now (found_of words.entry.now))
         (IsNamed name.now (found_of words.entry.now)) }
 {
-    match task_of(CommandName::of(name)?, words, auto) {
-        Ok(task) => Some(task),
+    match invocation_of(CommandName::of(name)?, words, auto) {
+        Ok(invocation) => Some(invocation),
         Err(misuse) => {
             let _ = write_misuse(&mut Shown { inner: faults }, misuse);
             None
@@ -95,7 +96,7 @@ fn task_named<'w, E: Write>(
     }
 }
 
-/// Performs the task of the words after a command, and returns the status.
+/// Does what the words after a command ask for, and returns the status.
 fn obey<
     R: Files + Threads + Wait + Sync,
     I: Read,
@@ -112,21 +113,26 @@ fn obey<
 ) -> Status
     ensures obeyed { Obeys O.contents name.now (found_of words.now) result
         (IsFileText (found_of words.now) (I.remaining input.old) (I.remaining input.new))
-        output.old output.new }
+        input.old input.new output.old output.new }
     ensures apart { LeavesInput (found_of words.now) input.old input.new }
 {
-    let Some(task) = task_named(name, words, output.shows_colours(), faults) else {
+    let Some(invocation) = invocation_named(name, words, output.shows_colours(), faults) else {
         return Status::Refused;
     };
-    let request = Request {
-        task,
-        file: file_of(words),
-        notes: notes_of(words, faults.is_terminal()),
-    };
-    perform_on(rt, alloc, request, input, output, faults)
+    match invocation {
+        Invocation::Task(task) => {
+            let request = Request {
+                task,
+                file: file_of(words),
+                notes: notes_of(words, faults.is_terminal()),
+            };
+            perform_on(rt, alloc, request, input, output, faults)
+        }
+        Invocation::Completions(shell) => print_completions(alloc, shell, output, faults),
+    }
 }
 
-/// Performs the task of words that `clap` took, and returns the status.
+/// Does what words that `clap` took ask for, and returns the status.
 fn obey_matches<
     R: Files + Threads + Wait + Sync,
     I: Read,
@@ -150,7 +156,7 @@ fn obey_matches<
     }
 }
 
-/// Performs the task of the words, and returns the status. An error is a growth of memory that was
+/// Does what the words ask for, and returns the status. An error is a growth of memory that was
 /// refused before the words were known.
 fn run<
     R: Files + Threads + Wait + Sync,
@@ -219,20 +225,21 @@ pub fn refuse_words<E: Write>(faults: &mut E, error: &io::Error) -> u8
 ///   picture; `reverse --queues QUEUES FILE E F`: a run that reverses a race, as a picture; `report
 ///   --queues QUEUES FILE`: a page of HTML.
 /// - `import FILE`: the chart of a scenario of a sequence diagram.
+/// - `completions SHELL`: the completions of a shell (`bash`, `zsh`, `fish`); it reads no file.
 ///
 /// `--places` prints where events stand, and `--words` prints runs in words.
 ///
 /// Refusals are looked for in this order: the words, opening FILE, reading it, its text, the queues
-/// that it names, the rules for links, the pair of events or the names, its rounds, running it. The line of a refusal goes to `faults`, with
-/// notes if `--places` is given, or if `faults` is a terminal and `--plain` is not given. If that
-/// writing fails, the status stays.
+/// that it names, the rules for links, the pair of events or the names, its rounds, running it. The
+/// line of a refusal goes to `faults`, with notes if `--places` is given, or if `faults` is a terminal
+/// and `--plain` is not given. If that writing fails, the status stays.
 ///
 /// The status is 0 if the answer or the requested help was written. It is 1 if there are races that
 /// are not left out, if E is not enforced before F, if no run keeps the drawing, or if a system of
 /// ready instances can stick. It is 2 if the words are no command, or if the text, a diagram of a
-/// Markdown text, its queues, its rounds, the pair or a name was refused. It is 3 if some instance of an execution has not finished. It is 4
-/// if memory ran out, a thread could not be started, a file could not be opened or read, or the
-/// output could not be written.
+/// Markdown text, its queues, its rounds, the pair or a name was refused. It is 3 if some instance of
+/// an execution has not finished. It is 4 if memory ran out, a thread could not be started, a file
+/// could not be opened or read, or the output could not be written.
 pub fn command<
     R: Files + Threads + Wait + Sync,
     I: Read,

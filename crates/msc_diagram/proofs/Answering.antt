@@ -76,7 +76,7 @@ module _ {W : Type 0} (contents : W → Option (List ℕ)) (top : List ℕ) (sce
   pub all_end : (old mid new : W) (below : List (EventPlace × EventPlace)) (last final bottom : List ℕ) (passed : ℕ) (answer : Judged)
       → (p : PutsCases a scenarios [] below (contents old) (contents mid) page last passed) → IsSoFar (place_counts (asked form q) p.cases) p.cases
       → final ≡ last ++ bottom → bottom ≡ bottom_text form q (length scenarios) (place_counts (asked form q) p.cases) (stale_marks (asked form q) p.cases) (passed_of (asked form q) p.cases)
-      → answer ≡ judged_of (place_counts (asked form q) p.cases) (stale_marks (asked form q) p.cases) → Appends (contents mid) (contents new) final → TellsAll (Ok answer) old new
+      → answer ≡ judged_of form (place_counts (asked form q) p.cases) (stale_marks (asked form q) p.cases) → Appends (contents mid) (contents new) final → TellsAll (Ok answer) old new
   all_end old mid new below last final bottom passed answer p so_far ended is none out =
       let text = cases_text (has_heads a.format) a.check 1 [] p.cases in (
         page ++ (text ++ bottom),

@@ -6,8 +6,8 @@ use Rattle.msc_wording.specs.declared.checking.RacesFound.TheVariants.{InOneScen
 use Rattle.msc_wording.specs.declared.checking.SpokenCheck.{SpokenCheck}
 use Rattle.msc_wording.specs.declared.closing.MarkedText.TheVariants as texts
 use Rattle.msc_diagram.specs.declared.check.UsedMarks.{UsedMarks}
-use Rattle.msc_diagram.specs.declared.full.Following.{Following}
-use Rattle.msc_diagram.specs.declared.full.Following.TheVariants.{Help, Blank}
+use Rattle.msc_findings.specs.declared.format.Following.{Following}
+use Rattle.msc_findings.specs.declared.format.Following.TheVariants.{Help, Blank}
 use Rattle.msc_diagram.specs.declared.full.FullDiagram.{FullDiagram}
 use Rattle.msc_diagram.specs.declared.numbers.PlaceCounts.{PlaceCounts}
 

@@ -65,9 +65,16 @@ bottom_text Editor k count counts stale passed = each_stale k.marks stale_editor
 bottom_text (Full shown) k count counts stale passed =
     each_stale k.marks (stale_shown shown) stale ++ closing_text shown k.marks counts (length stale) k.options.most count passed
 
--- what is answered besides: how many places are listed, and how many marks are stale
-abbrev pub judged_of : PlaceCounts → List ℕ → Judged
-judged_of counts stale = record { listed = counts.listed; stale = length stale }
+-- how many places marks accept, if the form needs it
+abbrev pub accepted_in : DiagramFormat → PlaceCounts → Option ℕ
+accepted_in (Lines diagram_style) counts = counts.accepted
+accepted_in (Count file) counts = counts.accepted
+accepted_in Editor counts = None
+accepted_in (Full shown) counts = counts.accepted
+
+-- what was found: how many places are listed, how many marks accept, and how many marks are stale
+abbrev pub judged_of : DiagramFormat → PlaceCounts → List ℕ → Judged
+judged_of form counts stale = record { listed = counts.listed; accepted = accepted_in form counts; stale = length stale }
 
 -- These are the texts of the new races of a scenario under an architecture, of so many scenarios: by
 -- its number, the number of the first race, and at each place in how many scenarios a race counts.
@@ -102,7 +109,7 @@ pub record JudgesScenarios (top : List ℕ) (scenarios : List Scenario) (k : Sce
   pub counted : EventPlace × EventPlace → ℕ
   pub are_counted : AreCounted form scenarios k counted
   pub told : AreTold (AreTextsIn form k.queues (length scenarios) counted) (asked form k) 1 [] cases
-  pub answered : judged ≡ judged_of (place_counts (asked form k) cases) (stale_marks (asked form k) cases)
+  pub answered : judged ≡ judged_of form (place_counts (asked form k) cases) (stale_marks (asked form k) cases)
   pub text : printed
       ≡ told_so_far form top k (length scenarios) (place_counts (asked form k) cases) cases
       ++ bottom_text form k (length scenarios) (place_counts (asked form k) cases) (stale_marks (asked form k) cases) (passed_of (asked form k) cases)

@@ -7,9 +7,9 @@ ghost use Rattle.msc_diagram.specs.Closing.{check_of, closing_text, following_by
 ghost use Rattle.msc_diagram.specs.Closing.{has_marks, shown_of};
 
 use crate::check::UsedMarks;
-use crate::full::{Following, FullDiagram};
+use crate::full::FullDiagram;
 use crate::numbers::PlaceCounts;
-use msc_findings::print_diagram_help;
+use msc_findings::{Following, print_diagram_help};
 use msc_print::Page;
 use msc_wording::{RacesFound, SpokenCheck};
 use std::alloc::{AllocError, Global};

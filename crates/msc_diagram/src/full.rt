@@ -17,7 +17,7 @@ use crate::place::EventPlace;
 use crate::tally::PlaceTally;
 use crate::telling::{Head, NewPairs, print_scenario};
 use msc_chart::Queues;
-use msc_findings::{ClosingNames, FullScenario, ShownScenario};
+use msc_findings::{ClosingNames, Following, FullScenario, ShownScenario};
 use msc_judge::{CheckOptions, RaceRows};
 use msc_mermaid::Diagram;
 use msc_print::{Page, Pair, WriteFault};
@@ -25,15 +25,6 @@ use msc_reason::Listing;
 use msc_shown_diagram::{LentDiagram, ScenarioEvents, choices_said};
 use std::alloc::{AllocError, Global};
 use std::io::Write;
-
-/// What follows the closing line of a diagram.
-#[derive(Clone, Copy)]
-pub enum Following {
-    /// The help on marks, if races are listed and no mark was met.
-    Help,
-    /// An empty line.
-    Blank,
-}
 
 /// A diagram as its findings show it.
 #[derive(Clone, Copy)]

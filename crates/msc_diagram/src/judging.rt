@@ -37,11 +37,15 @@ pub struct DiagramStyle {
     pub drawn: bool,
 }
 
-/// What a check of scenarios found: the number of places of races that are listed, and that of stale
-/// marks.
+/// What a check of scenarios found.
 #[derive(Clone, Copy)]
 pub struct Judged {
+    /// The number of places of races that are listed.
     pub listed: u32,
+    /// The number of places of races that marks accept, if marks are used and the format needs it:
+    /// lines for editors do not.
+    pub accepted: Option<u32>,
+    /// The number of stale marks.
     pub stale: usize,
 }
 
@@ -189,6 +193,7 @@ fn write_known<S: Source, W: Write>(
     writer.write_all(page.bytes.as_slice())?;
     Ok(Judged {
         listed: counts.listed,
+        accepted: counts.accepted,
         stale: stale.len(),
     })
 }
@@ -266,6 +271,7 @@ fn write_editor<S: Source, W: Write>(
     writer.write_all(page.bytes.as_slice())?;
     Ok(Judged {
         listed: reported.len(),
+        accepted: None,
         stale: stale.len(),
     })
 }
@@ -317,6 +323,7 @@ fn write_count<S: Source, W: Write>(
     writer.write_all(page.bytes.as_slice())?;
     Ok(Judged {
         listed: counts.listed,
+        accepted: counts.accepted,
         stale: stale.len(),
     })
 }
@@ -366,6 +373,7 @@ fn write_found<S: Source, W: Write>(
     writer.write_all(page.bytes.as_slice())?;
     Ok(Judged {
         listed: counts.listed,
+        accepted: counts.accepted,
         stale: stale.len(),
     })
 }

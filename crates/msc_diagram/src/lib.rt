@@ -54,7 +54,7 @@ pub use check::{ScenarioCheck, UsedMarks};
 pub use closing::has_marks;
 pub use fault::{write_accept_fault, write_import_fault};
 pub use first_listed::new_races;
-pub use full::{Following, FullDiagram};
+pub use full::FullDiagram;
 pub use heads::write_diagram_top;
 pub use judging::{DiagramFormat, DiagramStyle, Judged, judge_scenarios};
 pub use lent::Lent;

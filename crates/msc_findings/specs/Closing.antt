@@ -12,6 +12,8 @@ use Rattle.msc_wording.specs.declared.closing.MarkedText.{MarkedText}
 use Rattle.msc_wording.specs.declared.closing.MarkedText.TheVariants.{Chart}
 use Rattle.msc_wording.specs.declared.readying.SpokenReadiness.{SpokenReadiness}
 use Rattle.msc_findings.specs.declared.closing.ClosingNames.{ClosingNames}
+use Rattle.msc_findings.specs.declared.format.Following.{Following}
+use Rattle.msc_findings.specs.declared.format.Following.TheVariants.{Help, Blank}
 use Rattle.msc_findings.specs.declared.format.FullFormat.{FullFormat}
 
 -- a number, or 0 if there is none
@@ -79,7 +81,15 @@ marked_help text colours = help_line text colours ++ codes "\n"
 abbrev pub help_part : FullFormat → Totals → List ℕ
 help_part x t = cond (helps x t) (marked_help Chart x.text.colours) []
 
+-- what follows the closing line
+abbrev pub following_by : Following → FullFormat → Totals → List ℕ
+following_by Help x t = help_part x t
+following_by Blank x t = codes "\n"
+
+abbrev pub following_part : FullFormat → Totals → List ℕ
+following_part x t = following_by x.following x t
+
 -- what closes an answer, if this does
 abbrev pub closing_part : FullFormat → Bool → Option Totals → List ℕ
 closing_part x can_happen None = []
-closing_part x can_happen (Some t) = closing_text x t can_happen ++ (codes "\n" ++ help_part x t)
+closing_part x can_happen (Some t) = closing_text x t can_happen ++ (codes "\n" ++ following_part x t)

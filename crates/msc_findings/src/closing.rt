@@ -3,12 +3,13 @@
 ghost use Rattle.std.specs.Prelude.{◌≡◌, ◌++◌, IfOk, OnOk};
 ghost use Rattle.std.specs.String.{string_bytes};
 ghost use Rattle.msc_findings.specs.Closing.{check_of, checked_text, closing_part, closing_text};
-ghost use Rattle.msc_findings.specs.Closing.{found_of, help_part, helps, line_with, listed_of};
+ghost use Rattle.msc_findings.specs.Closing.{following_part, found_of, help_part, helps};
+ghost use Rattle.msc_findings.specs.Closing.{line_with, listed_of};
 ghost use Rattle.msc_findings.specs.Closing.{marked_help, named_line, number_or_none};
 ghost use Rattle.msc_findings.specs.Closing.{readiness_text, shown_of};
 ghost use Rattle.msc_wording.specs.declared.closing.MarkedText.TheVariants.{Diagram};
 
-use crate::format::FullFormat;
+use crate::format::{Following, FullFormat};
 use msc_judge::{Heading, Totals};
 use msc_print::Page;
 use msc_wording::{
@@ -196,7 +197,23 @@ impl FullFormat<'_, '_> {
         print_marked_help(alloc, page, MarkedText::Chart, self.text.colours)
     }
 
-    /// Appends the closing line and the help on marks, if this closes the answer.
+    /// Appends what follows the closing line.
+    fn print_following(
+        &self,
+        alloc: Global,
+        page: &mut Page,
+        totals: Totals,
+    ) -> Result<(), AllocError>
+        ensures { OnOk result (page.new.bytes.items ≡ page.old.bytes.items
+            ++ following_part self.now totals) }
+    {
+        match self.following {
+            Following::Help => self.print_help(alloc, page, totals),
+            Following::Blank => page.bytes.extend_from_slice(b"\n"),
+        }
+    }
+
+    /// Appends the closing line and what follows it, if this closes the answer.
     pub(crate) fn print_closing(
         &self,
         alloc: Global,
@@ -213,6 +230,6 @@ impl FullFormat<'_, '_> {
         let line = self.closing_line(alloc, totals, can_happen)?;
         page.bytes.extend_from_slice(line.as_bytes())?;
         page.bytes.extend_from_slice(b"\n")?;
-        self.print_help(alloc, page, totals)
+        self.print_following(alloc, page, totals)
     }
 }

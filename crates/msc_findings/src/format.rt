@@ -15,6 +15,15 @@ pub struct ShownMark<'f> {
     pub stale: StaleMark<'f>,
 }
 
+/// What follows the closing line of a text.
+#[derive(Clone, Copy)]
+pub enum Following {
+    /// The help on marks, if races are listed and no mark was met.
+    Help,
+    /// An empty line.
+    Blank,
+}
+
 /// A text whose findings are shown.
 #[derive(Clone, Copy)]
 pub struct FullFormat<'f, 'w> {
@@ -25,6 +34,8 @@ pub struct FullFormat<'f, 'w> {
     pub file: &'w str,
     /// The architecture, as it is written.
     pub queues: &'w str,
+    /// What follows the closing line of a check.
+    pub following: Following,
 }
 
 /// The mark of an event.

@@ -18,7 +18,7 @@ mod scenario;
 mod sticks;
 
 pub use closing::{ClosingNames, print_diagram_help};
-pub use format::{FullFormat, ShownMark};
+pub use format::{Following, FullFormat, ShownMark};
 pub use races::FullRaces;
 pub use rounds::FullRounds;
 pub use scenario::{FullScenario, LoopRound, ShownScenario};

@@ -12,7 +12,7 @@ use msc_notes::{Note, Tag};
 use std::alloc::{AllocError, Global};
 
 /// The hint on the arrows that there are.
-pub(crate) const ARROWS: &[u8] = b"arrows are ->> -->> -> --> -x --x -) --) <<->> <<-->>";
+const ARROWS: &[u8] = b"arrows are ->> -->> -> --> -x --x -) --) <<->> <<-->>";
 
 /// The words that a misspelt one may have been, in the order of their bytes.
 const NEAR: &[&[u8]] = &[

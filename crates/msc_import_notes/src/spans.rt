@@ -5,7 +5,7 @@ ghost use Rattle.msc_import_notes.specs.Plain.{plain_place};
 ghost use Rattle.msc_import_notes.specs.Spans.{first_places};
 
 use crate::bytes::{front, run_around};
-use crate::hints::{ARROWS, found_part, what_stands};
+use crate::hints::{found_part, what_stands};
 use crate::names::name_length;
 use crate::plain::with_plain_lines;
 use crate::statement::{Statement, line_rest};
@@ -69,12 +69,6 @@ fn statement_past(alloc: Global, texts: ToldText<'_>, at: usize) -> Result<usize
     Ok(at.saturating_add(own.held.len()))
 }
 
-/// Whether the fault of a statement is a run of bytes that is meant for an arrow.
-fn is_run(told: &FaultNotes) -> bool {
-    let notes = told.notes.as_slice();
-    notes.iter().any(|note| note.tag == Tag::Hint && note.text.as_slice() == ARROWS)
-}
-
 /// The place after the part of a text that a fault at this place is about. `name` is the name of the
 /// fault.
 fn fault_past(
@@ -94,9 +88,7 @@ fn fault_past(
         ImportFault::TooManyLines(_) => {
             Ok(at.saturating_add(name_length(alloc, texts.diagram, at)?))
         }
-        ImportFault::Expected(_, Expectation::Statement) if !is_run(texts.told) => {
-            statement_past(alloc, texts, at)
-        }
+        ImportFault::Expected(_, Expectation::Statement) => statement_past(alloc, texts, at),
         ImportFault::Expected(_, _) => shown_past(alloc, texts, at),
         _ => statement_past(alloc, texts, at),
     }

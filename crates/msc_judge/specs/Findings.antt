@@ -115,6 +115,15 @@ answer_text r e q m t closes =
     ++ (flat_map (shown_text r.finding r.run q.show (run_of q.short t)) (findings e q (left_of q m) t.causes)
     ++ r.end m.stale.now (closing_totals closes q.most (length m.stale.now) (heading_of e q.closest (left_of q m) t.causes)))
 
+-- whether that is nothing that counts: no race of one round, none between two, and no mark that
+-- accepts none
+abbrev pub none_between : Option ℕ → Bool
+none_between None = true
+none_between (Some n) = nat_eq n 0
+
+abbrev pub passes_in : Totals → Bool
+passes_in t = none_between t.between && (nat_eq t.heading.counting 0 && nat_eq t.stale 0)
+
 -- whether no race counts, and no mark accepts none
 abbrev pub passes : EnforcedChart → CheckOptions → Marking → (ℕ → ℕ → Cause) → Bool
 passes e q m causes =
@@ -122,8 +131,8 @@ passes e q m causes =
 
 -- What is answered and written, in the texts of a renderer. Memory may run out, and the writer may
 -- fail.
-pub record Answers (e : EnforcedChart) (q : CheckOptions) (m : Marking) (texts : Texts) (answer : Result Bool WriteFault) (before after : Option (List ℕ)) : Type 0 where
+pub record Answers (e : EnforcedChart) (q : CheckOptions) (m : Marking) (texts : Texts) (answer : Result Totals WriteFault) (before after : Option (List ℕ)) : Type 0 where
   pub tables : Tables
   pub are : AreTables e tables
   pub written : Writes answer before after (answer_text texts e q m tables true)
-  pub passed : IfOk answer (λ passed. passed ≡ passes e q m tables.causes)
+  pub found : IfOk answer (λ t. t ≡ totals_in q.most (length m.stale.now) None (heading_of e q.closest (left_of q m) tables.causes))

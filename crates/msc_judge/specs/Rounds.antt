@@ -1,6 +1,6 @@
 -- The closest races between the first and the second of two rounds of a chart, and what is written
 -- of them behind the races of one round. Rounds are numbered from 0. Both are this project's own.
-use Rattle.std.specs.Prelude.{◌≡◌, ◌↔◌, ℕ, ◌-◌, Bool, false, ◌&&◌, List, [], ◌++◌, Option, None, Some, Result, IfOk, length, nat_eq, take}
+use Rattle.std.specs.Prelude.{◌≡◌, ◌↔◌, ℕ, ◌-◌, false, List, [], ◌++◌, Option, None, Some, Result, IfOk, length, take}
 use Rattle.std.specs.List.{flat_map}
 use Rattle.msc_chart.specs.declared.queue.Queues.{Queues}
 use Rattle.msc_chart.specs.Drawings.{Drawing}
@@ -14,7 +14,7 @@ use Rattle.msc_reason.specs.Counting.{listed}
 use Rattle.msc_reason.specs.Kinds.{has_kind}
 use Rattle.msc_reason.specs.declared.kinds.KindSet.{KindSet}
 use Rattle.msc_reason.specs.declared.cause.Cause.{Cause}
-use Rattle.msc_judge.specs.Findings.{answer_text, findings_from, heading_of, left_of, passes, run_of, shown_text, totals_in, AreTables, Tables, Texts}
+use Rattle.msc_judge.specs.Findings.{answer_text, findings_from, heading_of, left_of, run_of, shown_text, totals_in, AreTables, Tables, Texts}
 use Rattle.msc_print.specs.Pages.{Writes}
 use Rattle.msc_judge.specs.declared.marking.Marking.{Marking}
 use Rattle.msc_print.specs.declared.page.WriteFault.{WriteFault}
@@ -55,7 +55,7 @@ rounds_text r two q t n totals pairs =
 
 -- What is answered and written of a chart, in the texts of one renderer, and behind it of two
 -- rounds of the chart, in those of another. Memory may run out, and the writer may fail.
-pub record AnswersRounds (one two : EnforcedChart) (q : CheckOptions) (m : Marking) (texts rounds : Texts) (answer : Result Bool WriteFault) (before after : Option (List ℕ)) : Type 0 where
+pub record AnswersRounds (one two : EnforcedChart) (q : CheckOptions) (m : Marking) (texts rounds : Texts) (answer : Result Totals WriteFault) (before after : Option (List ℕ)) : Type 0 where
   pub tables : Tables
   pub are : AreTables one tables
   pub of_two : Tables
@@ -65,4 +65,5 @@ pub record AnswersRounds (one two : EnforcedChart) (q : CheckOptions) (m : Marki
   pub written : Writes answer before after (answer_text texts one q m tables false
       ++ rounds_text rounds two q of_two (length (listed one (left_of q m) q.closest tables.causes))
       (totals_in q.most (length m.stale.now) (Some (length pairs)) (heading_of one q.closest (left_of q m) tables.causes)) pairs)
-  pub passed : IfOk answer (λ passed. passed ≡ (passes one q m tables.causes && nat_eq (length pairs) 0))
+  pub found : IfOk answer (λ t. t
+      ≡ totals_in q.most (length m.stale.now) (Some (length pairs)) (heading_of one q.closest (left_of q m) tables.causes))

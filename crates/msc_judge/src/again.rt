@@ -17,7 +17,7 @@ ghost use Rattle.msc_judge.specs.Telling.{told_from};
 use crate::heading::heading_of;
 use crate::judging::{RaceCheck, RaceList, left_of, totals_in};
 use crate::options::CheckOptions;
-use crate::renderer::{Heading, Renderer};
+use crate::renderer::{Heading, Renderer, Totals};
 use crate::rounds::Rounds;
 use crate::rows::RaceRows;
 use crate::texts::{EndText, HeadingText};
@@ -142,8 +142,7 @@ impl<'t, 'a, R: Renderer> Print for RoundList<'t, 'a, R> {
 /// Writes by a renderer what [`judge`](crate::judge) writes of a chart. Then it writes by a second
 /// one how many of the closest races of two rounds are between the first and the second and of no
 /// kind that is left out, and each of them. These are numbered after the listed races, so the
-/// limits on rows and on runs hold over both. Marks do not accept them. Returns whether no race
-/// counts, each mark accepts a race, and there are no such races.
+/// limits on rows and on runs hold over both. Marks do not accept them. Returns what was found.
 ///
 /// After `Memory` the writer has a beginning of the answer; `Device` says that a write failed.
 pub fn judge_rounds<'r, 'a, R: Renderer, S: Renderer, W: Write>(
@@ -152,7 +151,7 @@ pub fn judge_rounds<'r, 'a, R: Renderer, S: Renderer, W: Write>(
     rounds: Rounds<'r, 'a>,
     second: &'r S,
     writer: &mut W,
-) -> Result<bool, WriteFault>
+) -> Result<Totals, WriteFault>
     requires races { check.races ≡ length (races_of check.enforced) }
     requires fits { R.fits check.renderer.now check.enforced.chart }
     requires stale { AreEventsOf check.enforced.chart check.marking.stale.now }
@@ -182,6 +181,7 @@ pub fn judge_rounds<'r, 'a, R: Renderer, S: Renderer, W: Write>(
     let listing = Listing::of(alloc, enforced, left, options.closest)?;
     let heading = heading_of(alloc, &listing, races)?;
     let count = rounds.count(alloc)?;
+    let totals = totals_in(options.most, marking.stale.len(), Some(count), heading);
     let first = &RaceList {
         heading,
         rows: RaceRows {
@@ -200,5 +200,8 @@ pub fn judge_rounds<'r, 'a, R: Renderer, S: Renderer, W: Write>(
         heading,
         stale: marking.stale.len(),
     };
-    write_by(alloc, &Both { first, second }, writer)
+    match write_by(alloc, &Both { first, second }, writer) {
+        Ok(_) => Ok(totals),
+        Err(fault) => Err(fault),
+    }
 }

@@ -162,15 +162,14 @@ pub(crate) fn left_of<'m>(options: CheckOptions, marking: Marking<'m>) -> LeftOu
 }
 
 /// Writes by a renderer a heading, each race that the options select, in order, the first ones with
-/// runs that show them, and an end. Returns whether no race counts and each mark accepts a race. No
-/// list has all races.
+/// runs that show them, and an end. Returns what was found. No list has all races.
 ///
 /// After `Memory` the writer has a beginning of the answer; `Device` says that a write failed.
 pub fn judge<R: Renderer, W: Write>(
     alloc: Global,
     check: RaceCheck<'_, R>,
     writer: &mut W,
-) -> Result<bool, WriteFault>
+) -> Result<Totals, WriteFault>
     requires races { check.races ≡ length (races_of check.enforced) }
     requires fits { R.fits check.renderer.now check.enforced.chart }
     requires stale { AreEventsOf check.enforced.chart check.marking.stale.now }
@@ -191,8 +190,10 @@ pub fn judge<R: Renderer, W: Write>(
     enforced.facts();
     let left = left_of(options, marking);
     let listing = Listing::of(alloc, enforced, left, options.closest)?;
+    let heading = heading_of(alloc, &listing, races)?;
+    let totals = totals_in(options.most, marking.stale.len(), None, heading);
     let list = RaceList {
-        heading: heading_of(alloc, &listing, races)?,
+        heading,
         rows: RaceRows {
             listing: &listing,
             options,
@@ -201,5 +202,8 @@ pub fn judge<R: Renderer, W: Write>(
         marking,
         closes: true,
     };
-    write_by(alloc, &list, writer)
+    match write_by(alloc, &list, writer) {
+        Ok(_) => Ok(totals),
+        Err(fault) => Err(fault),
+    }
 }

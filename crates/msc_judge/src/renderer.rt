@@ -4,6 +4,7 @@ ghost use Rattle.std.specs.Prelude.{◌≡◌, ℕ, ◌<◌, ◌++◌, List, Opt
 ghost use Rattle.std.specs.Prelude.{option_map};
 ghost use Rattle.std.specs.List.{All};
 ghost use Rattle.msc_chart.specs.Drawings.{Drawing};
+ghost use Rattle.msc_judge.specs.Findings.{passes_in};
 ghost use Rattle.msc_judge.specs.Renderings.{NamesEvents};
 ghost use Rattle.msc_judge.specs.declared.renderer.Finding.{Finding};
 ghost use Rattle.msc_judge.specs.declared.renderer.Heading.{Heading};
@@ -42,6 +43,19 @@ pub struct Totals {
     pub stale: usize,
     /// The number of races between two rounds, if these are included.
     pub between: Option<u32>,
+}
+
+impl Totals {
+    /// Whether nothing counts: no race of one round, none between two, and each mark accepts a race.
+    pub fn passes(self) -> bool
+        ensures { result ≡ passes_in self }
+    {
+        let none_between = match self.between {
+            Some(between) => between == 0,
+            None => true,
+        };
+        none_between && self.heading.counting == 0 && self.stale == 0
+    }
 }
 
 /// A race that is printed.

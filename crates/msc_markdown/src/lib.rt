@@ -33,4 +33,4 @@ mod markup;
 mod seeking;
 
 pub use around::BlockKind;
-pub use markdown::{Markdown, Start};
+pub use markdown::{Markdown, Start, is_sequence_text};

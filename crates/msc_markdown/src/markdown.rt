@@ -4,6 +4,7 @@ ghost use Rattle.std.specs.Prelude.{[], ◌≡◌, ◌++◌, ◌-◌, IfOk, None
 ghost use Rattle.std.specs.Prelude.{length, map, take};
 ghost use Rattle.std.specs.List.{list_any};
 ghost use Rattle.msc_mermaid.specs.Gives.{Gives};
+ghost use Rattle.msc_mermaid.specs.Lines.{lines_of};
 ghost use Rattle.msc_mermaid.specs.Mermaid.{is_head};
 ghost use Rattle.msc_mermaid.specs.Parts.{stretch};
 ghost use Rattle.msc_mermaid.specs.White.{trimmed};
@@ -13,6 +14,7 @@ ghost use Rattle.msc_markdown.specs.Markdowns.{diagram_of_block};
 ghost use Rattle.msc_markdown.specs.Markdowns.{ends_in, entity_on, first_bytes, first_diagram};
 ghost use Rattle.msc_markdown.specs.Markdowns.{has_head, is_block, is_markup, is_none};
 ghost use Rattle.msc_markdown.specs.Markdowns.{is_sequence, is_sequence_by, look, markdown};
+ghost use Rattle.msc_markdown.specs.Markdowns.{is_sequence_text};
 ghost use Rattle.msc_markdown.specs.Markdowns.{next_line, numbers_from, own_parts, parts_from};
 ghost use Rattle.msc_markdown.specs.Markdowns.{said_by, start_at, starts_from};
 ghost use Rattle.msc_markdown.specs.Seeking.{holds};
@@ -247,6 +249,40 @@ fn is_sequence_by(parts: &[LinePart<'_>], ahead: Ahead) -> bool
         Ahead::Start | Ahead::Behind | Ahead::Other => false,
         Ahead::Front | Ahead::Directive | Ahead::Wrong => has_word(parts),
     }
+}
+
+/// Whether one of these lines has the word with which a sequence diagram begins.
+fn any_line_has_word(lines: &[&[u8]]) -> bool
+    ensures { result ≡ list_any (λ l. holds Sought.Diagram l.now) lines.now }
+{
+    lines.iter().any(|line| Sought::Diagram.holds(line))
+}
+
+/// Whether these lines have the word with which a sequence diagram begins.
+fn lines_have_word(lines: &[&[u8]]) -> bool
+    ensures { result ≡ list_any (holds Sought.Diagram) (map (λ l. l.now) lines.now) }
+{
+    any_line_has_word(lines)
+}
+
+/// Whether these lines are a sequence diagram.
+fn is_sequence_of(lines: &[&[u8]]) -> bool
+    ensures { result ≡ is_sequence_text (map (λ l. l.now) lines.now) }
+{
+    match look(lines) {
+        Ahead::Diagram | Ahead::Near => true,
+        Ahead::Start | Ahead::Behind | Ahead::Other => false,
+        Ahead::Front | Ahead::Directive | Ahead::Wrong => lines_have_word(lines),
+    }
+}
+
+/// Whether a text of Mermaid is a sequence diagram, perhaps a misspelt one; otherwise it is a diagram
+/// of another kind, or empty. The only error is a growth of memory that was refused.
+pub fn is_sequence_text(alloc: Global, text: &[u8]) -> Result<bool, AllocError>
+    ensures { IfOk result (λ is. is ≡ is_sequence_text (lines_of text.now)) }
+{
+    let lines = lines_of(alloc, text)?;
+    Ok(is_sequence_of(lines.as_slice()))
 }
 
 /// Whether a block of these parts is a sequence diagram.

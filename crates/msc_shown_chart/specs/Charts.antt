@@ -4,6 +4,7 @@ use Rattle.std.specs.String.{string_bytes}
 use Rattle.msc_chart.specs.Drawings.{Drawing}
 use Rattle.msc_chart.specs.declared.queue.Queues.{Queues}
 use Rattle.msc_diagnostic.specs.declared.source.LineEnds.TheVariants.{LineFeed}
+use Rattle.msc_findings.specs.declared.format.Following.{Following}
 use Rattle.msc_findings.specs.declared.format.FullFormat.{FullFormat}
 use Rattle.msc_full.specs.Blocks.{texts_of}
 use Rattle.msc_mark.specs.declared.mark.Mark.{Mark}
@@ -33,7 +34,7 @@ pub record Lends (d : Drawing) (queues : Queues) (text : List ℕ) (w : ChartWor
   pub queues_are : l.queues.now ≡ string_bytes w.queues
 
 -- this is the format of findings that has these words
-pub record HasLent (l : LentWords) (colours : Bool) (x : FullFormat) : Type 0 where
+pub record HasLent (l : LentWords) (colours : Bool) (following : Following) (x : FullFormat) : Type 0 where
   pub source : x.text.source.now ≡ l.source
   pub names : x.text.names.now ≡ l.names.items
   pub events : x.text.events.now ≡ l.events.items
@@ -41,11 +42,12 @@ pub record HasLent (l : LentWords) (colours : Bool) (x : FullFormat) : Type 0 wh
   pub marks : x.marks.now ≡ l.marks.items
   pub file : x.file.now ≡ l.file.now
   pub queues : x.queues.now ≡ l.queues.now
+  pub following_is : x.following ≡ following
 
 -- This is the format of the findings of a chart under an architecture, drawn in the text of the file
 -- of this name: the lines of the text, what instances and events are called and where they stand,
--- the marks of the text, the name of the file and the architecture.
-pub record IsFullFormat (d : Drawing) (queues : Queues) (file text : List ℕ) (marks : Option (List Mark)) (colours : Bool) (x : FullFormat) : Type 0 where
+-- the marks of the text, the name of the file, the architecture, and what follows the closing line.
+pub record IsFullFormat (d : Drawing) (queues : Queues) (file text : List ℕ) (marks : Option (List Mark)) (colours : Bool) (following : Following) (x : FullFormat) : Type 0 where
   pub source : x.text.source.now.text.now ≡ text
   pub ends : x.text.source.now.ends ≡ LineFeed
   pub colours_are : x.text.colours ≡ colours
@@ -58,3 +60,4 @@ pub record IsFullFormat (d : Drawing) (queues : Queues) (file text : List ℕ) (
   pub marks_are : map plain_shown x.marks.now ≡ mark_words
   pub file_is : x.file.now ≡ file_said file
   pub queues_are : x.queues.now ≡ queues_written d queues
+  pub following_is : x.following ≡ following

@@ -10,7 +10,7 @@ use crate::marks::MarkWords;
 use crate::words::ChartWords;
 use msc_chart::{Chart, Queues};
 use msc_diagnostic::{LineEnds, Source};
-use msc_findings::{FullFormat, ShownMark};
+use msc_findings::{Following, FullFormat, ShownMark};
 use msc_full::{ShownEvent, ShownText, StaleMark};
 use std::alloc::{AllocError, Global};
 
@@ -91,9 +91,10 @@ impl<'w> LentWords<'w> {
         })
     }
 
-    /// The format of findings with these words, with or without colours.
-    pub fn format<'l>(&'l self, colours: bool) -> FullFormat<'l, 'w>
-        ensures { HasLent self.entry.now colours result }
+    /// The format of findings with these words, with or without colours, and what follows the closing
+    /// line.
+    pub fn format<'l>(&'l self, colours: bool, following: Following) -> FullFormat<'l, 'w>
+        ensures { HasLent self.entry.now colours following result }
     {
         FullFormat {
             text: ShownText {
@@ -105,6 +106,7 @@ impl<'w> LentWords<'w> {
             marks: self.marks.as_slice(),
             file: self.file,
             queues: self.queues,
+            following,
         }
     }
 }

@@ -1,5 +1,5 @@
 pub mod Barred
-pub mod Judged
+pub mod Judgements
 pub mod Readied
 pub mod BlockedPairLemmas
 pub mod FirstOnes

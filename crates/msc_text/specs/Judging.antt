@@ -19,7 +19,7 @@ use Rattle.msc_reason.specs.declared.kinds.KindSet.{KindSet}
 use Rattle.msc_reason.specs.PairTables.{has_pair, PairTable}
 use Rattle.msc_reason.specs.declared.cause.Cause.{Cause}
 use Rattle.msc_reason.specs.declared.left_out.LeftOut.{LeftOut}
-use Rattle.msc_judge.specs.Findings.{answer_text, heading_of, left_of, passes, totals_in, AreTables, Tables, Texts}
+use Rattle.msc_judge.specs.Findings.{answer_text, heading_of, left_of, totals_in, AreTables, Tables, Texts}
 use Rattle.msc_judge.specs.Options.{counted, for_editors, for_people}
 use Rattle.msc_judge.specs.Rounds.{rounds_text, AreRoundRaces}
 use Rattle.msc_judge.specs.declared.marking.Marking.{Marking}
@@ -33,6 +33,7 @@ use Rattle.msc_report.specs.Rounds.{again_count, round_finding, round_run_text, 
 use Rattle.msc_report.specs.Stale.{stale_lines, stale_warnings}
 use Rattle.msc_report.specs.Styles.{run_text, event_positions_in}
 use Rattle.msc_text.specs.declared.judging.ChartFormat.{ChartFormat}
+use Rattle.msc_text.specs.declared.judging.Judged.{Judged}
 use Rattle.msc_text.specs.declared.judging.ChartFormat.TheVariants.{Lines, Count, Editor, Full}
 
 -- what keeps each run from the drawing: nothing, if some whole run keeps the drawn order, or a ring of
@@ -47,6 +48,10 @@ IsRingIn (Editor event_positions) chart ring = IsBarred chart ring
 IsRingIn (Full full) chart ring = IsBarred chart ring
 IsRingIn (Lines style) chart ring = ring ≡ []
 IsRingIn (Count file) chart ring = ring ≡ []
+
+-- there is a ring
+abbrev pub has_ring : List ℕ → Bool
+has_ring ring = not (nat_eq (length ring) 0)
 
 -- the texts of each format, of a chart and of the steps of such a ring
 abbrev pub texts_in : ChartFormat → List (ℕ × ℕ) → Drawing → Texts
@@ -106,10 +111,10 @@ IsMarking e (Some marks) m = (pairs : Bor PairTable) × (m.accepted ≡ Some pai
     × ((p : ℕ × ℕ) → Occurs (races_of e) p → has_pair pairs.now p.0 p.1 ≡ accepts_race (acceptance marks e.chart e.queues) p)
     × (m.stale.now ≡ stale_events (acceptance marks e.chart e.queues) (races_of e))
 
--- What is printed of a chart, and whether no race counts and no mark accepts none: by the enforced
--- order, what its races lack, the runs that show them, what keeps each run from the drawing, and what
--- marks say, where they are asked. It may be told of two rounds behind it.
-pub record JudgesOnce (d : Drawing) (queues : Queues) (q : CheckOptions) (marks : Option (List Mark)) (again : Bool) (format : ChartFormat) (passed : Bool) (printed : List ℕ) : Type 0 where
+-- What is printed of a chart, and what was found: by the enforced order, what its races lack, the
+-- runs that show them, what keeps each run from the drawing, and what marks say, if they are used.
+-- What is printed of two rounds may follow.
+pub record JudgesOnce (d : Drawing) (queues : Queues) (q : CheckOptions) (marks : Option (List Mark)) (again : Bool) (format : ChartFormat) (found : Judged) (printed : List ℕ) : Type 0 where
   pub accepted : IsAccepted d
   pub order : Table
   pub by_order : IsEnforced (enforced_chart d queues order)
@@ -119,43 +124,50 @@ pub record JudgesOnce (d : Drawing) (queues : Queues) (q : CheckOptions) (marks 
   pub are : AreTables (enforced_chart d queues order) tables
   pub ring : List ℕ
   pub barred : IsRingIn format (wired queues d) ring
-  pub answered : passed ≡ passes (enforced_chart d queues order) (asked format q) marking tables.causes
+  pub never : found.never ≡ has_ring ring
+  pub answered : found.totals
+      ≡ totals_in (asked format q).most (length marking.stale.now) None
+      (heading_of (enforced_chart d queues order) (asked format q).closest (left_of (asked format q) marking) tables.causes)
   pub text : printed
       ≡ answer_text (texts_in format (ring_steps ring) d) (enforced_chart d queues order) (asked format q) marking tables (not again)
 
 -- What is printed of two rounds of a chart after the `number` races that are listed of one, with this
--- heading, this ring and `stale` marks that accept no race; and whether no race is between
--- the rounds: by the enforced order of the two, what their races lack, and the runs that show them.
+-- heading, this ring and `stale` marks that accept no race; and how many races are between the
+-- rounds: by the enforced order of the two, what their races lack, and the runs that show them.
 -- The question is what is asked in the format.
-pub record JudgesRounds (d : Drawing) (queues : Queues) (q : CheckOptions) (format : ChartFormat) (ring : List ℕ) (number stale : ℕ) (h : Heading) (none : Bool) (printed : List ℕ) : Type 0 where
+pub record JudgesRounds (d : Drawing) (queues : Queues) (q : CheckOptions) (format : ChartFormat) (ring : List ℕ) (number stale : ℕ) (h : Heading) (between : ℕ) (printed : List ℕ) : Type 0 where
   pub order : Table
   pub by_order : IsEnforced (enforced_chart (two_rounds d) queues order)
   pub tables : Tables
   pub are : AreTables (enforced_chart (two_rounds d) queues order) tables
   pub pairs : List (ℕ × ℕ)
   pub told : AreRoundRaces d (enforced_chart (two_rounds d) queues order) q.allowed tables.causes pairs
-  pub answered : none ≡ nat_eq (length pairs) 0
+  pub answered : between ≡ length pairs
   pub text : printed ≡ rounds_text (round_texts_in format (ring_steps ring) d) (enforced_chart (two_rounds d) queues order) q tables number
       (totals_in q.most stale (Some (length pairs)) h) pairs
 
--- What is printed of a chart and behind it of two rounds of the chart, and whether no race counts,
--- no mark accepts none, and no race is between the rounds. Findings are numbered on.
-pub record JudgesUnrolled (d : Drawing) (queues : Queues) (q : CheckOptions) (marks : Option (List Mark)) (format : ChartFormat) (passed : Bool) (printed : List ℕ) : Type 0 where
-  pub first : Bool
+-- what was found of one round, and so many races between two
+abbrev pub and_between : Judged → ℕ → Judged
+and_between found between = record found { totals = record found.totals { between = Some between } }
+
+-- What is printed of a chart and behind it of two rounds of the chart, and what was found of both.
+-- Findings are numbered on.
+pub record JudgesUnrolled (d : Drawing) (queues : Queues) (q : CheckOptions) (marks : Option (List Mark)) (format : ChartFormat) (found : Judged) (printed : List ℕ) : Type 0 where
+  pub first : Judged
   pub above : List ℕ
   pub once : JudgesOnce d queues q marks true format first above
-  pub none : Bool
+  pub between : ℕ
   pub below : List ℕ
   pub rounds : JudgesRounds d queues (asked format q) format once.ring
       (length (listed (enforced_chart d queues once.order) (left_of (asked format q) once.marking) (asked format q).closest once.tables.causes))
       (length once.marking.stale.now)
       (heading_of (enforced_chart d queues once.order) (asked format q).closest (left_of (asked format q) once.marking) once.tables.causes)
-      none below
-  pub answered : passed ≡ (first && none)
+      between below
+  pub answered : found ≡ and_between first between
   pub text : printed ≡ above ++ below
 
--- what is printed of a chart, of two rounds too where these are asked for, and what is answered
-abbrev pub JudgesChart : Drawing → Queues → CheckOptions → Option (List Mark) → Bool → ChartFormat → Bool → List ℕ → Type 0
+-- what is printed of a chart, of two rounds too if they are included, and what was found
+abbrev pub JudgesChart : Drawing → Queues → CheckOptions → Option (List Mark) → Bool → ChartFormat → Judged → List ℕ → Type 0
 JudgesChart d queues q marks false format = JudgesOnce d queues q marks false format
 JudgesChart d queues q marks true format = JudgesUnrolled d queues q marks format
 

@@ -20,7 +20,7 @@ use msc_chart::{Chart, Event, Queues, Unrolled};
 use msc_findings::{FullFormat, FullRaces, FullRounds};
 use msc_follow::laws::a_pass_is_followed;
 use msc_follow::{Followed, follow};
-use msc_judge::{CheckOptions, Marking, RaceCheck, Rounds, Silent, judge, judge_rounds};
+use msc_judge::{CheckOptions, Marking, RaceCheck, Rounds, Silent, Totals, judge, judge_rounds};
 use msc_mark::{Accepted, Marks};
 use msc_place::EventPositions;
 use msc_print::WriteFault;
@@ -47,6 +47,15 @@ pub enum ChartFormat<'f, 'w> {
     /// Findings for people: that no run keeps the drawing, if none does, each of the closest races,
     /// and a line with what was found.
     Full(FullFormat<'f, 'w>),
+}
+
+/// What a check of a chart found.
+#[derive(Clone, Copy)]
+pub struct Judged {
+    pub totals: Totals,
+    /// Whether the answer says that no run keeps the drawing, which only lines for editors and
+    /// findings for people say.
+    pub never: bool,
 }
 
 /// A format, with the steps of the ring that lines for editors and findings for people print.
@@ -86,8 +95,7 @@ fn ring_in(
     }
 }
 
-/// Writes the races of a chart in a format; returns whether none counts and each mark accepts a
-/// race.
+/// Writes the races of a chart in a format; returns what was found.
 fn judge_in<W: Write>(
     alloc: Global,
     enforced: Enforced<'_>,
@@ -95,7 +103,7 @@ fn judge_in<W: Write>(
     marking: Marking<'_>,
     rendering: Rendering<'_, '_, '_>,
     writer: &mut W,
-) -> Result<bool, WriteFault>
+) -> Result<Totals, WriteFault>
     requires stale { AreEventsOf enforced.chart marking.stale.now }
     requires ring { AreStepsOf enforced.chart rendering.ring.now }
     ensures { Answers enforced.entry (asked rendering.entry.format options) marking.entry
@@ -158,8 +166,7 @@ fn judge_in<W: Write>(
     }
 }
 
-/// Writes the races of a chart, and then those between two rounds of it. Returns whether no race
-/// counts, each mark accepts a race, and no race is between the rounds.
+/// Writes the races of a chart, and then those between two rounds of it. Returns what was found.
 fn judge_rounds_of<'j, W: Write>(
     alloc: Global,
     enforced: Enforced<'j>,
@@ -168,7 +175,7 @@ fn judge_rounds_of<'j, W: Write>(
     rounds: Rounds<'j, 'j>,
     rendering: Rendering<'j, '_, '_>,
     writer: &mut W,
-) -> Result<bool, WriteFault>
+) -> Result<Totals, WriteFault>
     requires stale { AreEventsOf enforced.chart marking.stale.now }
     requires one { rounds.numbers.now ≡ enforced.chart }
     requires ring { AreStepsOf enforced.chart rendering.ring.now }
@@ -272,7 +279,7 @@ fn judge_by<W: Write>(
     rounds: Option<&Unrolled<'_>>,
     format: ChartFormat<'_, '_>,
     writer: &mut W,
-) -> Result<bool, WriteFault>
+) -> Result<Judged, WriteFault>
     requires stale { AreEventsOf enforced.chart marking.stale.now }
     requires rounds { AreItsRounds enforced.chart rounds }
     ensures { (marks : Option (List Mark)) → IsMarking enforced.entry marks marking.entry
@@ -286,8 +293,10 @@ fn judge_by<W: Write>(
         format,
         ring: steps.as_slice(),
     };
+    let never = !ring.is_empty();
     let Some(unrolled) = rounds else {
-        return judge_in(alloc, enforced, options, marking, rendering, writer);
+        let totals = judge_in(alloc, enforced, options, marking, rendering, writer)?;
+        return Ok(Judged { totals, never });
     };
     let both = Enforced::of(alloc, unrolled.two(), enforced.queues())?;
     both.facts();
@@ -297,7 +306,11 @@ fn judge_by<W: Write>(
         listing: &listing,
         numbers: unrolled.numbers(),
     };
-    judge_rounds_of(alloc, enforced, options, marking, rounds, rendering, writer)
+    let found = judge_rounds_of(alloc, enforced, options, marking, rounds, rendering, writer)?;
+    Ok(Judged {
+        totals: found,
+        never,
+    })
 }
 
 /// A chart under an architecture, with its marks and its two rounds.
@@ -334,15 +347,15 @@ impl<'j> CheckInput<'j> {
 }
 
 /// Writes the races of a chart that the options select, in a format, and then, if two rounds are
-/// given, the closest races between the first and the second. Returns whether no race counts, each
-/// mark accepts a race, and no race is between the rounds. `Device` says that a write failed.
+/// given, the closest races between the first and the second. Returns what was found. `Device` says
+/// that a write failed.
 pub fn judge_chart<W: Write>(
     alloc: Global,
     input: CheckInput<'_>,
     options: CheckOptions,
     format: ChartFormat<'_, '_>,
     writer: &mut W,
-) -> Result<bool, WriteFault>
+) -> Result<Judged, WriteFault>
     requires { AreItsRounds input.chart.now input.rounds }
     ensures { Tells W.contents (JudgesChart input.entry.chart.now input.entry.queues options
         (option_map (λ m. m.now) input.entry.marks) (is_some input.entry.rounds) format.entry)

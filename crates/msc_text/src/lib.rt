@@ -29,7 +29,7 @@ mod text;
 
 pub use explaining::explain_pair;
 pub use following::follow_drawing;
-pub use judging::{ChartFormat, CheckInput, judge_chart, passes_chart};
+pub use judging::{ChartFormat, CheckInput, Judged, judge_chart, passes_chart};
 pub use listing::list_chart;
 pub use readying::{ReadyQuery, write_ready};
 pub use stick_format::StickFormat;

@@ -17,9 +17,10 @@ pub enum MarkedText {
     Diagram,
 }
 
-/// A text in bold, if there are colours (ECMA-48, Select Graphic Rendition).
+/// A text in bold, if there are colours (ECMA-48, Select Graphic Rendition). The only error is want of
+/// memory.
 #[tactic(auto, unfolding(crate::specs::Closing::bold))]
-fn bold(alloc: Global, text: &str, colours: bool) -> Result<String, AllocError>
+pub fn bold(alloc: Global, text: &str, colours: bool) -> Result<String, AllocError>
     ensures { IfOk result (λ line. string_bytes line ≡ bold text.now colours) }
 {
     if colours {

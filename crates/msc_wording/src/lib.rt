@@ -45,8 +45,9 @@ mod way;
 
 pub use blocked::{SpokenBlockedPair, blocks_before};
 pub use checking::{RacesFound, SpokenCheck};
-pub use closing::{MarkedText, closing_line, help_line, refused_verdict, with_queues};
+pub use closing::{MarkedText, bold, closing_line, help_line, refused_verdict, with_queues};
 pub use event::{Act, SpokenEvent};
+pub use number::plural;
 pub use pair::SpokenPair;
 pub use race::SpokenRace;
 pub use readying::SpokenReadiness;

@@ -6,8 +6,8 @@ ghost use Rattle.msc_wording.specs.Numbers.{counted, number_or_none, part, plura
 
 use std::alloc::{AllocError, Global};
 
-/// The singular or the plural of a word.
-pub(crate) fn plural<'w>(number: usize, one: &'w str, several: &'w str) -> &'w str
+/// The singular of a word for 1, otherwise the plural.
+pub fn plural<'w>(number: usize, one: &'w str, several: &'w str) -> &'w str
     ensures { result.now ≡ plural number one.now several.now }
 {
     if number == 1 { one } else { several }

@@ -3,7 +3,8 @@
 use crate::devices::{Narrow, Screen, Unflushed};
 use crate::host::Machine;
 use example_charts::ONE_MESSAGE;
-use msc_command::{Recorded, command};
+use msc_answer::Recorded;
+use msc_command::command;
 use std::io::Write;
 
 /// Adds a word to a command line.
@@ -47,6 +48,7 @@ const RUNS: &[&[&str]] = &[
     &["explain", "--queues", "pair", "-", "0", "1"],
     &["run", "--queues", "pair", "-"],
     &["list", "-"],
+    &["completions", "bash"],
 ];
 
 /// The output on standard error if a device fails, and the exit status.

@@ -5,7 +5,7 @@ import re
 
 from models.diagnostic import Mark
 from models.diagrams import Arrow, Line
-from models.hints import ARROWS_HINT, RUN
+from models.hints import RUN
 from models.mermaid_lines import Cutter
 from models.mermaid_words import Statement
 from models.refusals import error, helps, of_accept, of_link
@@ -78,7 +78,6 @@ class ImportRefusal:
         self.found = next((it.removeprefix("found").lstrip(" ") for it in told
                            if it.split(" ")[0] == "found"), None)
         self.kind = next(filter(None, map(KIND.fullmatch, told)), None)
-        self.is_run = f"{ARROWS_HINT}" in told and fault.words == "expected a statement"
 
     def sentence(self):
         number, words = self.fault.number, self.fault.words
@@ -112,7 +111,7 @@ class ImportRefusal:
         is_stray = fault.number == 5 and fault.words.startswith("sequenceDiagram")
         if is_stray:
             return at + len("sequenceDiagram")
-        if fault.number == 2 and (fault.words != "expected a statement" or self.is_run):
+        if fault.number == 2 and fault.words != "expected a statement":
             return found_past(source, fault, self.found)
         past = statement_past(source, self.text, at)
         return past or found_past(source, fault, self.found or source.found(at))

@@ -1,6 +1,23 @@
-use Rattle.std.proofs.Common.{sym, ◌∙◌}
+use Rattle.std.proofs.Common.{◌≡◌, ◌⊎◌, ℕ, inl, inr, refl, sym, subst, ◌∙◌}
+use Rattle.msc_answer.specs.Ending.{status_code}
+use Rattle.msc_answer.specs.declared.ending.Status.{Status}
+use Rattle.msc_answer.specs.declared.ending.Status.TheVariants.{Done, Races, Refused, Unfinished, Failed}
 use Rattle.msc_command.proofs.FaultNotes.{told_races, told_refused, told_unfinished}
 use Rattle.msc_command.proofs.program.command.Goals as goal
+
+-- an exit status is one of five
+abbrev IsOneOfFive : ℕ → Type 0
+IsOneOfFive n = (n ≡ 0) ⊎ ((n ≡ 1) ⊎ ((n ≡ 2) ⊎ ((n ≡ 3) ⊎ (n ≡ 4))))
+
+one_of_five : (status : Status) → IsOneOfFive (status_code status)
+one_of_five Done = inl refl
+one_of_five Races = inr (inl refl)
+one_of_five Refused = inr (inr (inl refl))
+one_of_five Unfinished = inr (inr (inr (inl refl)))
+one_of_five Failed = inr (inr (inr (inr refl)))
+
+pub returns-in-Ok-clause-status : goal.returns-in-Ok-clause-status
+returns-in-Ok-clause-status g c = subst IsOneOfFive (sym c.code.ensures) (one_of_five c.in-Ok.status)
 
 pub returns-in-Ok-clause-races : goal.returns-in-Ok-clause-races
 returns-in-Ok-clause-races g c one =

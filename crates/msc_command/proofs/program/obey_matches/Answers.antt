@@ -5,7 +5,7 @@ use Rattle.msc_command.proofs.FaultNotes.{obeyed}
 use Rattle.msc_command.proofs.program.obey_matches.Goals as goal
 
 pub returns-in-Some-clause-told : goal.returns-in-Some-clause-told
-returns-in-Some-clause-told g c = obeyed g.O.Write.contents _ _ c.obey.result _ _ _ c.obey.ensures.obeyed
+returns-in-Some-clause-told g c = obeyed g.O.Write.contents _ _ c.obey.result _ _ _ _ _ c.obey.ensures.obeyed
 
 pub returns-in-Some-clause-obeyed : goal.returns-in-Some-clause-obeyed
 returns-in-Some-clause-obeyed g c =

@@ -1,8 +1,8 @@
 use Rattle.std.proofs.Common.{◌≡◌, true, false, Err}
 use Rattle.msc_report.specs.Refusals.{of_reading}
 use Rattle.msc_source.specs.declared.fault.ReadFault.TheVariants.{Device}
-use Rattle.msc_command.proofs.Answered.{ends_so, unread}
-use Rattle.msc_command.specs.declared.ending.Refusal.TheVariants as refusals
+use Rattle.msc_answer.proofs.Answered.{ends_so, unread}
+use Rattle.msc_answer.specs.declared.ending.Refusal.TheVariants as refusals
 use Rattle.msc_command.proofs.program.perform_on.Goals as goal
 
 -- a test that failed did not pass

@@ -12,7 +12,8 @@ returns-in-Ok-clause-followed g c =
     let words : List Text = map string_bytes c.args.words.now in
     let are : AreParsers p = are_parsers c.choices.result (rw c.choices.ensures.architectures c.in_ok-lists.ensures.architectures)
     (rw c.choices.ensures.kinds c.in_ok-lists.ensures.kinds) (rw c.choices.ensures.formats c.in_ok-lists.ensures.formats)
-    c.choices.ensures.languages c.choices.ensures.owns c.choices.ensures.crosses c.choices.ensures.pars c.choices.ensures.stick_formats c.choices.ensures.colors in
+    c.choices.ensures.languages c.choices.ensures.owns c.choices.ensures.crosses c.choices.ensures.pars c.choices.ensures.stick_formats c.choices.ensures.colors
+    c.choices.ensures.shells in
     let is : app_of c.in_ok-command.command ≡ with_commands p bare_command (commands_for words) = c.in_ok-command.ensures.0 in
     let taken = c.in-Ok.ensures.kinds (is_asked_known p words _ is) in
     let matches = (c.in-Ok.ensures.matches (is_asked_simple p words _ is)).1 in
@@ -25,7 +26,8 @@ returns-clause-followed g c =
     let words : List Text = map string_bytes c.args.words.now in
     let are : AreParsers p = are_parsers c.choices.result (rw c.choices.ensures.architectures c.in_ok-lists.ensures.architectures)
     (rw c.choices.ensures.kinds c.in_ok-lists.ensures.kinds) (rw c.choices.ensures.formats c.in_ok-lists.ensures.formats)
-    c.choices.ensures.languages c.choices.ensures.owns c.choices.ensures.crosses c.choices.ensures.pars c.choices.ensures.stick_formats c.choices.ensures.colors in
+    c.choices.ensures.languages c.choices.ensures.owns c.choices.ensures.crosses c.choices.ensures.pars c.choices.ensures.stick_formats c.choices.ensures.colors
+    c.choices.ensures.shells in
     let is : app_of c.in_ok-command.command ≡ with_commands p bare_command (commands_for words) = c.in_ok-command.ensures.0 in
     elim (c.in-Err.ensures.kinds (is_asked_known p words _ is)) [
       | inl memory ↦ inr (inr (rw memory at c.tell_usage.ensures.ends))

@@ -13,8 +13,8 @@ use Rattle.msc_diagram.specs.declared.numbers.PlaceCounts.{PlaceCounts}
 use Rattle.msc_diagram.proofs.judging.write_count.Goals as goal
 
 -- what is answered
-abbrev judged : ℕ → ℕ → Judged
-judged listed stale = record { listed = listed; stale = stale }
+abbrev judged : PlaceCounts → ℕ → Judged
+judged counts stale = record { listed = counts.listed; accepted = counts.accepted; stale = stale }
 
 pub returns : goal.returns
 returns g c top =
@@ -33,7 +33,7 @@ returns g c top =
         counted = λ p. 0;
         are_counted = tt;
         told = all_told (AreTextsIn form q.queues (length scenarios) (λ p. 0)) (λ i first new s texts. tt) (asked form q) 1 [] its.0;
-        answered = λ j. judged (its.2 j).listed (stale j);
+        answered = λ j. judged (its.2 j) (stale j);
         text = c.in_ok-print_tally.ensures ∙ ap (λ (t : List ℕ). t ++ tally_line c.args.file.now (tallied q.queues k.races k.listed)) c.new-page.ensures
             ∙ ap (λ (n : PlaceCounts). tally_line c.args.file.now (tallied q.queues n.races n.listed)) its.2;
       },

@@ -1,4 +1,4 @@
-use Rattle.std.proofs.Common.{ℕ, false, List, [], ◌++◌, Err, length, sym, ap, ◌∙◌, subst}
+use Rattle.std.proofs.Common.{ℕ, false, None, List, [], ◌++◌, Err, length, sym, ap, ◌∙◌, subst}
 use Rattle.std.specs.Io.KnownBytes.{Appends}
 use Rattle.std.proofs.lemmas.Result.{err_from_is_err_and}
 use Rattle.msc_diagram.proofs.Above.{all_stale}
@@ -23,7 +23,7 @@ asked_by q = record { check = q; format = shapes.Editor }
 
 -- what is answered
 abbrev judged : ℕ → ℕ → Judged
-judged listed stale = record { listed = listed; stale = stale }
+judged listed stale = record { listed = listed; accepted = None; stale = stale }
 
 pub returns-in_err-print_cases : goal.returns-in_err-print_cases
 returns-in_err-print_cases g c =

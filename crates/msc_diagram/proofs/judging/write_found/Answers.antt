@@ -114,5 +114,5 @@ returns g c top =
     p (ap (λ (t : List ℕ). t ++ cases_text false q 1 [] p.cases) (sym c.new-page.ensures))
     (c.in_ok-print_closing.ensures ∙ ap (λ (t : List ℕ). t ++ closing) c.in_ok-print_stale.ensures ∙ append_assoc last told closing)
     (λ j. each_stale q.marks (stale_shown races.shown) (are_stale j) ++ closing_text races.shown q.marks (same j) (length (are_stale j)) q.options.most (number j) (p.counted j))
-    (λ j. judged_of (same j) (are_stale j))
+    (λ j. judged_of (formats.Full races.shown) (same j) (are_stale j))
     (subst (Appends (g.W.Write.contents c.print_cases.new.writer) (g.W.Write.contents c.write_all.new.self)) c.as_slice.ensures.value c.in_ok-write_all.ensures.bytes)

@@ -98,5 +98,5 @@ returns g c =
     (above_agrees scenarios q above stale p.cases c.requires p.are) (cases_text true q 1 [] p.cases))
     c.in_ok-print_bottom.ensures
     (λ j. diagram_end diagram_style.drawn (same j) (lines j) (p.counted j))
-    (λ j. judged_of (same j) (are_stale j))
+    (λ j. judged_of (formats.Lines diagram_style) (same j) (are_stale j))
     (subst (Appends (g.W.Write.contents c.print_cases.new.writer) (g.W.Write.contents c.write_all.new.self)) c.as_slice-2.ensures.value c.in_ok-write_all.ensures.bytes)

@@ -1,7 +1,7 @@
 use Rattle.std.proofs.Common.{◌<◌, ℕ, All, Some, None, length, refl, sym, ◌∙◌, subst}
 use Rattle.std.specs.Prelude.{is_some}
 use Rattle.msc_chart.specs.Drawings.{Drawing}
-use Rattle.msc_text.proofs.Judged.{marking_of, stale_known, told_of_chart}
+use Rattle.msc_text.proofs.Judgements.{marking_of, stale_known, told_of_chart}
 use Rattle.msc_text.proofs.judging.judge_chart.Goals as goal
 
 pub returns-in_default : goal.returns-in_default

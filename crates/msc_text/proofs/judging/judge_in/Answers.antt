@@ -7,7 +7,7 @@ pub returns-in_err-renderer-in-Lines : goal.returns-in_err-renderer-in-Lines
 returns-in_err-renderer-in-Lines g c =
     let exit = err_from_is_err_and c.from_residual.result c.from_residual.ensures.1 in
     let tables = all_tables c.args.enforced c.facts.ensures.order c.facts.ensures.chart c.the_witness_reverses.ensures.exists c.short_witnesses_show.ensures.exists in
-    rw (exit.1, exit.2) (record { tables = tables_of c.args.enforced tables.0 tables.1; are = tables.2; written = begins_none _ _; passed = tt })
+    rw (exit.1, exit.2) (record { tables = tables_of c.args.enforced tables.0 tables.1; are = tables.2; written = begins_none _ _; found = tt })
 
 pub returns-in_ok-renderer-in-Lines : goal.returns-in_ok-renderer-in-Lines
 returns-in_ok-renderer-in-Lines g c = rw (c.in-Lines.is, ← c.in_ok-renderer-in-Lines.ensures.style) c.judge.ensures
@@ -16,7 +16,7 @@ pub returns-in_err-renderer-in-Editor : goal.returns-in_err-renderer-in-Editor
 returns-in_err-renderer-in-Editor g c =
     let exit = err_from_is_err_and c.from_residual-in_err-renderer-in-Editor.result c.from_residual-in_err-renderer-in-Editor.ensures.1 in
     let tables = all_tables c.args.enforced c.facts.ensures.order c.facts.ensures.chart c.the_witness_reverses.ensures.exists c.short_witnesses_show.ensures.exists in
-    rw (exit.1, exit.2) (record { tables = tables_of c.args.enforced tables.0 tables.1; are = tables.2; written = begins_none _ _; passed = tt })
+    rw (exit.1, exit.2) (record { tables = tables_of c.args.enforced tables.0 tables.1; are = tables.2; written = begins_none _ _; found = tt })
 
 pub returns-in_ok-renderer-in-Editor : goal.returns-in_ok-renderer-in-Editor
 returns-in_ok-renderer-in-Editor g c =

@@ -33,7 +33,7 @@ returns-in_err-renderer-in-Lines g c =
       pairs = told_of e.chart two (of_kinds c.args.options.allowed);
       told = told_list e.chart two (of_kinds c.args.options.allowed) is refl;
       written = begins_none _ _;
-      passed = tt;
+      found = tt;
     })
 
 pub returns-in_ok-renderer-in-Lines : goal.returns-in_ok-renderer-in-Lines
@@ -63,7 +63,7 @@ returns-in_err-renderer-in-Editor g c =
       pairs = told_of e.chart two (of_kinds c.args.options.allowed);
       told = told_list e.chart two (of_kinds c.args.options.allowed) is refl;
       written = begins_none _ _;
-      passed = tt;
+      found = tt;
     })
 
 pub returns-in_ok-renderer-in-Editor : goal.returns-in_ok-renderer-in-Editor

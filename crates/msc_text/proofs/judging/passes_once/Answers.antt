@@ -3,7 +3,7 @@ use Rattle.std.proofs.lemmas.Result.{IfOk-weaker}
 use Rattle.std.specs.Borrow.{Bor}
 use Rattle.msc_judge.specs.declared.marking.Marking.{Marking}
 use Rattle.msc_reason.specs.PairTables.{PairTable}
-use Rattle.msc_text.proofs.Judged.{marking_of, passes_by}
+use Rattle.msc_text.proofs.Judgements.{marking_of, passes_by}
 use Rattle.msc_text.proofs.judging.passes_once.Goals as goal
 
 pub returns-in_default : goal.returns-in_default

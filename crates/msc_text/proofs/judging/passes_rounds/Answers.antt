@@ -8,7 +8,7 @@ use Rattle.msc_reason.specs.declared.kinds.KindSet.{KindSet}
 use Rattle.msc_reason.specs.declared.left_out.LeftOut.{LeftOut}
 use Rattle.msc_judge.specs.Between.{told_of}
 use Rattle.msc_judge.specs.Rounds.{AreRoundRaces}
-use Rattle.msc_text.proofs.Judged.{passes_between}
+use Rattle.msc_text.proofs.Judgements.{passes_between}
 use Rattle.msc_text.proofs.judging.passes_rounds.Goals as goal
 
 pub returns : goal.returns

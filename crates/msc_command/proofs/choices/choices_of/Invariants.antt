@@ -1,7 +1,0 @@
-use Rattle.std.proofs.Common.{◌≡◌, map, take}
-use Rattle.msc_command.specs.Importing.{choice_in}
-use Rattle.msc_command.proofs.choices.choices_of.Given as goal
-
-abbrev pub invariant-loop-part : goal.invariant-loop-part
-invariant-loop-part l =
-    l.choices.items ≡ map (λ part. choice_in part.now) (take l.part-index l.parts)

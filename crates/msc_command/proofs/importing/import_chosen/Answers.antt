@@ -1,5 +1,0 @@
-use Rattle.msc_command.proofs.ImportPages.{is_chart}
-use Rattle.msc_command.proofs.importing.import_chosen.Goals as goal
-
-pub returns : goal.returns
-returns c = is_chart c.imports_are_charts.ensures.one c.args.words c.args.text.now _ c.import_by.ensures

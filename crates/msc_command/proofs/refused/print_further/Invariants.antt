@@ -1,5 +1,0 @@
-use Rattle.msc_command.specs.Extending.{Extends}
-use Rattle.msc_command.proofs.refused.print_further.Given as goal
-
-abbrev pub invariant-loop-other : goal.invariant-loop-other
-invariant-loop-other l = Extends l.initial.page.bytes.items l.page.bytes.items

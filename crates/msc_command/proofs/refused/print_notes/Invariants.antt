@@ -1,5 +1,0 @@
-use Rattle.msc_command.specs.Extending.{Extends}
-use Rattle.msc_command.proofs.refused.print_notes.Given as goal
-
-abbrev pub invariant-loop-note : goal.invariant-loop-note
-invariant-loop-note l = Extends l.initial.page.bytes.items l.page.bytes.items

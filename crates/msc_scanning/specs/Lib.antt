@@ -1,0 +1,3 @@
+-- what is promised
+pub mod Outcomes
+pub mod LastLines
