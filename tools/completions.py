@@ -39,9 +39,17 @@ TRIES = [
     (["msc", "check", "--most", ""], ""),
     (["msc", "check", ""], "chart.msc diagram.mmd pages"),
     (["msc", "check", "n"], ""),
+    (["msc", "s"], "scan"),
+    (["msc", "scan", "--no"], "--no-accept"),
+    (["msc", "scan", "--queues", "own", "--queues", "a"], "all"),
+    (["msc", "scan", "--skip", ""], ""),
+    (["msc", "scan", "pages", ""], "chart.msc diagram.mmd pages"),
     (["msc", "ready", "--format", "l"], "lines"),
     (["msc", "draw", "--sv"], "--svg"),
     (["msc", "import", "--cross", "a"], "arrives"),
+    (["msc", "scan", "--jo"], "--jobs"),
+    (["msc", "scan", "--format", "c"], "count"),
+    (["msc", "scan", "chart.msc", "d"], "diagram.mmd"),
     (["msc", "completions", "z"], "zsh"),
     (["msc", "completions", ""], "bash fish zsh"),
 ]
@@ -79,7 +87,7 @@ HELP = Option("h", "help", "", [], False, "Print help")
 
 def option(form, text):
     """An option, from the two parts of its row in a help."""
-    letter, name, value = re.fullmatch(r"(?:-(\w), )?--(\w+)(?: <(.*)>)?", form).groups("")
+    letter, name, value = re.fullmatch(r"(?:-(\w), )?--([\w-]+)(?: <(.*)>)?", form).groups("")
     values = value.split("|") if value.islower() else []
     return Option(letter, name, value, values, text.endswith("may be repeated"), text)
 
@@ -236,6 +244,8 @@ def zsh(commands):
                 yield f"      ':{it.name}:({' '.join(it.values)})' \\\n"
             elif it.name == "FILE":
                 yield f"      ':{it.name}:_msc_file' \\\n"
+            elif it.name == "PATH":
+                yield f"      '*:{it.name}:_msc_file' \\\n"
             else:
                 yield f"      ':{it.name}: ' \\\n"
         yield "      && return\n    ;;\n"
@@ -287,7 +297,7 @@ def fish(commands):
         for it in command.arguments:
             if it.values:
                 yield f"{begin} -a '{' '.join(it.values)}'\n"
-            elif it.name == "FILE":
+            elif it.name in ("FILE", "PATH"):
                 yield f"{begin} -a '(__msc_file)'\n"
     yield from fish_names(commands, "help")
 

@@ -110,6 +110,13 @@ def with_file(program):
     return [command for command, page in pages if ("FILE", []) in arguments_in(page)]
 
 
+def in_words(takers, files):
+    """The commands that take an option, in words; `files` are those that take FILE."""
+    if not {*files} <= {*takers}:
+        return ", ".join(takers)
+    return ", ".join(["all with FILE", *(it for it in takers if it not in files)])
+
+
 def options_of(program):
     """The rows of all options, by their group: the name, the commands that take it, and what it
     does."""
@@ -122,8 +129,7 @@ def options_of(program):
     found, files = {}, with_file(program)
     for group, name in in_order(lists):
         for text, own in takers[group, name].items():
-            row = code(name), "all with FILE" if own == files else ", ".join(own), text
-            found.setdefault(group, []).append(row)
+            found.setdefault(group, []).append((code(name), in_words(own, files), text))
     return found
 
 

@@ -62,6 +62,8 @@ ANSWERS = [
     ["explain", "--queues", "pair", RELAY, "2", "3"],
     ["follow", "--queues", "pair", "--words", RELAY],
     ["follow", "--queues", "pair", "charts/urgent_overtakes.msc"],
+    ["scan", "--format", "text", RELAY, "no/such/\x1b[31mfile"],
+    ["scan", "--format", "lines", RELAY, DEADLOCK],
 ]
 
 # findings and a fault as people read them
@@ -69,6 +71,7 @@ FULL = [
     ["check", "--queues", "pair", "--format", "full", "charts/two_phase_commit.msc"],
     ["ready", "--queues", "mailbox", "--format", "full", "charts/two_phase_commit.msc"],
     ["check", "--queues", "pair", "--format", "full", "charts/refused/repeated_message.msc"],
+    ["scan", "charts/two_phase_commit.msc", "charts/refused/repeated_message.msc"],
 ]
 
 # Variables, what `--color` says, and whether there are colours on a terminal, and elsewhere.

@@ -9,8 +9,7 @@ Some comparisons give the program texts, most of them random ones of tools/naive
 prints has to be what a second implementation prints, a model of tools/naive/models. The others need
 no program: they compare models with searches over all runs, with each other, and with stored
 outputs. `--list` prints all, with their options and defaults. Without NAME those run that compare
-the program; without PROGRAM, those that need none. One with `WAITS` is for a command that the
-program does not have yet: it runs only by its name.
+the program; without PROGRAM, those that need none.
 
 OPTION is one of these; a comparison that lacks it is refused:
 
@@ -58,8 +57,7 @@ def arguments(every):
     words.add_argument("names", metavar="NAME", nargs="*")
     given = words.parse_args()
     has_program = given.program is not None
-    alike = [name for name, it in every.items()
-             if it.NEEDS_PROGRAM == has_program and not getattr(it, "WAITS", False)]
+    alike = [name for name, it in every.items() if it.NEEDS_PROGRAM == has_program]
     given.chosen = {}
     for name in given.names or alike:
         if name not in every:

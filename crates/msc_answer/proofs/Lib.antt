@@ -12,8 +12,9 @@ pub mod OwnLemmas
 pub mod FirstReadings
 pub mod ChoiceNumbers
 pub mod ImportPages
-pub mod Surveyed
+pub mod SurveyLemmas
 pub mod FirstCharts
 pub mod AllSurveyed
 pub mod Witness
 pub mod ReportLemmas
+pub mod Yielded

@@ -1,5 +1,5 @@
 -- The queues that a text names itself, from its comments.
-use Rattle.std.proofs.Common.{◌≡◌, ◌<◌, ◌≤◌, ℕ, ◌+◌, true, false, is_some, List, [], ◌∷◌, drop, get_or, length, Option, None, Some, option_map, Result, Ok, Err, refl, sym, ap, subst, ◌∙◌}
+use Rattle.std.proofs.Common.{◌≡◌, ◌<◌, ◌≤◌, ℕ, ◌+◌, true, false, not, Bool, is_some, List, [], ◌∷◌, drop, get_or, length, Option, None, Some, option_map, Result, Ok, Err, refl, sym, ap, subst, ◌∙◌}
 use Rattle.std.proofs.lemmas.List.{drop_more, drop_all}
 use Rattle.msc_lexer.specs.declared.token.Token.{Token}
 use Rattle.msc_lexer.specs.Lexing.{HasTokens}
@@ -8,7 +8,7 @@ use Rattle.msc_mark.specs.ChartComments.{chart_comment, plain_comment}
 use Rattle.msc_mark.specs.declared.after_name.ChartComment.{ChartComment}
 use Rattle.msc_mermaid.specs.declared.statement.Span.{Span}
 use Rattle.msc_report.specs.declared.fault.Fault.TheVariants.{Parse, Chart, NotStarted, Memory, Device}
-use Rattle.msc_answer.specs.Own.{OwnSaid, silent, unclear, named, said_after_name, said_at, said_first, said_in, said_on_line, IsOwnAt, IsOwnBy, SaysInChart}
+use Rattle.msc_answer.specs.Own.{OwnSaid, silent, unclear, named, said_after_name, said_at, said_first, said_in, said_on_line, IsOwnAt, IsOwnBy, IsSilent, SaysInChart}
 use Rattle.msc_answer.specs.declared.ending.Refusal.{Refusal}
 use Rattle.msc_answer.specs.declared.ending.Refusal.TheVariants as refusals
 use Rattle.msc_answer.specs.declared.own.LinkRefusal.TheVariants.{Given, Text, Unclear}
@@ -117,3 +117,11 @@ module _ (text : List ℕ) (cs : List Span) (i : ℕ) where
   -- where the lines end
   pub said_at_end : length cs ≤ i → said_in text (drop i cs) ≡ silent
   said_at_end over = ap (said_in text) (drop_all i cs over) ∙ said_none text
+
+-- a text in which no comment is found says nothing
+pub silent_so : (holds : OwnSaid → Type 0) (shows : ℕ → OwnPlace → Type 0) (own : Option OwnComment) (is : Bool) → is_some own ≡ not is
+    → IsOwnBy holds shows (Ok own) → IsSilent holds is
+silent_so holds shows None true same says = says
+silent_so holds shows None false same says = absurd cc
+silent_so holds shows (Some own) true same says = absurd cc
+silent_so holds shows (Some own) false same says = (says.0, own_text own.queues, says.1)

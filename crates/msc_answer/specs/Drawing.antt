@@ -40,7 +40,7 @@ drawn_under queues (Report other) = Report queues
 
 -- the version of the program
 abbrev pub version : List ℕ
-version = codes "0.2.0"
+version = codes "0.3.0"
 
 -- the order of the rows of a picture: of a scenario of a diagram, that of its arrows in the text
 abbrev pub AreRanks : Option ImportedDiagram → Option (List ℕ) → Type 0

@@ -23,5 +23,6 @@ pub mod ShownDiagrams
 pub mod Surveys
 pub mod Reported
 pub mod Answering
+pub mod Verdicts
 -- what the code keeps
 pub mod Extending

@@ -93,3 +93,8 @@ IsOwnBy holds shows (Ok (Some own)) = (at : ℕ) × holds (named at (own_text ow
 IsOwnBy holds shows (Err (refusals.Link (Unclear place))) = (at : ℕ) × holds (unclear at) × shows at place
 IsOwnBy holds shows (Err (refusals.Fault Memory)) = Unit {0}
 IsOwnBy holds shows (Err refusal) = ⊥
+
+-- the text says nothing of its queues, or it names some
+abbrev pub IsSilent : (OwnSaid → Type 0) → Bool → Type 0
+IsSilent holds true = holds silent
+IsSilent holds false = (at : ℕ) × (own : OwnText) × holds (named at own)

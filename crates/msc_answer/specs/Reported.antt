@@ -1,8 +1,8 @@
 -- The report of all scenarios of a diagram.
-use Rattle.std.specs.Prelude.{◌≡◌, ◌<◌, ℕ, ◌+◌, Bool, true, false, cond, List, [], ◌∷◌, ◌++◌, Option, None, Some, Result, Ok, Err, codes, get_or, length, map, nat_eq, nat_lt}
+use Rattle.std.specs.Prelude.{◌≡◌, ◌<◌, ℕ, ◌+◌, Bool, true, false, cond, List, [], ◌∷◌, ◌++◌, Option, None, Some, Result, Ok, Err, codes, length, nat_eq, nat_lt}
 use Rattle.std.specs.Fmt.{decimal}
 use Rattle.std.specs.List.{flat_map, slice_get}
-use Rattle.msc_chart.specs.Drawings.{Drawing, chart_of}
+use Rattle.msc_chart.specs.Drawings.{chart_of}
 use Rattle.msc_diagram.specs.Checks.{with_options}
 use Rattle.msc_diagram.specs.Judging.{JudgesScenarios}
 use Rattle.msc_diagram.specs.NewRaces.{AreNewLists}

@@ -10,7 +10,6 @@ use Rattle.msc_diagram.specs.Closing.{has_marks}
 use Rattle.msc_diagram.specs.Judging.{BeginsScenarios as BeginsOf, JudgesScenarios, PassesScenarios, TellsScenarios}
 use Rattle.msc_diagram.specs.Scenarios.{diagram_top, first_chart}
 use Rattle.msc_findings.specs.declared.format.Following.{Following}
-use Rattle.msc_findings.specs.declared.format.Following.TheVariants.{Help}
 use Rattle.msc_diagram.specs.declared.judging.DiagramFormat.{DiagramFormat as DiagramFormat}
 use Rattle.msc_diagram.specs.declared.judging.DiagramFormat.TheVariants as diagrams
 use Rattle.msc_diagram.specs.declared.judging.Judged.{Judged}

@@ -28,7 +28,7 @@ fn refused_mark(alloc: Global, text: &[u8], fault: FaultyMark) -> Result<Refused
 }
 
 /// The marks of a diagram of this text, if they are used. An error is the first faulty one.
-pub(crate) fn arrow_marks(
+pub fn marks_of_diagram(
     alloc: Global,
     accept: bool,
     text: &[u8],

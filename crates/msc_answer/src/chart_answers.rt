@@ -133,7 +133,7 @@ fn check_full<O: Write>(
 }
 
 /// Prints the verdict on the chart of a text in the file of this name, and returns what was found.
-fn check_races<O: Write>(
+pub(crate) fn check_races<O: Write>(
     alloc: Global,
     check_args: CheckArgs,
     file: &str,

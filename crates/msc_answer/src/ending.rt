@@ -205,7 +205,7 @@ pub(crate) fn status_of(fault: Fault) -> Status
 }
 
 /// Whether memory ran out, or a device failed: then nothing is refused.
-pub(crate) fn is_spent(refusal: Refusal<'_>) -> bool
+pub fn is_spent(refusal: Refusal<'_>) -> bool
     ensures { result ≡ is_spent refusal.entry }
 {
     match refusal {
@@ -251,7 +251,7 @@ fn write_link_refusal<W: Write>(writer: &mut W, refusal: LinkRefusal<'_>) -> io:
 }
 
 /// Writes the line of a refusal.
-pub(crate) fn write_refusal<W: Write>(writer: &mut W, refusal: Refusal<'_>) -> io::Result<()>
+pub fn write_refusal<W: Write>(writer: &mut W, refusal: Refusal<'_>) -> io::Result<()>
     ensures { OnOk result
         (Appends (W.contents writer.old) (W.contents writer.new) (refusal_line refusal.entry)) }
 {

@@ -50,18 +50,29 @@ mod sited;
 mod surveying;
 mod tasks;
 mod text_chart;
+mod verdicts;
 mod version;
 
 pub use answering::perform;
-pub use arrow_marks::RefusedMark;
+pub use arrow_marks::{RefusedMark, marks_of_diagram};
+pub use chart_answers::Checked;
 pub use choices::{gives_choices, gives_rounds, title_of};
-pub use ending::{Refusal, Status, end_with};
-pub use own::{LinkRefusal, OwnPlace};
+pub use ending::{Refusal, Status, end_with, is_spent, write_refusal};
+pub use links::{names_in, names_of, queues_at, queues_in};
+pub use notes::{write_cause, write_notes};
+pub use own::{LinkRefusal, OwnPlace, chart_is_silent, diagram_is_silent};
 pub use recorded::{Recorded, ShowsColours, TellsFailure};
 pub use refusal_output::end_unread_task;
+pub use refused::refusal_lines;
+pub use refused_words::{refusal_words, unread_words};
+pub use scenarios::{Charts, Surveyed, Told, diagram_of, scenarios_of};
+pub use shown_diagram::{DiagramText, block_line};
+pub use surveying::{diagram_at, numbered, of_block, worse};
 pub use tasks::{
     ChartCommand, CheckArgs, ChosenArgs, DiagramArgs, Drawn, EventStyle, ExplainArgs, FollowArgs,
     Format, GREATEST_LIMIT, ImportArgs, LinkWords, QuietArgs, ReadyArgs, RefusalForm, ReportArgs,
     Request, ReverseArgs, ScenarioArgs, Task, TextArgs, form_of, is_full,
 };
+pub use text_chart::TextChart;
+pub use verdicts::{Subject, Verdict, check_under};
 pub use version::VERSION;

@@ -57,7 +57,7 @@ fn rules_in<'w>(alloc: Global, words: LinkWords<'w>) -> Result<Vec<Rule<'w>>, Al
 }
 
 /// The names of a chart's lines: those of its instances.
-fn names_in<'c>(alloc: Global, chart: &'c Chart) -> Result<Vec<LineNames<'c>>, AllocError>
+pub fn names_in<'c>(alloc: Global, chart: &'c Chart) -> Result<Vec<LineNames<'c>>, AllocError>
     ensures { IfOk result (λ names. AreNamesIn chart.entry.now names.items) }
 {
     let mut names = Vec::new(alloc);
@@ -180,7 +180,7 @@ fn shown_name<'t>(text: &'t [u8], spans: &TextSpans, i: usize) -> &'t [u8]
 
 /// The names of a diagram's lines, by one of its scenarios and the chart of this: those of the text
 /// and those of the chart's instances.
-pub(crate) fn names_of<'n>(
+pub fn names_of<'n>(
     alloc: Global,
     text: &'n [u8],
     spans: &TextSpans,
@@ -201,7 +201,7 @@ pub(crate) fn names_of<'n>(
 }
 
 /// The queues of a diagram by the places of its names and the chart of a scenario.
-fn queues_at<'w>(
+pub fn queues_at<'w>(
     alloc: Global,
     usual: LinkKind,
     words: LinkWords<'w>,
@@ -221,7 +221,7 @@ fn queues_at<'w>(
 }
 
 /// The queues of the chart of a text: links that no rule names are of the usual kind.
-pub(crate) fn queues_in<'w>(
+pub fn queues_in<'w>(
     alloc: Global,
     usual: LinkKind,
     words: LinkWords<'w>,

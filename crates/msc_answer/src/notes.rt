@@ -252,7 +252,7 @@ fn write_import_notes<E: Write>(
 }
 
 /// Writes the notes on a refusal of a request.
-pub(crate) fn write_notes<E: Write>(
+pub fn write_notes<E: Write>(
     alloc: Global,
     faults: &mut E,
     request: Request<'_>,
@@ -276,11 +276,7 @@ pub(crate) fn write_notes<E: Write>(
 }
 
 /// Writes why a file could not be opened or read.
-pub(crate) fn write_cause<E: Write>(
-    faults: &mut E,
-    file: &str,
-    error: &io::Error,
-) -> io::Result<()> {
+pub fn write_cause<E: Write>(faults: &mut E, file: &str, error: &io::Error) -> io::Result<()> {
     faults.write_all(b"file ")?;
     write_file(faults, file.as_bytes())?;
     writeln!(faults, ": {error}")

@@ -3,7 +3,7 @@
 
 ghost use Rattle.std.specs.Prelude.{◌≡◌, IfOk, drop};
 ghost use Rattle.msc_links.specs.Comments.{Reading};
-ghost use Rattle.msc_answer.specs.Own.{IsOwnAt, IsOwnBy, IsReadAs, SaysIf, SaysInChart};
+ghost use Rattle.msc_answer.specs.Own.{IsOwnAt, IsOwnBy, IsReadAs, IsSilent, SaysIf, SaysInChart};
 ghost use Rattle.msc_answer.specs.Own.{ShowsInChart, ShowsInDiagram, said_in, said_on_line};
 ghost use Rattle.msc_answer.specs.Spans.{bytes_at};
 
@@ -111,6 +111,14 @@ pub(crate) fn own_of_chart<'t>(
     }
 }
 
+/// Whether the text of a chart says nothing of its queues. An error is that what it says cannot be
+/// read, or a growth of memory that was refused.
+pub fn chart_is_silent<'t>(alloc: Global, text: &'t [u8]) -> Result<bool, Refusal<'t>>
+    ensures { IfOk result (IsSilent (SaysInChart text.entry.now)) }
+{
+    Ok(own_in_chart(alloc, text)?.is_none())
+}
+
 /// The bytes of a text in a span, or none if the text is shorter.
 pub(crate) fn bytes_at<'t>(text: &'t [u8], span: Span) -> &'t [u8]
     ensures { result.now ≡ bytes_at text.entry.now span }
@@ -164,6 +172,18 @@ fn own_in_diagram<'t>(
         }
     }
     Ok(None)
+}
+
+/// Whether a diagram with these comment lines says nothing of its queues. An error is that what it
+/// says cannot be read, or a growth of memory that was refused.
+pub fn diagram_is_silent<'t>(
+    alloc: Global,
+    text: &'t [u8],
+    comments: &[Span],
+) -> Result<bool, Refusal<'t>>
+    ensures { IfOk result (IsSilent (λ said. said ≡ said_in text.entry.now comments.now)) }
+{
+    Ok(own_in_diagram(alloc, text, comments)?.is_none())
 }
 
 /// What a diagram whose names and comments have these places says of its queues, if it is asked for

@@ -313,7 +313,7 @@ fn fault_lines(
 
 /// The lines of a refusal of the text of a file of this name. An error is a growth of memory that
 /// was refused.
-pub(crate) fn refusal_lines(
+pub fn refusal_lines(
     alloc: Global,
     task: Task<'_>,
     file: &str,

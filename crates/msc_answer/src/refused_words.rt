@@ -364,7 +364,7 @@ fn said(
 
 /// A refusal of the text of a file of this name as people read it, with or without colours. An error
 /// is a growth of memory that was refused.
-pub(crate) fn refusal_words(
+pub fn refusal_words(
     alloc: Global,
     task: Task<'_>,
     colours: bool,
@@ -386,7 +386,7 @@ pub(crate) fn refusal_words(
 }
 
 /// That the file of this name cannot be read, and why, as people read it.
-pub(crate) fn unread_words(
+pub fn unread_words(
     alloc: Global,
     colours: bool,
     file: &str,

@@ -10,7 +10,7 @@ ghost use Rattle.msc_answer.specs.Reported.{IsFoundText};
 ghost use Rattle.msc_answer.specs.Reported.{IsHeading, IsPictureOf, IsReportBy, IsReportPage};
 ghost use Rattle.msc_answer.specs.Reported.{IsSection, IsSectionAt};
 
-use crate::arrow_marks::arrow_marks;
+use crate::arrow_marks::marks_of_diagram;
 use crate::ending::Refusal;
 use crate::importing::{chart_of, fence_of};
 use crate::scenarios::{Charts, Told, diagram_of, linked, scenarios_of, tell_full};
@@ -364,7 +364,7 @@ fn report_checked<'w>(
     let diagram = diagram_of(alloc, words, text)?;
     let all = scenarios_of(alloc, words, &diagram)?;
     let linked = linked(alloc, words, text, &all.list)?;
-    let marks = arrow_marks(alloc, words.check_args.accept, text, &diagram)?;
+    let marks = marks_of_diagram(alloc, words.check_args.accept, text, &diagram)?;
     let charts = Charts::of(alloc, file, all.list)?;
     let told = Told {
         diagram: DiagramText {

@@ -15,7 +15,7 @@ ghost use Rattle.msc_answer.specs.Scenarios.{top_in, BeginsAll, IsFirst, IsLinke
 ghost use Rattle.msc_answer.specs.Scenarios.{TellsFormat};
 ghost use Rattle.msc_answer.specs.Scenarios.{check_of, surveyed_of, AreAccepted, AreUsed, PrintsCounted};
 
-use crate::arrow_marks::arrow_marks;
+use crate::arrow_marks::marks_of_diagram;
 use crate::choices::rounds_of;
 use crate::ending::{Refusal, Status, ended_by};
 use crate::importing::{chart_of, fence_of, given_choices};
@@ -44,7 +44,7 @@ use std::marker::Model;
 
 /// What the check of a diagram found.
 #[derive(Clone, Copy)]
-pub(crate) struct Surveyed {
+pub struct Surveyed {
     pub status: Status,
     /// The number of its listed races.
     pub listed: u32,
@@ -66,7 +66,7 @@ pub(crate) fn reading_of(words: DiagramArgs<'_>) -> DiagramReading
 }
 
 /// The diagram of a text.
-pub(crate) fn diagram_of(
+pub fn diagram_of(
     alloc: Global,
     words: ScenarioArgs<'_>,
     text: &[u8],
@@ -108,7 +108,7 @@ fn scenarios_with<'w>(
 }
 
 /// The scenarios of a diagram that the words are for: the chosen one, or all.
-pub(crate) fn scenarios_of<'w>(
+pub fn scenarios_of<'w>(
     alloc: Global,
     words: ScenarioArgs<'w>,
     diagram: &'w Diagram,
@@ -167,7 +167,7 @@ fn each_charted<'f>(
 /// the others is drawn and becomes a chart when it is taken. Contracts see the list of them, with
 /// their charts.
 #[derive(Drop)]
-pub(crate) struct Charts<'f> {
+pub struct Charts<'f> {
     file: &'f str,
     drawings: Drawings<'f>,
     first: Vec<Scenario<'f>>,
@@ -189,11 +189,7 @@ impl<'f> Model for Charts<'f> {
 impl<'f> Charts<'f> {
     /// The charts of these drawings; each drawing is one. An error is a growth of memory that was
     /// refused.
-    pub(crate) fn of(
-        alloc: Global,
-        file: &'f str,
-        drawings: Drawings<'f>,
-    ) -> Result<Self, AllocError>
+    pub fn of(alloc: Global, file: &'f str, drawings: Drawings<'f>) -> Result<Self, AllocError>
         requires { AreCharts drawings }
         ensures { IfOk result (λ charts. charts ≡ map (with_chart file.now) drawings.entry) }
     {
@@ -231,7 +227,7 @@ impl<'f> Source for Charts<'f> {
 
 /// What an answer says of a diagram besides its races.
 #[derive(Clone, Copy)]
-pub(crate) struct Told<'d> {
+pub struct Told<'d> {
     pub diagram: DiagramText<'d>,
     /// The name of the diagram.
     pub name: &'d [u8],
@@ -559,7 +555,7 @@ pub(crate) fn check_scenarios<'w, O: Write>(
     let diagram = diagram_of(alloc, words, text)?;
     let all = scenarios_of(alloc, words, &diagram)?;
     let linked = linked(alloc, words, text, &all.list)?;
-    let marks = arrow_marks(alloc, words.check_args.accept, text, &diagram)?;
+    let marks = marks_of_diagram(alloc, words.check_args.accept, text, &diagram)?;
     let charts = Charts::of(alloc, file, all.list)?;
     let told = Told {
         diagram: DiagramText {

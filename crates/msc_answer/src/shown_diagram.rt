@@ -16,7 +16,7 @@ use std::alloc::{AllocError, Global};
 
 /// A diagram of a text.
 #[derive(Clone, Copy)]
-pub(crate) struct DiagramText<'d> {
+pub struct DiagramText<'d> {
     /// The name of the file.
     pub file: &'d str,
     pub text: &'d [u8],
@@ -36,7 +36,7 @@ fn first_line(start: Start) -> usize
 }
 
 /// The first line of the block with this number, from 1, if there is one.
-pub(crate) fn block_line(found: &Markdown<'_>, number: usize) -> Option<usize>
+pub fn block_line(found: &Markdown<'_>, number: usize) -> Option<usize>
     ensures { result ≡ block_line found.now.blocks number }
 {
     let Some(index) = number.checked_sub(1) else {

@@ -12,7 +12,7 @@ ghost use Rattle.msc_answer.specs.Surveys.{options_after};
 ghost use Rattle.msc_answer.specs.Surveys.{refused_end, refused_text, survey_end, worse};
 ghost use Rattle.msc_answer.specs.Surveys.{BeginsBlock, PrintsBlock};
 
-use crate::arrow_marks::arrow_marks;
+use crate::arrow_marks::marks_of_diagram;
 use crate::ending::{Refusal, Status};
 use crate::scenarios::{Charts, Surveyed, Told, linked, reading_of, scenarios_of, tell};
 use crate::shown_diagram::{DiagramText, block_line};
@@ -70,7 +70,7 @@ pub(crate) fn behind(words: ScenarioArgs<'_>, listed: u32) -> ScenarioArgs<'_>
 }
 
 /// The same words for the diagram with this number.
-pub(crate) fn of_block(words: ScenarioArgs<'_>, number: usize) -> ScenarioArgs<'_>
+pub fn of_block(words: ScenarioArgs<'_>, number: usize) -> ScenarioArgs<'_>
     ensures check_args { result.check_args ≡ words.entry.check_args }
     ensures quiet { result.quiet ≡ words.entry.quiet }
 {
@@ -122,7 +122,7 @@ pub(crate) fn blocks_of<'t>(
 }
 
 /// The diagram with this number.
-fn diagram_at(
+pub fn diagram_at(
     alloc: Global,
     words: ScenarioArgs<'_>,
     found: &Markdown<'_>,
@@ -151,7 +151,7 @@ fn print_number(page: &mut Page, number: usize) -> Result<(), AllocError>
 }
 
 /// A name with the number of a diagram.
-fn numbered(alloc: Global, name: &[u8], number: usize) -> Result<Page, AllocError>
+pub fn numbered(alloc: Global, name: &[u8], number: usize) -> Result<Page, AllocError>
     ensures { IfOk result (λ page. page.bytes.items ≡ numbered name.now number) }
 {
     let mut page = Page::new(alloc);
@@ -181,7 +181,7 @@ pub(crate) fn check_block<'w, O: Write>(
     let diagram = diagram_at(alloc, words, found, number)?;
     let all = scenarios_of(alloc, words, &diagram)?;
     let linked = linked(alloc, words, found.text(), &all.list)?;
-    let marks = arrow_marks(alloc, words.check_args.accept, found.text(), &diagram)?;
+    let marks = marks_of_diagram(alloc, words.check_args.accept, found.text(), &diagram)?;
     let charts = Charts::of(alloc, file, all.list)?;
     let name = numbered(alloc, all.name.as_slice(), number)?;
     let shown = numbered(alloc, file.as_bytes(), number)?;
@@ -303,7 +303,7 @@ pub(crate) fn refused_end(alloc: Global, words: ScenarioArgs<'_>) -> Result<Page
 }
 
 /// The worse of two statuses: the greater one.
-pub(crate) fn worse(one: Status, other: Status) -> Status
+pub fn worse(one: Status, other: Status) -> Status
     ensures { result ≡ worse one other }
 {
     if other.code() <= one.code() {

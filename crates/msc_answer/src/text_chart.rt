@@ -16,7 +16,7 @@ use std::marker::Model;
 
 /// A text and its chart, and if the text is a diagram, the import whose chart it is.
 #[derive(Drop)]
-pub(crate) struct TextChart<'t, 'i> {
+pub struct TextChart<'t, 'i> {
     text: &'t [u8],
     chart: Chart,
     drawing: Option<&'i ImportedDiagram>,
@@ -50,7 +50,7 @@ impl<'t, 'i> TextChart<'t, 'i> {
 
     /// A text that is a diagram, with the chart of this import. An error is a growth of memory that
     /// was refused.
-    pub fn of_import(
+    pub(crate) fn of_import(
         alloc: Global,
         text: &'t [u8],
         drawing: &'i ImportedDiagram,
@@ -83,7 +83,7 @@ impl<'t, 'i> TextChart<'t, 'i> {
     }
 
     /// The import, if the text is a diagram. It takes no memory.
-    pub fn imported(&self) -> Option<&'i Imported>
+    pub(crate) fn imported(&self) -> Option<&'i Imported>
         ensures { option_map (λ i. i.now) result ≡ self.entry.now.imported }
     {
         match self.drawing {
@@ -93,7 +93,7 @@ impl<'t, 'i> TextChart<'t, 'i> {
     }
 
     /// The diagram and its import, if the text is a diagram. It takes no memory.
-    pub fn drawing(&self) -> Option<&'i ImportedDiagram>
+    pub(crate) fn drawing(&self) -> Option<&'i ImportedDiagram>
         ensures { option_map (λ i. i.now) result ≡ self.entry.now.drawing }
     {
         self.drawing

@@ -19,6 +19,8 @@ use Rattle.msc_answer.specs.Answering.{ends_with, Performs, Prints, PrintsDiagra
 use Rattle.msc_answer.specs.Ending.{status_code}
 use Rattle.msc_command.specs.Program.{IsCompleted, Obeys, Tells, TellsAnswer, TellsRefused}
 use Rattle.msc_answer.specs.Refused.{form_of, TellsIn}
+use Rattle.msc_scanning.specs.Scans.{Scans}
+use Rattle.msc_scanning.specs.declared.words.ScanArgs.{ScanArgs}
 use Rattle.msc_answer.specs.declared.tasks.RefusalForm.{RefusalForm}
 use Rattle.msc_answer.specs.declared.tasks.RefusalForm.TheVariants as forms
 
@@ -56,18 +58,18 @@ module _ {W : Type 0} (contents : W → Option (List ℕ)) where
 
   -- and of several diagrams of which one is refused all that is printed did
   several_told : (printed : List ℕ) (old new : W) → RefusesOne printed → Appends (contents old) (contents new) printed → TellsRefused contents old new
-  several_told printed old new (x, file, text, f, is, says) wrote = inr (inr (x, file, text, f, is, printed, says, wrote))
+  several_told printed old new (x, file, text, f, is, says) wrote = inr (inr (inl (x, file, text, f, is, printed, says, wrote)))
 
   -- the status tells of what was performed
   tells : (task : Task) (file : List ℕ) (reads : List ℕ → Type 0) (answer : Result Status Refusal) (old new : W)
       → Performs contents task file reads answer old new → TellsAnswer contents (ends_with answer) old new
   tells task file reads (Ok Done) old new said = tt
-  tells task file reads (Ok Races) old new (inl (text, read, (printed, says, wrote))) = (task, file, text, printed, says, wrote)
+  tells task file reads (Ok Races) old new (inl (text, read, (printed, says, wrote))) = inl (task, file, text, printed, says, wrote)
   tells task file reads (Ok Races) old new (inr (never, same)) = absurd never
   tells task file reads (Ok Refused) old new (inl (text, read, (printed, says, wrote))) =
       several_told printed old new (printed_refused task file text printed says) wrote
   tells task file reads (Ok Refused) old new (inr (never, same)) = absurd never
-  tells task file reads (Ok Unfinished) old new (inl (text, read, (printed, says, wrote))) = (task, file, text, printed, says, wrote)
+  tells task file reads (Ok Unfinished) old new (inl (text, read, (printed, says, wrote))) = inl (task, file, text, printed, says, wrote)
   tells task file reads (Ok Unfinished) old new (inr (never, same)) = absurd never
   tells task file reads (Ok Failed) old new said = tt
   tells task file reads (Err (refusals.Fault (Parse f))) old new (inl (text, read, (refused, told))) = refused_told (form_of task) file text (refusals.Fault (Parse f)) old new told
@@ -100,13 +102,27 @@ module _ {W : Type 0} (contents : W → Option (List ℕ)) where
   completed Unfinished old new said = absurd said
   completed Failed old new said = tt
 
+  -- of a scan it tells what went out, unless that failed
+  scanned : (args : ScanArgs) (rest left : Option (List ℕ)) (status : Status) (old new : W) → Scans rest left contents args status old new
+      → TellsAnswer contents status old new
+  scanned args rest left Done old new said = tt
+  scanned args rest left Races old new (inl (printed, puts, wrote)) = inr (args, rest, left, printed, puts, wrote)
+  scanned args rest left Races old new (inr failed) = absurd cc
+  scanned args rest left Refused old new (inl (printed, puts, wrote)) = inr (inr (inr (args, rest, left, printed, puts, wrote)))
+  scanned args rest left Refused old new (inr failed) = absurd cc
+  scanned args rest left Unfinished old new (inl (printed, puts, wrote)) = inr (args, rest, left, printed, puts, wrote)
+  scanned args rest left Unfinished old new (inr failed) = absurd cc
+  scanned args rest left Failed old new said = tt
+
   -- and of words that were obeyed
-  pub obeyed : {R : Type 0} (name : List ℕ) (found : Found) (status : Status) (reads : List ℕ → Type 0) (rest left : R) (old new : W)
-      → Obeys contents name found status reads rest left old new → TellsAnswer contents status old new
-  obeyed name found status reads rest left old new (inl none) = rw (none.ends) (inl none.kept)
-  obeyed name found status reads rest left old new (inr (inl done)) =
-      subst (λ (s : Status). TellsAnswer contents s old new) (sym done.ends.1) (tells done.task _ reads done.ends.0 old new done.ends.2)
-  obeyed name found status reads rest left old new (inr (inr done)) = completed status old new done.ends
+  pub obeyed : {R : Type 0} (remaining : R → Option (List ℕ)) (name : List ℕ) (found : Found) (status : Status) (rest left : R) (old new : W)
+      → Obeys remaining contents name found status rest left old new → TellsAnswer contents status old new
+  obeyed remaining name found status rest left old new (inl none) = rw (none.ends) (inl none.kept)
+  obeyed remaining name found status rest left old new (inr (inl done)) =
+      subst (λ (s : Status). TellsAnswer contents s old new) (sym done.ends.1) (tells done.task _ _ done.ends.0 old new done.ends.2)
+  obeyed remaining name found status rest left old new (inr (inr (inl done))) =
+      scanned done.args (remaining rest) (remaining left) status old new done.ends
+  obeyed remaining name found status rest left old new (inr (inr (inr done))) = completed status old new done.ends
 
   -- where the exit status is 1, an answer that tells so went out
   pub told_races : (status : Status) (old new : W) → TellsAnswer contents status old new → status_code status ≡ 1 → Tells contents Races old new

@@ -13,7 +13,7 @@ use Rattle.clap.specs.declared.parser.matches.ArgMatches.TheViews.{out-SubComman
 use Rattle.clap.specs.declared.parser.matches.SubCommand.{SubCommand}
 use Rattle.msc_command.specs.Grammar.{AreParsers, AreTaken, IsGrammar, architecture_words, format_words, kind_words, parsers_of}
 use Rattle.msc_command.specs.declared.alternatives.Choices.{Choices}
-use Rattle.msc_command.specs.Words.{color_words, cross_words, language_words, own_words, par_words, shell_words, stick_format_words}
+use Rattle.msc_command.specs.Words.{color_words, cross_words, language_words, own_words, par_words, scan_format_words, scan_queue_words, shell_words, stick_format_words}
 use Rattle.msc_command.specs.Program.{ObeysMatches, ObeysNamed}
 use Rattle.msc_answer.specs.declared.ending.Status.{Status}
 use Rattle.msc_answer.specs.declared.ending.Status.TheVariants.{Refused}
@@ -26,12 +26,15 @@ pub are_parsers : (lent : Choices)
     → map (λ word. word.now) lent.pars.words.now ≡ par_words
     → map (λ word. word.now) lent.stick_formats.words.now ≡ stick_format_words → map (λ word. word.now) lent.colors.words.now ≡ color_words
     → map (λ word. word.now) lent.shells.words.now ≡ shell_words
+    → map (λ word. word.now) lent.scan_queues.words.now ≡ scan_queue_words → map (λ word. word.now) lent.scan_formats.words.now ≡ scan_format_words
     → AreParsers (parsers_of lent)
-are_parsers lent one two three four five six seven eight nine ten = record {
+are_parsers lent one two three four five six seven eight nine ten eleven twelve = record {
   architectures = (_, refl, one);
   kinds = (_, refl, two);
   formats = (_, refl, three);
   stick_formats = (_, refl, eight);
+  scan_queues = (_, refl, eleven);
+  scan_formats = (_, refl, twelve);
   colors = (_, refl, nine);
   languages = (_, refl, four);
   owns = (_, refl, five);

@@ -347,12 +347,12 @@ abbrev pub shown_by : Format → Bool → ℕ
 shown_by format asks = cond (asks && not (is_full format)) unlimited 0
 
 -- the same by the words: they ask for runs in words, or for short ones
-pub record AreRunsShown (found : Found) (shown : ℕ) : Type 0 where
+pub record AreRunsShown (format : Format) (found : Found) (shown : ℕ) : Type 0 where
   pub in_words : Bool
   pub words_wanted : IsFlag found (arg_word words.Words) in_words
   pub short : Bool
   pub short_wanted : IsFlag found (arg_word words.Short) short
-  pub number : shown ≡ shown_by (format found) (in_words || short)
+  pub number : shown ≡ shown_by format (in_words || short)
 
 -- what the words of `check` ask of the scenarios of a diagram
 pub record IsSurvey (found : Found) (x : ScenarioArgs) : Type 0 where
@@ -364,7 +364,7 @@ pub record IsSurvey (found : Found) (x : ScenarioArgs) : Type 0 where
   pub choose : option_map (λ c. c.now) x.choose ≡ first_value found (arg_word words.Choose)
   pub chooses : lacks_choices (first_value found (arg_word words.Choose)) ≡ false
   pub shown : ℕ
-  pub runs : AreRunsShown found shown
+  pub runs : AreRunsShown (format found) found shown
   pub check_args : AreCheckArgs found shown x.check_args
   pub once : x.check_args.again ≡ false
   pub links : AreLinkWords found x.links

@@ -18,7 +18,7 @@ use Rattle.msc_command.specs.declared.words.ValueKind.{ValueKind}
 use Rattle.msc_command.specs.declared.words.ValueKind.TheVariants as value_kind
 use Rattle.msc_command.specs.declared.words.CommandName.{CommandName}
 use Rattle.msc_command.specs.declared.words.ArgName.{ArgName}
-use Rattle.msc_command.specs.Words.{value_kind_of, command_word, command_of_word, command_names, arg_word, args_of, color_words, cross_words, language_words, own_words, par_words, shell_words, stick_format_words}
+use Rattle.msc_command.specs.Words.{value_kind_of, command_word, command_of_word, command_names, arg_word, args_of, color_words, cross_words, language_words, own_words, par_words, scan_format_words, scan_queue_words, shell_words, stick_format_words}
 use Rattle.msc_answer.specs.Tasks.{format_word}
 use Rattle.msc_reason.specs.Causes.{kind_word}
 use Rattle.msc_reason.specs.declared.cause.RaceKind.TheVariants.{Early, Queues, Unordered, Overtaken}
@@ -50,6 +50,10 @@ number_parser = Signed (pos 0) (pos 4294967295)
 -- an argument that names a file or an event
 abbrev pub file_rule : Text → Rule
 file_rule name = record (new_rule name) { required = true }
+
+-- one or more arguments that name files and folders
+abbrev pub paths_rule : Text → Rule
+paths_rule name = record (file_rule name) { action = Some Append }
 
 -- an argument that is one of the words that a parser takes
 abbrev pub one_rule : Text → ValueParser → Rule
@@ -105,6 +109,8 @@ pub record Parsers : Type 0 where
   pub kinds : ValueParser
   pub formats : ValueParser
   pub stick_formats : ValueParser
+  pub scan_queues : ValueParser
+  pub scan_formats : ValueParser
   pub colors : ValueParser
   pub languages : ValueParser
   pub owns : ValueParser
@@ -119,6 +125,8 @@ parsers_of lent = record {
   kinds = Names lent.kinds.words;
   formats = Names lent.formats.words;
   stick_formats = Names lent.stick_formats.words;
+  scan_queues = Names lent.scan_queues.words;
+  scan_formats = Names lent.scan_formats.words;
   colors = Names lent.colors.words;
   languages = Names lent.languages.words;
   owns = Names lent.owns.words;
@@ -130,6 +138,7 @@ parsers_of lent = record {
 -- how a word of this name that takes this is read
 abbrev pub rule_by : Parsers → Text → ValueKind → Rule
 rule_by p name value_kind.File = file_rule name
+rule_by p name value_kind.Paths = paths_rule name
 rule_by p name value_kind.Event = file_rule name
 rule_by p name value_kind.Shell = one_rule name p.shells
 rule_by p name value_kind.Nothing = flag_rule name
@@ -137,9 +146,11 @@ rule_by p name value_kind.NothingOrQ = letter_rule name
 rule_by p name value_kind.Number = number_rule name
 rule_by p name value_kind.Architecture = needed_rule name p.architectures
 rule_by p name value_kind.ArchitectureIfAny = choice_rule name p.architectures
+rule_by p name value_kind.Architectures = choices_rule name p.scan_queues
 rule_by p name value_kind.Kinds = choices_rule name p.kinds
 rule_by p name value_kind.Format = choice_rule name p.formats
 rule_by p name value_kind.FormatSticks = choice_rule name p.stick_formats
+rule_by p name value_kind.ScanFormat = choice_rule name p.scan_formats
 rule_by p name value_kind.Color = choice_rule name p.colors
 rule_by p name value_kind.Names = names_rule name
 rule_by p name value_kind.Links = names_rule name
@@ -199,6 +210,8 @@ pub record AreParsers (p : Parsers) : Type 0 where
   pub kinds : IsOneOf kind_words p.kinds
   pub formats : IsOneOf format_words p.formats
   pub stick_formats : IsOneOf stick_format_words p.stick_formats
+  pub scan_queues : IsOneOf scan_queue_words p.scan_queues
+  pub scan_formats : IsOneOf scan_format_words p.scan_formats
   pub colors : IsOneOf color_words p.colors
   pub languages : IsOneOf language_words p.languages
   pub owns : IsOneOf own_words p.owns

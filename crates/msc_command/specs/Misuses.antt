@@ -4,13 +4,15 @@ use Rattle.std.specs.Borrow.{Bor}
 use Rattle.clap.specs.Matches.{first_value}
 use Rattle.clap.specs.declared.parser.matches.Found.{Found}
 use Rattle.msc_report.specs.declared.pair.EventName.{EventName}
-use Rattle.msc_command.specs.Asking.{architecture, default_limit, is_limit, is_of_scenarios, lacks_from, lacks_queues, lacks_rounds, IsEventWord, IsFlag, IsNoName, IsOptionNumber, IsOrigin, IsTwofold}
+use Rattle.msc_command.specs.Asking.{architecture, default_limit, is_limit, is_of_scenarios, lacks_from, lacks_queues, lacks_rounds, IsEventWord, IsFlag, IsNoName, IsNumberGiven, IsOptionNumber, IsOrigin, IsTwofold}
 use Rattle.msc_answer.specs.Importing.{gives_choices, gives_rounds}
 use Rattle.msc_command.specs.Invocations.{shell_in}
+use Rattle.msc_command.specs.Scanning.{is_jobs, IsContrary, IsScanSurvey}
 use Rattle.msc_command.specs.Words.{arg_word}
 use Rattle.msc_command.specs.declared.misuse.Misuse.{Misuse}
-use Rattle.msc_command.specs.declared.misuse.Misuse.TheVariants.{Excluded, NoQueues, Lacks, NoEvent, NoChoices, NoDiagram, NotOfDiagrams, NoRounds, NoLimit}
+use Rattle.msc_command.specs.declared.misuse.Misuse.TheVariants.{Excluded, NoQueues, Lacks, NoEvent, NoChoices, NoDiagram, NotOfDiagrams, NoRounds, NoLimit, NoJobs}
 use Rattle.msc_answer.specs.declared.tasks.ChosenArgs.{ChosenArgs}
+use Rattle.msc_answer.specs.declared.tasks.ScenarioArgs.{ScenarioArgs}
 use Rattle.msc_command.specs.declared.words.CommandName.{CommandName}
 use Rattle.msc_command.specs.declared.words.CommandName.TheVariants as command_names
 use Rattle.msc_command.specs.declared.words.ArgName.{ArgName}
@@ -106,12 +108,33 @@ abbrev pub IsDrawMisuse : Found → Misuse → Type 0
 IsDrawMisuse found misuse =
     ((misuse ≡ NoQueues) × (lacks_queues found ≡ true)) ⊎ ((lacks_queues found ≡ false) × IsOriginMisuse found misuse)
 
+-- the first of these that is so of the diagrams of a scan
+abbrev pub IsSurveyMisuse : Found → Misuse → Type 0
+IsSurveyMisuse found misuse =
+    IsRoundsMisuse found misuse
+    ⊎ ((lacks_rounds (first_value found (arg_word words.Rounds)) ≡ false) × IsLimitMisuse found misuse)
+
+-- as many files cannot be checked at a time
+pub record IsJobsMisuse (found : Found) (misuse : Misuse) : Type 0 where
+  pub jobs : ℕ
+  pub is : misuse ≡ NoJobs jobs
+  pub given : IsNumberGiven found (arg_word words.Jobs) (Some jobs)
+  pub outside : is_jobs jobs ≡ false
+
+-- the first of these that is so of the words of `scan`
+abbrev pub IsScanMisuse : Found → Misuse → Type 0
+IsScanMisuse found misuse =
+    ((misuse ≡ Excluded words.ScanAccept words.NoAccept) × IsContrary found true)
+    ⊎ (IsContrary found false × (IsSurveyMisuse found misuse
+    ⊎ (((x : ScenarioArgs) × IsScanSurvey found x) × IsJobsMisuse found misuse)))
+
 -- the first thing that is wrong with the words behind a command, where none exclude each other
 abbrev pub IsWordMisuse : CommandName → Found → Misuse → Type 0
 IsWordMisuse command_names.Read found misuse = IsOriginMisuse found misuse
 IsWordMisuse command_names.List found misuse = IsOriginMisuse found misuse
 IsWordMisuse command_names.Draw found misuse = IsDrawMisuse found misuse
 IsWordMisuse command_names.Import found misuse = IsImportMisuse found misuse
+IsWordMisuse command_names.Scan found misuse = IsScanMisuse found misuse
 IsWordMisuse command_names.Completions found misuse = IsShellMisuse found misuse
 IsWordMisuse command_names.Check found misuse = IsQueuesMisuse found misuse ⊎ IsCheckMisuse found misuse
 IsWordMisuse command_names.Explain found misuse = IsQueuesMisuse found misuse ⊎ IsPairedMisuse found misuse
@@ -122,7 +145,7 @@ IsWordMisuse command_name found misuse = IsQueuesMisuse found misuse ⊎ IsOrigi
 -- lack or mistake what the command needs
 abbrev pub IsMisuse : CommandName → Found → Misuse → Type 0
 IsMisuse command_name found misuse =
-    ((misuse ≡ Excluded) × IsTwofold found true)
+    ((misuse ≡ Excluded words.Places words.Plain) × IsTwofold found true)
     ⊎ (IsTwofold found false × IsWordMisuse command_name found misuse)
 
 -- the words behind a command are none

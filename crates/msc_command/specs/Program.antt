@@ -22,6 +22,9 @@ use Rattle.msc_answer.specs.declared.ending.Status.TheVariants.{Done, Races, Ref
 use Rattle.msc_answer.specs.declared.tasks.RefusalForm.{RefusalForm}
 use Rattle.msc_answer.specs.declared.tasks.ScenarioArgs.{ScenarioArgs}
 use Rattle.msc_answer.specs.declared.tasks.Task.{Task}
+use Rattle.msc_scanning.specs.Scans.{has_input, PutsScan, Scans}
+use Rattle.msc_scanning.specs.Words.{words_in}
+use Rattle.msc_scanning.specs.declared.words.ScanArgs.{ScanArgs}
 use Rattle.msc_command.specs.declared.invocation.Invocation.{Invocation}
 use Rattle.msc_command.specs.declared.invocation.Invocation.TheVariants as invocations
 use Rattle.msc_command.specs.declared.words.CommandName.{CommandName}
@@ -40,17 +43,28 @@ abbrev pub IsNamed : List ℕ → Found → Invocation → Type 0
 IsNamed name found invocation =
     (command_name : CommandName) × (command_of_word name ≡ Some command_name) × Invokes command_name found invocation × IsTwofold found false
 
--- nothing is done for words that name no task
-pub record AsksNothing {W : Type 0} (name : List ℕ) (found : Found) (status : Status) (old new : W) : Type 0 where
+-- nothing is done for words that name no task, and the input is not touched
+pub record AsksNothing {R W : Type 0} (name : List ℕ) (found : Found) (status : Status) (rest left : R) (old new : W) : Type 0 where
   pub named : IsNamedVainly name found
   pub ends : status ≡ Refused
   pub kept : new ≡ old
+  pub unread : left ≡ rest
 
--- a task that the words behind a command ask for was performed
-pub record PerformsAsked {W : Type 0} (contents : W → Option (List ℕ)) (name : List ℕ) (found : Found) (status : Status) (reads : List ℕ → Type 0) (old new : W) : Type 0 where
+-- a task that the words behind a command ask for was performed; where FILE is not `-` the input was
+-- not touched
+pub record PerformsAsked {R W : Type 0} (remaining : R → Option (List ℕ)) (contents : W → Option (List ℕ)) (name : List ℕ) (found : Found) (status : Status) (rest left : R) (old new : W) : Type 0 where
   pub task : Task
   pub asked : IsNamed name found (invocations.Task task)
-  pub ends : EndsAs contents task (file_of found) reads status old new
+  pub ends : EndsAs contents task (file_of found) (IsFileText found (remaining rest) (remaining left)) status old new
+  pub apart : file_of found ≢ codes "-" → left ≡ rest
+
+-- a scan that the words behind a command ask for was made; where no PATH is `-` the input was not
+-- touched
+pub record ScansAsked {R W : Type 0} (remaining : R → Option (List ℕ)) (contents : W → Option (List ℕ)) (name : List ℕ) (found : Found) (status : Status) (rest left : R) (old new : W) : Type 0 where
+  pub args : ScanArgs
+  pub asked : IsNamed name found (invocations.Scan args)
+  pub ends : Scans (remaining rest) (remaining left) contents args status old new
+  pub apart : has_input (words_in args.paths.now) ≡ false → left ≡ rest
 
 -- The completions of a shell follow the known bytes of a writer; or memory ran out, or the writer
 -- failed. Which bytes they are is only tested.
@@ -68,23 +82,20 @@ pub record CompletesAsked {R W : Type 0} (contents : W → Option (List ℕ)) (n
   pub unread : left ≡ rest
 
 -- The words behind a command were obeyed as a status tells: they ask for nothing; or a task that they
--- ask for was performed; or the completions of a shell were printed.
-abbrev pub Obeys : {R W : Type 0} → (W → Option (List ℕ)) → List ℕ → Found → Status → (List ℕ → Type 0) → R → R → W → W → Type 0
-Obeys contents name found status reads rest left old new =
-    AsksNothing name found status old new
-    ⊎ (PerformsAsked contents name found status reads old new ⊎ CompletesAsked contents name found status rest left old new)
-
--- where FILE is not `-` the input is not touched
-abbrev pub LeavesInput : {R : Type 0} → Found → R → R → Type 0
-LeavesInput found input_old input_new = file_of found ≢ codes "-" → input_new ≡ input_old
-
--- A command that the words name is obeyed, by what was found of the words behind it. What is known
+-- ask for was performed; or a scan was made; or the completions of a shell were printed. What is known
 -- of the bytes that the input has left, and of those of the output, is given by functions.
+abbrev pub Obeys : {R W : Type 0} → (R → Option (List ℕ)) → (W → Option (List ℕ)) → List ℕ → Found → Status → R → R → W → W → Type 0
+Obeys remaining contents name found status rest left old new =
+    AsksNothing name found status rest left old new
+    ⊎ (PerformsAsked remaining contents name found status rest left old new
+    ⊎ (ScansAsked remaining contents name found status rest left old new
+    ⊎ CompletesAsked contents name found status rest left old new))
+
+-- a command that the words name is obeyed, by what was found of the words behind it
 abbrev pub ObeysNamed : {R W : Type 0} → (R → Option (List ℕ)) → (W → Option (List ℕ)) → Text × List Row → Status → R → R → W → W → Type 0
 ObeysNamed remaining contents named status rest left old new =
     (found : Found) × (named.1 ≡ rows_of found)
-    × Obeys contents named.0 found status (IsFileText found (remaining rest) (remaining left)) rest left old new
-    × LeavesInput found rest left
+    × Obeys remaining contents named.0 found status rest left old new
 
 -- The words that `clap` took are obeyed; such as name no command are refused.
 abbrev pub ObeysMatches : {R W : Type 0} → (R → Option (List ℕ)) → (W → Option (List ℕ)) → ArgMatches → Status → R → R → W → W → Type 0
@@ -108,10 +119,20 @@ FollowsWords remaining contents words status rest left old new =
     ⊎ ((status ≡ Failed) × (new ≡ old)))
 
 -- a whole answer of some task with this status went behind the known bytes of a writer
-abbrev pub Tells : {W : Type 0} → (W → Option (List ℕ)) → Status → W → W → Type 0
-Tells contents status old new =
+abbrev pub TellsTask : {W : Type 0} → (W → Option (List ℕ)) → Status → W → W → Type 0
+TellsTask contents status old new =
     (task : Task) × (file : List ℕ) × (text : List ℕ) × (printed : List ℕ)
     × Prints task file text status printed × Appends (contents old) (contents new) printed
+
+-- all that is printed by some scan with this status went behind the known bytes of a writer
+abbrev pub TellsScan : {W : Type 0} → (W → Option (List ℕ)) → Status → W → W → Type 0
+TellsScan contents status old new =
+    (args : ScanArgs) × (rest left : Option (List ℕ)) × (printed : List ℕ)
+    × PutsScan args rest left status printed × Appends (contents old) (contents new) printed
+
+-- a whole answer of a task, or all that a scan prints, went there
+abbrev pub Tells : {W : Type 0} → (W → Option (List ℕ)) → Status → W → W → Type 0
+Tells contents status old new = TellsTask contents status old new ⊎ TellsScan contents status old new
 
 -- what is printed of all sequence diagrams of a Markdown text went behind the known bytes of a
 -- writer, if one of them is refused
@@ -121,12 +142,13 @@ TellsRefusedDiagram contents old new =
     × Surveys x file text f.numbers false false Done Refused printed × Appends (contents old) (contents new) printed
 
 -- where a task is refused the writer has had no call, or has a refusal in some form behind its known
--- bytes; where one of several diagrams is, it has what is printed of all of them there
+-- bytes; where one of several diagrams is, it has what is printed of all of them there; where a text of
+-- a scan is, all that the scan prints
 abbrev pub TellsRefused : {W : Type 0} → (W → Option (List ℕ)) → W → W → Type 0
 TellsRefused contents old new =
     (new ≡ old) ⊎ (((form : RefusalForm) × (file : List ℕ) × (text : List ℕ) × (refusal : Refusal) × (printed : List ℕ)
     × AreTold form file text refusal printed × Appends (contents old) (contents new) printed)
-    ⊎ TellsRefusedDiagram contents old new)
+    ⊎ (TellsRefusedDiagram contents old new ⊎ TellsScan contents Refused old new))
 
 -- what the status tells of the answer that went out
 abbrev pub TellsAnswer : {W : Type 0} → (W → Option (List ℕ)) → Status → W → W → Type 0

@@ -3,7 +3,8 @@
 ghost use Rattle.std.specs.Prelude.{◌≡◌, IfOk, map};
 ghost use Rattle.msc_command.specs.Grammar.{architecture_words, format_words, kind_words};
 ghost use Rattle.msc_command.specs.Words.{color_words, cross_words, language_words, own_words};
-ghost use Rattle.msc_command.specs.Words.{par_words, shell_words, stick_format_words};
+ghost use Rattle.msc_command.specs.Words.{par_words, scan_format_words, scan_queue_words};
+ghost use Rattle.msc_command.specs.Words.{shell_words, stick_format_words};
 
 use crate::words::ValueKind;
 use msc_answer::Format;
@@ -101,6 +102,26 @@ fn stick_format_words() -> Alternatives<'static>
     }
 }
 
+/// The words of the architectures of a scan.
+fn scan_queue_words() -> Alternatives<'static>
+    ensures { map (λ word. word.now) result.words.now ≡ scan_queue_words }
+{
+    Alternatives {
+        words: &["own", "all", "pair", "mailbox", "single"],
+        shown: "own|all|pair|mailbox|single",
+    }
+}
+
+/// The words of the formats of a scan.
+fn scan_format_words() -> Alternatives<'static>
+    ensures { map (λ word. word.now) result.words.now ≡ scan_format_words }
+{
+    Alternatives {
+        words: &["full", "text", "count", "lines"],
+        shown: "full|text|count|lines",
+    }
+}
+
 /// The words for whether there are colours.
 fn color_words() -> Alternatives<'static>
     ensures { map (λ word. word.now) result.words.now ≡ color_words }
@@ -176,6 +197,8 @@ pub(crate) struct Choices<'a> {
     pub kinds: Alternatives<'a>,
     pub formats: Alternatives<'a>,
     pub stick_formats: Alternatives<'a>,
+    pub scan_queues: Alternatives<'a>,
+    pub scan_formats: Alternatives<'a>,
     pub colors: Alternatives<'a>,
     pub languages: Alternatives<'a>,
     pub owns: Alternatives<'a>,
@@ -194,6 +217,8 @@ impl<'a> Choices<'a> {
             ValueKind::Kinds => Some(self.kinds.words),
             ValueKind::Format => Some(self.formats.words),
             ValueKind::FormatSticks => Some(self.stick_formats.words),
+            ValueKind::Architectures => Some(self.scan_queues.words),
+            ValueKind::ScanFormat => Some(self.scan_formats.words),
             ValueKind::Color => Some(self.colors.words),
             ValueKind::Language => Some(self.languages.words),
             ValueKind::Own => Some(self.owns.words),
@@ -232,6 +257,10 @@ impl Lists {
         ensures formats { result.formats.words.now ≡ self.now.formats.words.items }
         ensures stick_formats { map (λ word. word.now) result.stick_formats.words.now
             ≡ stick_format_words }
+        ensures scan_queues { map (λ word. word.now) result.scan_queues.words.now
+            ≡ scan_queue_words }
+        ensures scan_formats { map (λ word. word.now) result.scan_formats.words.now
+            ≡ scan_format_words }
         ensures colors { map (λ word. word.now) result.colors.words.now ≡ color_words }
         ensures languages { map (λ word. word.now) result.languages.words.now ≡ language_words }
         ensures owns { map (λ word. word.now) result.owns.words.now ≡ own_words }
@@ -244,6 +273,8 @@ impl Lists {
             kinds: self.kinds.alternatives(),
             formats: self.formats.alternatives(),
             stick_formats: stick_format_words(),
+            scan_queues: scan_queue_words(),
+            scan_formats: scan_format_words(),
             colors: color_words(),
             languages: language_words(),
             owns: own_words(),

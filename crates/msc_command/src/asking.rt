@@ -99,7 +99,7 @@ fn number_of(words: &ArgMatches, word: ArgName, without: u32) -> u32
 }
 
 /// The number of an option, if it is given.
-fn number_given(words: &ArgMatches, word: ArgName) -> Option<u32>
+pub(crate) fn number_given(words: &ArgMatches, word: ArgName) -> Option<u32>
     ensures { IsNumberGiven (found_of words.now) (arg_word word) result }
 {
     words.get_one(word.name())
@@ -113,7 +113,7 @@ fn stands(words: &ArgMatches, word: ArgName) -> bool
 }
 
 /// Whether a flag is given.
-fn is_given(words: &ArgMatches, word: ArgName) -> bool
+pub(crate) fn is_given(words: &ArgMatches, word: ArgName) -> bool
     ensures { IsFlag (found_of words.now) (arg_word word) result }
 {
     words.get_flag(word.name())
@@ -140,7 +140,7 @@ fn allowed_of(words: &ArgMatches) -> KindSet
 }
 
 /// The options that select races; without `--show`, `shown` races have runs.
-fn check_options_of(words: &ArgMatches, shown: u32) -> CheckOptions
+pub(crate) fn check_options_of(words: &ArgMatches, shown: u32) -> CheckOptions
     ensures { AreCheckOptions (found_of words.now) shown result }
 {
     CheckOptions {
@@ -182,7 +182,7 @@ fn colours_by(word: Option<&str>, auto: bool) -> bool
 }
 
 /// Whether findings have colours; `auto` says whether they do without a word.
-fn colours_of(words: &ArgMatches, auto: bool) -> bool
+pub(crate) fn colours_of(words: &ArgMatches, auto: bool) -> bool
     ensures { result ≡ colours_by (first_value (found_of words.now) (arg_word ArgName.Color)) auto }
 {
     colours_by(words.get_str(ArgName::Color.name()), auto)
@@ -234,7 +234,7 @@ pub(crate) fn is_twofold(words: &ArgMatches) -> bool
 }
 
 /// How the answer shows events.
-fn event_style_of(words: &ArgMatches) -> EventStyle
+pub(crate) fn event_style_of(words: &ArgMatches) -> EventStyle
     ensures { IsEventStyle (found_of words.now) result }
 {
     EventStyle {
@@ -300,7 +300,7 @@ fn queues_of<'w>(words: &'w ArgMatches) -> Result<Queues, Misuse<'w>>
 }
 
 /// The words of an option that may be repeated.
-fn texts_of<'w>(words: &'w ArgMatches, word: ArgName) -> &'w [&'w str]
+pub(crate) fn texts_of<'w>(words: &'w ArgMatches, word: ArgName) -> &'w [&'w str]
     ensures { map (λ word. word.now) result.now ≡ args_of (found_of words.entry.now) (arg_word word) }
 {
     words.get_strs(word.name()).unwrap_or(&[])
@@ -423,17 +423,17 @@ fn shown_by(format: Format, in_words: bool, short: bool) -> u32
     }
 }
 
-/// The number of races of a diagram with runs by these words, without `--show`.
-fn runs_shown(words: &ArgMatches) -> u32
-    ensures { AreRunsShown (found_of words.now) result }
+/// The number of races of a diagram with runs in this format by these words, without `--show`.
+pub(crate) fn runs_shown(words: &ArgMatches, format: Format) -> u32
+    ensures { AreRunsShown format (found_of words.now) result }
 {
     let in_words = is_given(words, ArgName::Words);
     let short = is_given(words, ArgName::Short);
-    shown_by(format_asked(words), in_words, short)
+    shown_by(format, in_words, short)
 }
 
 /// The word of `--rounds`, if it is given.
-fn rounds_word<'w>(words: &'w ArgMatches) -> Result<Option<&'w str>, Misuse<'w>>
+pub(crate) fn rounds_word<'w>(words: &'w ArgMatches) -> Result<Option<&'w str>, Misuse<'w>>
     ensures given { IfOk result (λ word. option_map (λ r. r.now) word
         ≡ first_value (found_of words.entry.now) (arg_word ArgName.Rounds)) }
     ensures gives { OnOk result
@@ -447,7 +447,7 @@ fn rounds_word<'w>(words: &'w ArgMatches) -> Result<Option<&'w str>, Misuse<'w>>
 }
 
 /// The greatest number of scenarios.
-fn limit_in<'w>(words: &'w ArgMatches) -> Result<u32, Misuse<'w>>
+pub(crate) fn limit_in<'w>(words: &'w ArgMatches) -> Result<u32, Misuse<'w>>
     ensures given { IfOk result (IsOptionNumber (found_of words.entry.now) (arg_word ArgName.Limit)
         default_limit) }
     ensures within { IfOk result (λ limit. is_limit limit ≡ true) }
@@ -473,7 +473,8 @@ fn scenarios_of<'w>(
     ensures misuse { architecture (found_of words.entry.now) ≡ Some queues
         → IfErr result (IsDiagramMisuse (found_of words.entry.now)) }
 {
-    let check_args = check_args_of(queues, words, runs_shown(words), auto);
+    let shown = runs_shown(words, format_asked(words));
+    let check_args = check_args_of(queues, words, shown, auto);
     if check_args.again {
         return Err(Misuse::NotOfDiagrams(ArgName::Again));
     }
@@ -730,7 +731,7 @@ fn language_of(words: &ArgMatches) -> Language
 }
 
 /// The meaning of arrows to oneself.
-fn own_of(words: &ArgMatches) -> Own
+pub(crate) fn own_of(words: &ArgMatches) -> Own
     ensures { result ≡ own_named (first_value (found_of words.now) (arg_word ArgName.Own)) }
 {
     match words.get_str(ArgName::Own.name()) {
@@ -740,7 +741,7 @@ fn own_of(words: &ArgMatches) -> Own
 }
 
 /// The meaning of arrows with a cross, if it is given.
-fn cross_of(words: &ArgMatches) -> Option<Cross>
+pub(crate) fn cross_of(words: &ArgMatches) -> Option<Cross>
     ensures { result ≡ cross_named (first_value (found_of words.now) (arg_word ArgName.Cross)) }
 {
     match words.get_str(ArgName::Cross.name()) {
@@ -751,7 +752,7 @@ fn cross_of(words: &ArgMatches) -> Option<Cross>
 }
 
 /// The meaning of parallel branches that are no coregion.
-fn par_of(words: &ArgMatches) -> Par
+pub(crate) fn par_of(words: &ArgMatches) -> Par
     ensures { result ≡ par_named (first_value (found_of words.now) (arg_word ArgName.Par)) }
 {
     match words.get_str(ArgName::Par.name()) {
@@ -822,7 +823,8 @@ pub(crate) fn complete_task<'w>(
     words: &'w ArgMatches,
     auto: bool,
 ) -> Result<Task<'w>, Misuse<'w>>
-    requires { command_name ≢ CommandName.Completions }
+    requires task { command_name ≢ CommandName.Completions }
+    requires file { command_name ≢ CommandName.Scan }
     ensures task { IfOk result (AsksFor command_name (found_of words.entry.now)) }
     ensures misuse { IfErr result (IsWordMisuse command_name (found_of words.entry.now)) }
 {
@@ -838,6 +840,6 @@ pub(crate) fn complete_task<'w>(
         CommandName::Report => report_of(queues_of(words)?, words),
         CommandName::Ready => ready_of(queues_of(words)?, words, auto),
         CommandName::Import => import_of(words),
-        CommandName::Completions => unreachable!(),
+        CommandName::Scan | CommandName::Completions => unreachable!(),
     }
 }

@@ -5,7 +5,8 @@ ghost use Rattle.std.specs.String.{string_bytes};
 ghost use Rattle.msc_command.specs.Grammar.{bare_command, begun_by, choice_rule, choices_rule};
 ghost use Rattle.msc_command.specs.Grammar.{command_of, commands_for, file_rule, flag_rule};
 ghost use Rattle.msc_command.specs.Grammar.{letter_rule, names_rule, needed_rule, number_rule};
-ghost use Rattle.msc_command.specs.Grammar.{one_rule, parsers_of, rule_of_arg, text_rule};
+ghost use Rattle.msc_command.specs.Grammar.{one_rule, parsers_of, paths_rule, rule_of_arg};
+ghost use Rattle.msc_command.specs.Grammar.{text_rule};
 ghost use Rattle.msc_command.specs.Grammar.{with_commands, IsArgument, IsCommand};
 ghost use Rattle.clap.specs.Words.{App, Rule, new_app, with_rule, with_subcommand};
 ghost use Rattle.clap.specs.declared.builder.value_parser.ValueParser.TheVariants.{Names};
@@ -22,6 +23,16 @@ fn named_by<'a>(alloc: Global, name: &'static str, help: &'static str) -> Arg<'a
     ensures { IsArgument (file_rule name.now) result }
 {
     Arg::new(alloc, name).help(help).required(true)
+}
+
+/// The arguments that name files and folders, one or more.
+fn paths<'a>(alloc: Global, name: &'static str, help: &'static str) -> Arg<'a>
+    ensures { IsArgument (paths_rule name.now) result }
+{
+    Arg::new(alloc, name)
+        .help(help)
+        .required(true)
+        .action(ArgAction::Append)
 }
 
 /// An argument that is one of these words.
@@ -149,15 +160,18 @@ fn by_kind<'a>(alloc: Global, word: ArgName, lent: Choices<'a>) -> Arg<'a>
     let (name, help) = (word.name(), word.help());
     match word.value_kind() {
         ValueKind::File | ValueKind::Event => named_by(alloc, name, help),
+        ValueKind::Paths => paths(alloc, name, help),
         ValueKind::Shell => one_named(alloc, name, help, lent.shells),
         ValueKind::Nothing => flag(alloc, name, help),
         ValueKind::NothingOrQ => letter(alloc, name, help),
         ValueKind::Number => number(alloc, name, help),
         ValueKind::Architecture => one_needed(alloc, name, help, lent.architectures),
         ValueKind::ArchitectureIfAny => one_of(alloc, name, help, lent.architectures),
+        ValueKind::Architectures => any_of(alloc, name, help, lent.scan_queues),
         ValueKind::Kinds => any_of(alloc, name, help, lent.kinds),
         ValueKind::Format => one_of(alloc, name, help, lent.formats),
         ValueKind::FormatSticks => one_of(alloc, name, help, lent.stick_formats),
+        ValueKind::ScanFormat => one_of(alloc, name, help, lent.scan_formats),
         ValueKind::Color => one_of(alloc, name, help, lent.colors),
         ValueKind::Names => names(alloc, name, help, "NAME"),
         ValueKind::Links => names(alloc, name, help, "LINK"),

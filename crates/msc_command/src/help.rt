@@ -11,6 +11,15 @@ const FORMAT_HELP: &str =
 const QUEUES_HELP: &str =
     "A queue for each sender and receiver, each receiver, or each message; or as the text says";
 
+const SCAN_FORMAT_HELP: &str =
+    "Print full for people (default), text for scripts, count on one line each, lines for editors";
+
+const SCAN_QUEUES_HELP: &str =
+    "Check under the queues of each text (own, the default) or under these; may be repeated";
+
+const SKIP_HELP: &str =
+    "Pass over files and folders that are called NAME, alone or as a whole path; may be repeated";
+
 const PAIR_HELP: &str =
     "Give each link of LINK, NAME or 'NAME>NAME', a queue of its own; may be repeated";
 
@@ -44,13 +53,16 @@ impl ArgName {
     pub fn heading(self) -> Option<&'static str> {
         match self {
             ArgName::File | ArgName::FirstEvent | ArgName::SecondEvent | ArgName::Shell => None,
+            ArgName::Paths | ArgName::ScanFormat | ArgName::ScanQuiet => None,
             ArgName::ChartFormat | ArgName::FormatSticks | ArgName::Color | ArgName::Quiet => None,
             ArgName::Words | ArgName::Short | ArgName::Places | ArgName::Plain => None,
             ArgName::Svg | ArgName::Listed => None,
-            ArgName::Queues | ArgName::QueuesIfAny => Some("Queues"),
+            ArgName::Skip | ArgName::OnlyRaces | ArgName::Jobs => Some("Files"),
+            ArgName::Queues | ArgName::QueuesIfAny | ArgName::ScanQueues => Some("Queues"),
             ArgName::Pair | ArgName::Mailbox | ArgName::Single => Some("Queues"),
             ArgName::Closest | ArgName::Why | ArgName::Most | ArgName::Show => Some("Races"),
             ArgName::Allow | ArgName::Accept | ArgName::Again => Some("Races"),
+            ArgName::ScanAccept | ArgName::NoAccept => Some("Races"),
             ArgName::Only | ArgName::ShowSticks | ArgName::AgainSticks => Some("Sticks"),
             ArgName::Patience => Some("Runs"),
             ArgName::From | ArgName::ScenarioFrom | ArgName::ScenariosFrom => Some("Diagrams"),
@@ -64,15 +76,20 @@ impl ArgName {
     pub fn help(self) -> &'static str {
         match self {
             ArgName::File => "The text to read; - is standard input",
+            ArgName::Paths => "The files and folders to check; - is standard input",
             ArgName::FirstEvent =>
                 "The first event: its number, or :LINE for the first one on that line",
             ArgName::SecondEvent => "The second event",
             ArgName::Shell => "The shell",
             ArgName::ChartFormat | ArgName::FormatSticks => FORMAT_HELP,
+            ArgName::ScanFormat => SCAN_FORMAT_HELP,
             ArgName::Color => {
                 "Whether --format full prints colours; with auto, the default, it does on a terminal"
             }
             ArgName::Quiet => "Print nothing; the exit status is the answer",
+            ArgName::ScanQuiet => {
+                "Print only the last line in the formats full and text, and nothing in the others"
+            }
             ArgName::Words => "Print a run in words, a line for each of its events",
             ArgName::Short => "Print a short run, which ends with the second event",
             ArgName::Places => "Print the places of events, and notes after a fault",
@@ -82,6 +99,7 @@ impl ArgName {
                 "Print the events of the chart with their numbers, and the places of their arrows"
             }
             ArgName::Queues => QUEUES_HELP,
+            ArgName::ScanQueues => SCAN_QUEUES_HELP,
             ArgName::QueuesIfAny => {
                 "Mark the closest races under these queues; `msc check --help` describes them"
             }
@@ -94,6 +112,8 @@ impl ArgName {
             ArgName::Show => "Print a run for the first N races only",
             ArgName::Allow => ALLOW_HELP,
             ArgName::Accept => ACCEPT_HELP,
+            ArgName::ScanAccept => "Leave out the races that marks of the text accept, the default",
+            ArgName::NoAccept => "Count also the races that marks accept",
             ArgName::Again => "Let the chart repeat, and print also the races between two rounds",
             ArgName::Only => "Let only the instances that are named be ready; may be repeated",
             ArgName::ShowSticks => SHOW_STICKS_HELP,
@@ -115,6 +135,11 @@ impl ArgName {
             ArgName::Fence => {
                 "Take the N-th marked block of a Markdown file; flow charts count, too"
             }
+            ArgName::Skip => SKIP_HELP,
+            ArgName::OnlyRaces => "Leave out what passes; full does so without it, too",
+            ArgName::Jobs => {
+                "Check N files at a time, 1 to 64; without it, as many as there are processors"
+            }
             ArgName::Name => "The name of the chart; without it, that of the file",
             ArgName::Own => "What an arrow to oneself is; without it, an action",
             ArgName::Cross => "What an arrow with a cross is; without it, each one is a choice",
@@ -130,6 +155,7 @@ impl CommandName {
             CommandName::Read => "Print the chart's canonical text",
             CommandName::Check =>
                 "Print whether the chart has races, and for each a run that shows it",
+            CommandName::Scan => "Print the races of all charts and diagrams in files and folders",
             CommandName::Explain => {
                 "Print why an event comes before another, or a run in which it does not"
             }
@@ -155,6 +181,7 @@ impl CommandName {
         match self {
             CommandName::Read => READ_NOTES,
             CommandName::Check => CHECK_NOTES,
+            CommandName::Scan => SCAN_NOTES,
             CommandName::Explain => EXPLAIN_NOTES,
             CommandName::Follow => FOLLOW_NOTES,
             CommandName::Run => RUN_NOTES,
@@ -172,16 +199,18 @@ impl CommandName {
 /// The text below the help of all commands.
 pub(crate) const NOTES: &str = "\
 Exit status:
-  0  the answer was written; `check` found no races that count, `explain` that E is enforced
-     before F, `follow` a run that keeps the drawing, `run` that all instances finish, `ready`
-     that the system does
-  1  `check` found races that count, `explain` that E is not enforced before F, `follow` that no
-     run keeps the drawing, or `ready` a system that may stick, or races that are left
+  0  the answer was written; `check` and `scan` found no races that count, `explain` that E is
+     enforced before F, `follow` a run that keeps the drawing, `run` that all instances finish,
+     `ready` that the system does
+  1  `check` or `scan` found races that count, `explain` that E is not enforced before F,
+     `follow` that no run keeps the drawing, or `ready` a system that may stick, or races that
+     are left
   2  the text, the pair, a name or the command line was refused
   3  some instance of `run` has not finished
   4  memory ran out, a thread could not be started, or a file or the output failed
 
 Examples:
+  msc scan docs
   msc check --queues pair --places relay.msc
   msc explain --queues mailbox relay.msc 2 3
   msc run --queues mailbox relay.msc";
@@ -237,6 +266,35 @@ Examples:
   msc check --queues pair --show 1 relay.msc
   msc check --queues mailbox --closest --why --allow early relay.msc
   msc check --queues pair --from mermaid checkout.mmd";
+
+/// The text below the help of `msc scan`.
+const SCAN_NOTES: &str = "\
+A folder stands for the files below it whose names end in .msc (charts), .mmd or .mermaid
+(diagrams), .md or .markdown (each sequence diagram of the page). Names that begin with a dot, and
+folders called node_modules or target, are passed over. A file with another ending is read by its
+content.
+
+A comment names the queues of a text: of a diagram one at its top, of a chart one behind its name.
+Links may have other queues, as in `msc check --pair`:
+  %% queues mailbox
+  %% queues pair; mailbox Worker; single DB>Worker
+  msc relay comment 'queues mailbox';
+Without such a comment, a text is checked as `pair`, a connection for each sender and receiver. With
+--queues all, it is checked as `pair`, `mailbox` and `single`.
+
+Marks accept races, as in `msc check --accept`. Options like --most are for each diagram by itself.
+Diagrams ignore --again.
+
+Exit status:
+  0  no text has races that count, or a mark that accepts none
+  1  some text has races that count, or such a mark, and none was refused
+  2  some text was refused and nothing failed, or the command line was refused
+  4  a path could not be read or has nothing to check, memory ran out, or the output failed
+
+Examples:
+  msc scan .
+  msc scan --queues all --format count docs README.md
+  msc scan --skip vendor --only-races --format lines src";
 
 /// The text below the help of `msc explain`.
 const EXPLAIN_NOTES: &str = "\

@@ -1,4 +1,4 @@
-//! What the words of a command line ask for: a task on a file, or the completions of a shell.
+//! What the words of a command line ask for: a task on a file, a scan, or the completions of a shell.
 
 ghost use Rattle.std.specs.Prelude.{◌≡◌, false, IfErr, IfOk, OnOk, Some};
 ghost use Rattle.clap.specs.Matches.{found_of};
@@ -8,15 +8,20 @@ ghost use Rattle.msc_command.specs.Misuses.{IsMisuse, IsShellMisuse, IsWordMisus
 
 use crate::asking::{complete_task, is_twofold};
 use crate::misuse::Misuse;
+use crate::scanning::scan_args_of;
 use crate::words::{ArgName, CommandName, Shell};
 use clap::ArgMatches;
 use msc_answer::Task;
+use msc_scanning::ScanArgs;
+use std::thread::Threads;
 
 /// What the words of a command ask for.
 #[derive(Clone, Copy)]
 pub(crate) enum Invocation<'w> {
     /// A task on the file that the words name.
     Task(Task<'w>),
+    /// A scan of files and folders.
+    Scan(ScanArgs<'w>),
     /// The completions of a shell.
     Completions(Shell),
 }
@@ -40,7 +45,8 @@ fn shell_of<'w>(words: &'w ArgMatches) -> Result<Shell, Misuse<'w>>
 }
 
 /// What the words of a command ask for, unless words exclude each other.
-fn complete<'w>(
+fn complete<'w, R: Threads>(
+    rt: &R,
     command_name: CommandName,
     words: &'w ArgMatches,
     auto: bool,
@@ -49,14 +55,16 @@ fn complete<'w>(
     ensures misuse { IfErr result (IsWordMisuse command_name (found_of words.entry.now)) }
 {
     match command_name {
+        CommandName::Scan => Ok(Invocation::Scan(scan_args_of(rt, words, auto)?)),
         CommandName::Completions => Ok(Invocation::Completions(shell_of(words)?)),
         _ => Ok(Invocation::Task(complete_task(command_name, words, auto)?)),
     }
 }
 
 /// What the words of a command ask for, or the first reason why they are no command; `auto` says
-/// whether findings have colours without `--color`.
-pub(crate) fn invocation_of<'w>(
+/// whether findings have colours without `--color`, and `rt` how many processors there are.
+pub(crate) fn invocation_of<'w, R: Threads>(
+    rt: &R,
     command_name: CommandName,
     words: &'w ArgMatches,
     auto: bool,
@@ -66,7 +74,7 @@ pub(crate) fn invocation_of<'w>(
     ensures misuse { IfErr result (IsMisuse command_name (found_of words.entry.now)) }
 {
     if is_twofold(words) {
-        return Err(Misuse::Excluded);
+        return Err(Misuse::Excluded(ArgName::Places, ArgName::Plain));
     }
-    complete(command_name, words, auto)
+    complete(rt, command_name, words, auto)
 }

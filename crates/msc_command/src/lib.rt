@@ -12,6 +12,8 @@
 //! - The order of the tables is that of the help. An option belongs to one group of the help, in all
 //!   commands, so an option of two meanings has two rows, such as `Show` and `ShowSticks`.
 //! - A command that is no task on a file has its own variant of `Invocation`.
+//! - Without `--jobs`, a scan checks as many files at a time as there are processors. No clause says
+//!   how many these are: it changes no byte of the output.
 //! - If the first word names a command, `grammar` makes the words of that command only: those of
 //!   all take longer than the check of a small chart. Contracts are about the whole grammar
 //!   (`whole_command`); a lemma says that both take such words in the same way
@@ -34,6 +36,7 @@ mod help;
 mod invocation;
 mod misuse;
 mod program;
+mod scanning;
 mod shown;
 mod tables;
 mod words;

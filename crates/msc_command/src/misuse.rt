@@ -1,7 +1,8 @@
 //! Words that `clap` takes and that are no command: they exclude each other, lack what the command
-//! needs, or name no event. They are refused in the form in which `clap` refuses words. No clause
-//! is about what is printed; transcripts compare it.
+//! needs, name no event, or have a number that is out of its range. They are refused in the form in
+//! which `clap` refuses words. No clause is about what is printed; transcripts compare it.
 
+use crate::scanning::GREATEST_JOBS;
 use crate::words::ArgName;
 use msc_answer::GREATEST_LIMIT;
 use std::io;
@@ -13,8 +14,8 @@ const HELP: &str = "\n\nFor more information, try '--help'.";
 /// Why words that `clap` took are no command.
 #[derive(Clone, Copy)]
 pub(crate) enum Misuse<'w> {
-    /// `--places` and `--plain` exclude each other.
-    Excluded,
+    /// These options exclude each other.
+    Excluded(ArgName, ArgName),
     /// The option `--queues` is missing.
     NoQueues,
     /// This argument is missing.
@@ -31,6 +32,8 @@ pub(crate) enum Misuse<'w> {
     NoRounds(&'w str),
     /// `--limit` is out of its range.
     NoLimit(u32),
+    /// `--jobs` is out of its range.
+    NoJobs(u32),
 }
 
 /// Writes that a text is no number from `first` on.
@@ -69,6 +72,14 @@ fn write_lacking<E: Write>(faults: &mut E, word: ArgName) -> io::Result<()> {
     )
 }
 
+/// Writes that two options exclude each other.
+fn write_excluded<E: Write>(faults: &mut E, option: &str, other: &str) -> io::Result<()> {
+    writeln!(
+        faults,
+        "error: the argument '--{option}' cannot be used with '--{other}'{HELP}"
+    )
+}
+
 /// Writes that an option cannot be given with `--from`.
 fn write_not_of_diagrams<E: Write>(faults: &mut E, option: &str) -> io::Result<()> {
     writeln!(
@@ -90,21 +101,23 @@ fn write_unexpected<E: Write>(
     )
 }
 
-/// Writes that `--limit` is out of its range.
-fn write_no_limit<E: Write>(faults: &mut E, limit: u32) -> io::Result<()> {
+/// Writes that the number of an option is out of its range, which begins at 1.
+fn write_out_of_range<E: Write>(
+    faults: &mut E,
+    number: u32,
+    option: &str,
+    greatest: u32,
+) -> io::Result<()> {
     writeln!(
         faults,
-        "error: invalid value '{limit}' for '--limit <N>': {limit} is not in 1..={GREATEST_LIMIT}{HELP}"
+        "error: invalid value '{number}' for '--{option} <N>': {number} is not in 1..={greatest}{HELP}"
     )
 }
 
 /// Writes why words are no command.
 pub(crate) fn write_misuse<E: Write>(faults: &mut E, misuse: Misuse<'_>) -> io::Result<()> {
     match misuse {
-        Misuse::Excluded => writeln!(
-            faults,
-            "error: the argument '--places' cannot be used with '--plain'{HELP}"
-        ),
+        Misuse::Excluded(word, other) => write_excluded(faults, word.name(), other.name()),
         Misuse::NoQueues => write_missing(faults, "--queues <QUEUES>"),
         Misuse::Lacks(word) => write_lacking(faults, word),
         Misuse::NoEvent(word, text) => write_no_event(faults, word, text),
@@ -118,6 +131,7 @@ pub(crate) fn write_misuse<E: Write>(faults: &mut E, misuse: Misuse<'_>) -> io::
             let expected = "numbers up to 1024 with commas";
             write_unexpected(faults, text, "--rounds <R,R..>", expected)
         }
-        Misuse::NoLimit(limit) => write_no_limit(faults, limit),
+        Misuse::NoLimit(limit) => write_out_of_range(faults, limit, "limit", GREATEST_LIMIT),
+        Misuse::NoJobs(jobs) => write_out_of_range(faults, jobs, "jobs", GREATEST_JOBS),
     }
 }

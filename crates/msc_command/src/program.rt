@@ -7,8 +7,8 @@ ghost use Rattle.std.specs.String.{string_bytes};
 ghost use Rattle.clap.specs.Words.{found_of, kind_of};
 ghost use Rattle.msc_answer.specs.Answering.{EndsAs};
 ghost use Rattle.msc_answer.specs.Ending.{status_code};
-ghost use Rattle.msc_command.specs.Program.{EndsUsage, FollowsWords, IsFileText, IsNamed};
-ghost use Rattle.msc_command.specs.Program.{IsNamedVainly, LeavesInput, Obeys, ObeysMatches};
+ghost use Rattle.msc_command.specs.Program.{EndsUsage, FollowsWords, IsNamed, IsNamedVainly};
+ghost use Rattle.msc_command.specs.Program.{Obeys, ObeysMatches};
 ghost use Rattle.msc_command.specs.Program.{Tells, TellsAnswer, TellsRefused};
 ghost use Rattle.msc_answer.specs.declared.ending.Status.{Status};
 ghost use Rattle.msc_answer.specs.declared.ending.Status.TheVariants.{Races, Unfinished};
@@ -25,8 +25,9 @@ use crate::words::CommandName;
 use clap::{ArgMatches, Error};
 use msc_answer::{Request, ShowsColours, Status, TellsFailure, end_unread_task, end_with, perform};
 use msc_report::Fault;
+use msc_scanning::{ReadsFiles, scan};
 use msc_source::ReadFault;
-use std::alloc::{AllocError, Global};
+use std::alloc::{Alloc, AllocError, Global};
 use std::io::{ErrorKind, IsTerminal, Read, Write};
 use std::rt::Files;
 use std::sync::Wait;
@@ -77,8 +78,9 @@ fn tell_usage<O: Write, E: Write>(output: &mut O, faults: &mut E, error: &Error)
 }
 
 /// What the words after a command of this name ask for; `auto` says whether findings have colours
-/// without `--color`. Why they are no command goes to `faults`.
-fn invocation_named<'w, E: Write>(
+/// without `--color`, and `rt` how many processors there are. Why they are no command goes to `faults`.
+fn invocation_named<'w, R: Threads, E: Write>(
+    rt: &R,
     name: &str,
     words: &'w ArgMatches,
     auto: bool,
@@ -87,7 +89,7 @@ fn invocation_named<'w, E: Write>(
     ensures { MatchOption result (IsNamedVainly name.now (found_of words.entry.now))
         (IsNamed name.now (found_of words.entry.now)) }
 {
-    match invocation_of(CommandName::of(name)?, words, auto) {
+    match invocation_of(rt, CommandName::of(name)?, words, auto) {
         Ok(invocation) => Some(invocation),
         Err(misuse) => {
             let _ = write_misuse(&mut Shown { inner: faults }, misuse);
@@ -98,7 +100,7 @@ fn invocation_named<'w, E: Write>(
 
 /// Does what the words after a command ask for, and returns the status.
 fn obey<
-    R: Files + Threads + Wait + Sync,
+    R: Files + ReadsFiles + Threads + Wait + Sync + Alloc + Clone + Drop,
     I: Read,
     O: TellsFailure + ShowsColours,
     E: Write + IsTerminal,
@@ -111,12 +113,10 @@ fn obey<
     output: &mut O,
     faults: &mut E,
 ) -> Status
-    ensures obeyed { Obeys O.contents name.now (found_of words.now) result
-        (IsFileText (found_of words.now) (I.remaining input.old) (I.remaining input.new))
+    ensures { Obeys I.remaining O.contents name.now (found_of words.now) result
         input.old input.new output.old output.new }
-    ensures apart { LeavesInput (found_of words.now) input.old input.new }
 {
-    let Some(invocation) = invocation_named(name, words, output.shows_colours(), faults) else {
+    let Some(invocation) = invocation_named(rt, name, words, output.shows_colours(), faults) else {
         return Status::Refused;
     };
     match invocation {
@@ -128,13 +128,14 @@ fn obey<
             };
             perform_on(rt, alloc, request, input, output, faults)
         }
+        Invocation::Scan(scan_args) => scan(rt, alloc, scan_args, input, output, faults),
         Invocation::Completions(shell) => print_completions(alloc, shell, output, faults),
     }
 }
 
 /// Does what words that `clap` took ask for, and returns the status.
 fn obey_matches<
-    R: Files + Threads + Wait + Sync,
+    R: Files + ReadsFiles + Threads + Wait + Sync + Alloc + Clone + Drop,
     I: Read,
     O: TellsFailure + ShowsColours,
     E: Write + IsTerminal,
@@ -159,7 +160,7 @@ fn obey_matches<
 /// Does what the words ask for, and returns the status. An error is a growth of memory that was
 /// refused before the words were known.
 fn run<
-    R: Files + Threads + Wait + Sync,
+    R: Files + ReadsFiles + Threads + Wait + Sync + Alloc + Clone + Drop,
     I: Read,
     O: TellsFailure + ShowsColours,
     E: Write + IsTerminal,
@@ -212,6 +213,9 @@ pub fn refuse_words<E: Write>(faults: &mut E, error: &io::Error) -> u8
 ///   findings as people read them, `--quiet` nothing.
 /// - `check --from LANGUAGE ..`: the same for all scenarios of a sequence diagram, or of all
 ///   diagrams of a Markdown text; `--fence N` takes its N-th block.
+/// - `scan PATH..`: the same for all charts and diagrams of files and folders, each under the queues
+///   that its text names. `--queues QUEUES` names others, `--jobs N` says how many files are checked
+///   at a time.
 /// - `explain --queues QUEUES FILE E F`: why event E is enforced before event F, or a run that has
 ///   F first.
 /// - `follow --queues QUEUES FILE`: a run that keeps the drawing, or the ring of steps by which none
@@ -239,9 +243,10 @@ pub fn refuse_words<E: Write>(faults: &mut E, error: &io::Error) -> u8
 /// ready instances can stick. It is 2 if the words are no command, or if the text, a diagram of a
 /// Markdown text, its queues, its rounds, the pair or a name was refused. It is 3 if some instance of
 /// an execution has not finished. It is 4 if memory ran out, a thread could not be started, a file
-/// could not be opened or read, or the output could not be written.
+/// could not be opened or read, or the output could not be written. A scan ends with the worst status
+/// of its texts: 4 before 2 before 1 before 0; a path that has nothing to check has status 4.
 pub fn command<
-    R: Files + Threads + Wait + Sync,
+    R: Files + ReadsFiles + Threads + Wait + Sync + Alloc + Clone + Drop,
     I: Read,
     O: TellsFailure + ShowsColours,
     E: Write + IsTerminal,

@@ -52,6 +52,38 @@ const CHECK: [ArgName; 28] = [
     ArgName::File,
 ];
 
+/// The words of `scan`.
+const SCAN: [ArgName; 28] = [
+    ArgName::ScanFormat,
+    ArgName::Color,
+    ArgName::ScanQuiet,
+    ArgName::Words,
+    ArgName::Short,
+    ArgName::Places,
+    ArgName::Plain,
+    ArgName::Skip,
+    ArgName::OnlyRaces,
+    ArgName::Jobs,
+    ArgName::ScanQueues,
+    ArgName::Pair,
+    ArgName::Mailbox,
+    ArgName::Single,
+    ArgName::Closest,
+    ArgName::Why,
+    ArgName::Most,
+    ArgName::Show,
+    ArgName::Allow,
+    ArgName::ScanAccept,
+    ArgName::NoAccept,
+    ArgName::Again,
+    ArgName::Rounds,
+    ArgName::Limit,
+    ArgName::Own,
+    ArgName::Cross,
+    ArgName::Par,
+    ArgName::Paths,
+];
+
 /// The words of `explain`.
 const EXPLAIN: [ArgName; 18] = [
     ArgName::Words,
@@ -220,6 +252,7 @@ impl CommandName {
         match self {
             CommandName::Read | CommandName::List => &READ,
             CommandName::Check => &CHECK,
+            CommandName::Scan => &SCAN,
             CommandName::Explain => &EXPLAIN,
             CommandName::Follow => &FOLLOW,
             CommandName::Run => &RUN,

@@ -12,6 +12,7 @@ ghost use Rattle.msc_command.specs.Words.{shell_of_word, shell_word, value_kind_
 pub(crate) enum CommandName {
     Read,
     Check,
+    Scan,
     Explain,
     Follow,
     Run,
@@ -28,8 +29,10 @@ pub(crate) enum CommandName {
 #[derive(Clone, Copy)]
 pub(crate) enum ArgName {
     File,
+    Paths,
     Queues,
     QueuesIfAny,
+    ScanQueues,
     Pair,
     Mailbox,
     Single,
@@ -42,11 +45,15 @@ pub(crate) enum ArgName {
     Allow,
     ChartFormat,
     FormatSticks,
+    ScanFormat,
     Color,
     Quiet,
+    ScanQuiet,
     Words,
     Short,
     Accept,
+    ScanAccept,
+    NoAccept,
     Again,
     AgainSticks,
     Patience,
@@ -65,6 +72,9 @@ pub(crate) enum ArgName {
     Rounds,
     Limit,
     Fence,
+    Skip,
+    OnlyRaces,
+    Jobs,
     FirstEvent,
     SecondEvent,
     Shell,
@@ -75,6 +85,8 @@ pub(crate) enum ArgName {
 pub(crate) enum ValueKind {
     /// An argument: the name of a file.
     File,
+    /// The arguments: names of files and folders, one or more.
+    Paths,
     /// An argument: the name of an event, its number or `:LINE`.
     Event,
     /// An argument: the name of a shell.
@@ -89,12 +101,16 @@ pub(crate) enum ValueKind {
     Architecture,
     /// An option with an architecture.
     ArchitectureIfAny,
+    /// An option with an architecture of a scan, which may be repeated.
+    Architectures,
     /// An option with a kind of races, which may be repeated.
     Kinds,
     /// An option with the format of an answer.
     Format,
     /// An option with the format of an answer on ready instances.
     FormatSticks,
+    /// An option with the format of a scan.
+    ScanFormat,
     /// An option that says whether there are colours.
     Color,
     /// An option with a name, which may be repeated.
@@ -132,7 +148,8 @@ impl ArgName {
     {
         match self {
             ArgName::File => "FILE",
-            ArgName::Queues | ArgName::QueuesIfAny => "queues",
+            ArgName::Paths => "PATH",
+            ArgName::Queues | ArgName::QueuesIfAny | ArgName::ScanQueues => "queues",
             ArgName::Pair => "pair",
             ArgName::Mailbox => "mailbox",
             ArgName::Single => "single",
@@ -142,12 +159,13 @@ impl ArgName {
             ArgName::Show | ArgName::ShowSticks => "show",
             ArgName::Only => "only",
             ArgName::Allow => "allow",
-            ArgName::ChartFormat | ArgName::FormatSticks => "format",
+            ArgName::ChartFormat | ArgName::FormatSticks | ArgName::ScanFormat => "format",
             ArgName::Color => "color",
-            ArgName::Quiet => "quiet",
+            ArgName::Quiet | ArgName::ScanQuiet => "quiet",
             ArgName::Words => "words",
             ArgName::Short => "short",
-            ArgName::Accept => "accept",
+            ArgName::Accept | ArgName::ScanAccept => "accept",
+            ArgName::NoAccept => "no-accept",
             ArgName::Again | ArgName::AgainSticks => "again",
             ArgName::Patience => "patience",
             ArgName::Places => "places",
@@ -163,6 +181,9 @@ impl ArgName {
             ArgName::Rounds => "rounds",
             ArgName::Limit => "limit",
             ArgName::Fence => "fence",
+            ArgName::Skip => "skip",
+            ArgName::OnlyRaces => "only-races",
+            ArgName::Jobs => "jobs",
             ArgName::FirstEvent => "E",
             ArgName::SecondEvent => "F",
             ArgName::Shell => "SHELL",
@@ -175,22 +196,26 @@ impl ArgName {
     {
         match self {
             ArgName::File => ValueKind::File,
+            ArgName::Paths => ValueKind::Paths,
             ArgName::FirstEvent | ArgName::SecondEvent => ValueKind::Event,
             ArgName::Shell => ValueKind::Shell,
             ArgName::Closest | ArgName::Why | ArgName::Words | ArgName::Short => ValueKind::Nothing,
             ArgName::Accept | ArgName::Places | ArgName::Plain | ArgName::Svg => ValueKind::Nothing,
             ArgName::Again | ArgName::AgainSticks | ArgName::Listed => ValueKind::Nothing,
-            ArgName::Quiet => ValueKind::NothingOrQ,
+            ArgName::ScanAccept | ArgName::NoAccept | ArgName::OnlyRaces => ValueKind::Nothing,
+            ArgName::Quiet | ArgName::ScanQuiet => ValueKind::NothingOrQ,
             ArgName::Most | ArgName::Show | ArgName::ShowSticks | ArgName::Patience =>
                 ValueKind::Number,
-            ArgName::Limit | ArgName::Fence => ValueKind::Number,
-            ArgName::Only => ValueKind::Names,
+            ArgName::Limit | ArgName::Fence | ArgName::Jobs => ValueKind::Number,
+            ArgName::Only | ArgName::Skip => ValueKind::Names,
             ArgName::Pair | ArgName::Mailbox | ArgName::Single => ValueKind::Links,
             ArgName::Queues => ValueKind::Architecture,
             ArgName::QueuesIfAny => ValueKind::ArchitectureIfAny,
+            ArgName::ScanQueues => ValueKind::Architectures,
             ArgName::Allow => ValueKind::Kinds,
             ArgName::ChartFormat => ValueKind::Format,
             ArgName::FormatSticks => ValueKind::FormatSticks,
+            ArgName::ScanFormat => ValueKind::ScanFormat,
             ArgName::Color => ValueKind::Color,
             ArgName::From | ArgName::ScenarioFrom => ValueKind::Language,
             ArgName::ScenariosFrom => ValueKind::Language,
@@ -209,7 +234,10 @@ impl ValueKind {
     pub fn is_argument(self) -> bool
         ensures { result ≡ is_argument self }
     {
-        matches!(self, ValueKind::File | ValueKind::Event | ValueKind::Shell)
+        matches!(
+            self,
+            ValueKind::File | ValueKind::Paths | ValueKind::Event | ValueKind::Shell
+        )
     }
 
     /// Whether an option of this kind has a value.
@@ -219,11 +247,18 @@ impl ValueKind {
         !matches!(self, ValueKind::Nothing | ValueKind::NothingOrQ)
     }
 
-    /// Whether an option of this kind may be repeated.
+    /// Whether a word of this kind may be repeated.
     pub fn may_be_repeated(self) -> bool
         ensures { result ≡ may_be_repeated self }
     {
-        matches!(self, ValueKind::Kinds | ValueKind::Names | ValueKind::Links)
+        matches!(
+            self,
+            ValueKind::Paths
+                | ValueKind::Architectures
+                | ValueKind::Kinds
+                | ValueKind::Names
+                | ValueKind::Links
+        )
     }
 
     /// The letter that an option of this kind has too.
@@ -237,9 +272,10 @@ impl ValueKind {
 
 impl CommandName {
     /// All commands, in the order of the help.
-    pub const ALL: [CommandName; 12] = [
+    pub const ALL: [CommandName; 13] = [
         CommandName::Read,
         CommandName::Check,
+        CommandName::Scan,
         CommandName::Explain,
         CommandName::Follow,
         CommandName::Run,
@@ -259,6 +295,7 @@ impl CommandName {
         match self {
             CommandName::Read => "read",
             CommandName::Check => "check",
+            CommandName::Scan => "scan",
             CommandName::Explain => "explain",
             CommandName::Follow => "follow",
             CommandName::Run => "run",

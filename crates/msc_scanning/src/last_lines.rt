@@ -171,7 +171,7 @@ fn print_said(page: &mut Page, tally: Tally) -> Result<(), AllocError>
 /// Appends the last line of findings as people read them: how many diagrams were checked, and what
 /// was found. The only error is want of memory.
 #[tactic(auto, unfolding(msc_wording::specs::Closing::bold))]
-fn print_last(page: &mut Page, tally: Tally, colours: bool) -> Result<(), AllocError>
+pub(crate) fn print_last(page: &mut Page, tally: Tally, colours: bool) -> Result<(), AllocError>
     ensures { OnOk result (page.new.bytes.items
         ≡ page.old.bytes.items ++ last_text tally colours) }
 {
@@ -270,7 +270,7 @@ fn print_own_note(
 /// Appends what follows the findings of all diagrams: the help on marks, the note on texts that say
 /// nothing of their queues if the queues are those of the texts, and the last line. The only error is
 /// want of memory.
-pub fn print_end(
+pub(crate) fn print_end(
     alloc: Global,
     page: &mut Page,
     tally: Tally,
@@ -287,7 +287,7 @@ pub fn print_end(
 
 /// Appends the last line of the text form: how many diagrams there are, and how they ended. The only
 /// error is want of memory.
-pub fn print_total(page: &mut Page, tally: Tally) -> Result<(), AllocError>
+pub(crate) fn print_total(page: &mut Page, tally: Tally) -> Result<(), AllocError>
     ensures { OnOk result (page.new.bytes.items ≡ page.old.bytes.items ++ total_text tally) }
 {
     let count = answered(tally);

@@ -2,6 +2,7 @@
 
 use msc_chart::Chart;
 use msc_parser::parse;
+use msc_scanning::ReadsFiles;
 use std::alloc::AllocGlobal;
 use std::process::Abort;
 use std::rt::Files;
@@ -19,9 +20,18 @@ pub trait Parallel: Abort + AllocGlobal + Threads + Wait + Sync {}
 impl<R: Abort + AllocGlobal + Threads + Wait + Sync> Parallel for R {}
 
 /// The further traits that the program needs.
-pub trait Machine: Abort + AllocGlobal + Files + Threads + Wait + Sync {}
+pub trait Machine: Abort
+    + AllocGlobal
+    + Files
+    + ReadsFiles
+    + Threads
+    + Wait
+    + Sync
+    + Clone
+    + Drop {}
 
-impl<R: Abort + AllocGlobal + Files + Threads + Wait + Sync> Machine for R {}
+impl<R: Abort + AllocGlobal + Files + ReadsFiles + Threads + Wait + Sync + Clone + Drop> Machine
+    for R {}
 
 /// The chart of a text that has one.
 pub fn chart_of(rt: &impl Host, text: &[u8]) -> Chart {

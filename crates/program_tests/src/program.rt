@@ -45,6 +45,7 @@ const RUNS: &[&[&str]] = &[
     &["check", "--queues", "pair", "-"],
     &["check", "--queues", "mailbox", "-"],
     &["check", "--queues", "single", "-"],
+    &["scan", "-"],
     &["explain", "--queues", "pair", "-", "0", "1"],
     &["run", "--queues", "pair", "-"],
     &["list", "-"],

@@ -2,9 +2,9 @@
 
 Some files have mistakes, some are hidden or in folders that are passed over, and some are links.
 Several scans of each folder, with random PATHs and options, are compared. First come examples,
-folders in 65 levels, and many files, which different numbers of workers scan. Names that are no
-UTF-8 are compared without the cause of their fault. Unless the superuser compares, some files and
-folders cannot be read.
+folders in 65 levels, many files, which different numbers of workers scan, and the files of this
+repository. Names that are no UTF-8 are compared without the cause of their fault. Unless the
+superuser compares, some files and folders cannot be read.
 """
 import contextlib
 import os
@@ -17,13 +17,15 @@ from harness import difference, run, shown
 from models import scan
 
 NEEDS_PROGRAM = True
-# the program does not have the command yet
-WAITS = True
 OPTIONS = {"number": 40}
 # the forms that are compared; the program does not have JSON and SARIF yet
 WITH_RECORDS = False
 FORMS = ("full", "text", "count", "lines", *["json", "sarif"] * WITH_RECORDS)
 SCANS, MANY = 4, 150
+TOP = pathlib.Path(__file__).resolve().parents[3]
+# the files of this repository that are scanned, and the options
+OWN = ("README.md", "docs", "charts")
+OWN_OPTIONS = ("", "--queues all --closest --show 1 --short")
 # the options with which the examples are scanned
 EXAMPLES = ("", "--queues all", "--queues single --queues own", "--no-accept --queues pair",
             "--only-races --closest", "-q", "--single b --single nobody --again --short")
@@ -43,7 +45,8 @@ def compare_scan(trial, folder, words, stdin=b"", jobs=((),)):
         wanted = scan.answer(["--version", trial.version, *words], stdin)
         for more in jobs:
             got = run([trial.program, "scan", *more, *words], stdin)
-            trial.add(got == wanted, *contents(folder), [*more, *words], shown(stdin),
+            texts = () if folder == TOP else contents(folder)
+            trial.add(got == wanted, *texts, [*more, *words], shown(stdin),
                       *difference(wanted, got))
     trial.noted[f"status {wanted.status}"] += 1
 
@@ -112,10 +115,18 @@ def compare_workers(trial):
             compare_scan(trial, folder, [f"--format={form}", "."], jobs=jobs)
 
 
+def compare_repository(trial):
+    """Compares scans of the files of this repository."""
+    for words in OWN_OPTIONS:
+        for form in FORMS:
+            compare_scan(trial, TOP, [*words.split(), f"--format={form}", *OWN])
+
+
 def compare(trial):
     trial.version = run([trial.program, "--version"]).output.decode().split()[1]
     compare_examples(trial)
     compare_levels(trial)
     compare_workers(trial)
+    compare_repository(trial)
     for _ in range(trial.options.number):
         compare_folder(trial)

@@ -26,20 +26,20 @@ def line_past(source, at):
     return row.start + len(row.held)
 
 
-def statements_at(source, text, at):
-    """The statement that begins at a place: its pieces, or none."""
+def statement_ends(source, text):
+    """The place of each statement, and that of its end."""
     try:
         for piece in Cutter(source, text.rows, text.in_markup).pieces():
-            if piece.held and piece.at(0) == at:
-                yield piece
+            if piece.held:
+                yield piece.at(0), piece.places[piece.past - 1] + 1
     except Refused:
         return
 
 
 def statement_past(source, text, at):
-    """The end of the statement that begins at a place, or None."""
-    pieces = statements_at(source, text, at) if text else ()
-    return next((piece.places[piece.past - 1] + 1 for piece in pieces), None)
+    """The end of the statement that has a place, or None."""
+    ends = statement_ends(source, text) if text else ()
+    return next((past for first, past in ends if first <= at < past), None)
 
 
 def name_past(source, text, at):
@@ -114,6 +114,9 @@ class ImportRefusal:
         if fault.number == 2 and fault.words != "expected a statement":
             return found_past(source, fault, self.found)
         past = statement_past(source, self.text, at)
+        if past is None and fault.number == 2:
+            # a directive behind a statement, which goes on to the end of the line
+            past = line_past(source, at)
         return past or found_past(source, fault, self.found or source.found(at))
 
     def marks(self):

@@ -40,10 +40,10 @@ def is_passed_over(entry, whole, skip):
 
 
 def is_taken(entry):
-    """A file of a folder is read: by the end of its name, and not if it is a link to a folder."""
-    is_file = entry.is_file(follow_symlinks=False)
-    is_link = entry.is_symlink() and not os.path.isdir(entry.path)
-    return entry.name.endswith((*CHART, *MERMAID, *MARKDOWN)) and (is_file or is_link)
+    """A file of a folder is read: by the end of its name, and also if it is a link to a file or to
+    nothing. Folders, pipes and devices are not, nor links to them."""
+    is_link = entry.is_symlink() and not os.path.exists(entry.path)
+    return entry.name.endswith((*CHART, *MERMAID, *MARKDOWN)) and (is_link or entry.is_file())
 
 
 def below(folder, skip, level=0):

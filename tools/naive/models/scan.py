@@ -21,8 +21,8 @@ from models.diagnostic import BOLD, painted, printed
 from models.json_text import written
 from models.links import KINDS, add_queues
 from models.markdown import names_sequence
-from models.mermaid import Text, first_row, has_diagram, texts_of, words_on_diagrams
-from models.mermaid_lines import HEAD
+from models.mermaid import Text, has_diagram, texts_of, words_on_diagrams
+from models.mermaid_lines import HEAD, counting
 from models.paths import CHART, MARKDOWN, MERMAID, entries_of
 from models.ready import ALL
 from models.source import Refused, Source, source_of
@@ -43,10 +43,13 @@ def status_of(diagram):
 
 
 def is_sequence(source):
-    """The text of a Mermaid file is a sequence diagram, if perhaps a wrong one. If no line counts,
-    it is one if the word for it stands somewhere."""
-    first = first_row(source, source.rows)
-    return HEAD in source.text if first is None else names_sequence(first)
+    """The text of a Mermaid file is a sequence diagram, if perhaps a wrong one. If it cannot be told
+    which line is the first that counts, it is one if the word for it stands somewhere."""
+    try:
+        first = next(counting(source, source.rows), None)
+    except Refused:
+        return HEAD in source.text
+    return first is not None and names_sequence(first)
 
 
 def too_long(file, fault, options):
@@ -255,8 +258,15 @@ def options_of(given):
     options.format = options.format or "full"
     options.architectures = architectures_of(options.queues)
     options.most = MOST.get(options.format, ALL) if options.most is None else options.most
-    options.show = SHOW.get(options.format) if options.show is None else options.show
+    options.show = shown_by(options) if options.show is None else options.show
     return options
+
+
+def shown_by(options):
+    """How many races have a run without --show; None stands for all of them."""
+    if options.format in ("text", "json") and not (options.words or options.short):
+        return 0
+    return SHOW.get(options.format)
 
 
 def answer(given, stdin=b""):

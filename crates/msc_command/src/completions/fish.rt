@@ -93,7 +93,7 @@ fn write_argument<W: Write>(
     lent: Choices<'_>,
 ) -> io::Result<()> {
     match (word.value_kind(), lent.of(word.value_kind())) {
-        (ValueKind::File, _) => {
+        (ValueKind::File | ValueKind::Paths, _) => {
             writeln!(
                 out,
                 "complete -c msc -n '__msc_is {command}' -a '(__msc_file)'"

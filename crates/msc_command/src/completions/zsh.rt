@@ -114,10 +114,11 @@ fn write_option<W: Write>(out: &mut W, word: ArgName, lent: Choices<'_>) -> io::
 
 /// Writes an argument.
 fn write_argument<W: Write>(out: &mut W, word: ArgName, lent: Choices<'_>) -> io::Result<()> {
-    let name = word.name();
-    write!(out, "      ':{name}:")?;
-    match word.value_kind() {
-        ValueKind::File => out.write_all(b"_msc_file")?,
+    let (name, kind) = (word.name(), word.value_kind());
+    let often = if kind.may_be_repeated() { "*" } else { "" };
+    write!(out, "      '{often}:{name}:")?;
+    match kind {
+        ValueKind::File | ValueKind::Paths => out.write_all(b"_msc_file")?,
         kind => write_words(out, lent.of(kind))?,
     }
     out.write_all(b"' \\\n")

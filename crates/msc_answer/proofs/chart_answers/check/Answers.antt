@@ -1,4 +1,4 @@
-use Rattle.std.proofs.Common.{ap, refl, ◌∙◌}
+use Rattle.std.proofs.Common.{ap, ◌∙◌}
 use Rattle.msc_answer.proofs.Answered.{races_refused}
 use Rattle.msc_answer.specs.Ending.{ended_by}
 use Rattle.msc_answer.proofs.chart_answers.check.Goals as goal

@@ -1,7 +1,7 @@
 use Rattle.std.proofs.Common.{ℕ, Option, ◌∙◌, ap, refl, subst, sym}
 use Rattle.std.proofs.lemmas.Result.{err_from_is_err_and}
 use Rattle.msc_answer.proofs.ReportLemmas.{none_faulty, none_imported, none_ruled, page_under}
-use Rattle.msc_answer.proofs.Surveyed.{all_charts, drawn_so, none_read}
+use Rattle.msc_answer.proofs.SurveyLemmas.{all_charts, drawn_so, none_read}
 use Rattle.msc_answer.specs.ArrowMarks.{AreArrowMarks}
 use Rattle.msc_answer.specs.ShownDiagrams.{line_in}
 use Rattle.msc_answer.specs.declared.tasks.ScenarioArgs.{ScenarioArgs}

@@ -1,5 +1,5 @@
 use Rattle.std.proofs.lemmas.Result.{err_from_is_err_and}
-use Rattle.msc_answer.proofs.Surveyed.{no_scenario}
+use Rattle.msc_answer.proofs.SurveyLemmas.{no_scenario}
 use Rattle.msc_answer.proofs.scenarios.charted.Goals as goal
 
 pub returns-in_err-chart : goal.returns-in_err-chart

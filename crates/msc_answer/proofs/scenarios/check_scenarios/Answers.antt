@@ -1,6 +1,6 @@
 use Rattle.std.proofs.Common.{ℕ, Option, ◌∙◌, ap, refl, subst, sym}
 use Rattle.std.proofs.lemmas.Result.{err_from_is_err_and}
-use Rattle.msc_answer.proofs.Surveyed.{all_charts, drawn_so, none_drawn, none_linked, none_marked, none_read, told_by}
+use Rattle.msc_answer.proofs.SurveyLemmas.{all_charts, drawn_so, none_drawn, none_linked, none_marked, none_read, told_by}
 use Rattle.msc_answer.specs.ArrowMarks.{AreArrowMarks}
 use Rattle.msc_answer.specs.Scenarios.{BeginsAll, BeginsScenarios, IsToldOf, PrintsAll, PrintsScenarios}
 use Rattle.msc_answer.specs.ShownDiagrams.{line_in}

@@ -6,7 +6,7 @@ use Rattle.msc_import.specs.Whole.{all_of, imported_all, reading_of_all}
 use Rattle.msc_import.specs.declared.whole.Scenarios.{Scenarios}
 use Rattle.msc_mermaid.specs.declared.statement.Diagram.{Diagram}
 use Rattle.msc_answer.proofs.ImportPages.{not_imported}
-use Rattle.msc_answer.proofs.Surveyed.{any_fence}
+use Rattle.msc_answer.proofs.SurveyLemmas.{any_fence}
 use Rattle.msc_answer.specs.Scenarios.{wanted_of, with_fence}
 use Rattle.msc_answer.specs.declared.tasks.ScenarioArgs.{ScenarioArgs}
 use Rattle.msc_answer.proofs.scenarios.scenarios_with.Goals as goal

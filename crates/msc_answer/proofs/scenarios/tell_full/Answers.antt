@@ -1,5 +1,5 @@
 use Rattle.std.proofs.Common.{◌∙◌, Some, ap, sym}
-use Rattle.msc_answer.proofs.Surveyed.{first_is}
+use Rattle.msc_answer.proofs.SurveyLemmas.{first_is}
 use Rattle.msc_answer.proofs.scenarios.tell_full.Goals as goal
 
 pub tell_with-requires-clause-first : goal.tell_with-requires-clause-first

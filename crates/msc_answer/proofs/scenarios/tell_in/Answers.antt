@@ -1,5 +1,5 @@
 use Rattle.std.proofs.Common.{◌∙◌, sym}
-use Rattle.msc_answer.proofs.Surveyed.{told_in}
+use Rattle.msc_answer.proofs.SurveyLemmas.{told_in}
 use Rattle.msc_answer.proofs.scenarios.tell_in.Goals as goal
 
 pub returns : goal.returns

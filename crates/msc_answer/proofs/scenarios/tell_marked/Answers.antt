@@ -2,7 +2,7 @@ use Rattle.std.proofs.Common.{subst}
 use Rattle.std.proofs.lemmas.Result.{err_from_is_err_and}
 use Rattle.msc_diagram.specs.Judging.{PassesScenarios}
 use Rattle.msc_diagram.specs.declared.check.ScenarioCheck.{ScenarioCheck}
-use Rattle.msc_answer.proofs.Surveyed.{not_told, passes_so, told_all}
+use Rattle.msc_answer.proofs.SurveyLemmas.{not_told, passes_so, told_all}
 use Rattle.msc_answer.proofs.scenarios.tell_marked.Goals as goal
 
 pub returns-then-words : goal.returns-then-words

@@ -1,5 +1,5 @@
 use Rattle.std.proofs.Common.{[], refl}
-use Rattle.msc_answer.proofs.Surveyed.{full_is, told_in}
+use Rattle.msc_answer.proofs.SurveyLemmas.{full_is, told_in}
 use Rattle.msc_answer.proofs.scenarios.tell_with.Goals as goal
 
 pub returns : goal.returns

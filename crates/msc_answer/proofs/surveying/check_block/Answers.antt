@@ -1,7 +1,7 @@
 use Rattle.std.proofs.Common.{◌≡◌, ◌∙◌, ℕ, List, Some, Ok, Err, ap, refl, subst, sym}
 use Rattle.std.proofs.lemmas.Result.{err_from_is_err_and}
 use Rattle.msc_findings.specs.declared.format.Following.TheVariants.{Blank}
-use Rattle.msc_answer.proofs.Surveyed.{all_charts, drawn_so, none_drawn, none_linked_in, none_marked, none_read, told_by}
+use Rattle.msc_answer.proofs.SurveyLemmas.{all_charts, drawn_so, none_drawn, none_linked_in, none_marked, none_read, told_by}
 use Rattle.msc_answer.specs.ArrowMarks.{AreArrowMarks, ReadsArrowMarks}
 use Rattle.msc_answer.specs.Scenarios.{BeginsAll, IsToldOf, PrintsCounted}
 use Rattle.msc_answer.specs.ShownDiagrams.{line_by, line_in}

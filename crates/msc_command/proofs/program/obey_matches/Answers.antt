@@ -5,9 +5,9 @@ use Rattle.msc_command.proofs.FaultNotes.{obeyed}
 use Rattle.msc_command.proofs.program.obey_matches.Goals as goal
 
 pub returns-in-Some-clause-told : goal.returns-in-Some-clause-told
-returns-in-Some-clause-told g c = obeyed g.O.Write.contents _ _ c.obey.result _ _ _ _ _ c.obey.ensures.obeyed
+returns-in-Some-clause-told g c = obeyed g.O.Write.contents g.I.Read.remaining _ _ c.obey.result _ _ _ _ c.obey.ensures
 
 pub returns-in-Some-clause-obeyed : goal.returns-in-Some-clause-obeyed
 returns-in-Some-clause-obeyed g c =
     rw (named_by _ c.in-Some.ensures.name c.in-Some.ensures.rows)
-    (found_of c.in-Some.words.now, refl, c.obey.ensures.obeyed, c.obey.ensures.apart)
+    (found_of c.in-Some.words.now, refl, c.obey.ensures)

@@ -13,7 +13,7 @@ returns-in-Ok-clause-followed g c =
     let are : AreParsers p = are_parsers c.choices.result (rw c.choices.ensures.architectures c.in_ok-lists.ensures.architectures)
     (rw c.choices.ensures.kinds c.in_ok-lists.ensures.kinds) (rw c.choices.ensures.formats c.in_ok-lists.ensures.formats)
     c.choices.ensures.languages c.choices.ensures.owns c.choices.ensures.crosses c.choices.ensures.pars c.choices.ensures.stick_formats c.choices.ensures.colors
-    c.choices.ensures.shells in
+    c.choices.ensures.shells c.choices.ensures.scan_queues c.choices.ensures.scan_formats in
     let is : app_of c.in_ok-command.command ≡ with_commands p bare_command (commands_for words) = c.in_ok-command.ensures.0 in
     let taken = c.in-Ok.ensures.kinds (is_asked_known p words _ is) in
     let matches = (c.in-Ok.ensures.matches (is_asked_simple p words _ is)).1 in
@@ -27,7 +27,7 @@ returns-clause-followed g c =
     let are : AreParsers p = are_parsers c.choices.result (rw c.choices.ensures.architectures c.in_ok-lists.ensures.architectures)
     (rw c.choices.ensures.kinds c.in_ok-lists.ensures.kinds) (rw c.choices.ensures.formats c.in_ok-lists.ensures.formats)
     c.choices.ensures.languages c.choices.ensures.owns c.choices.ensures.crosses c.choices.ensures.pars c.choices.ensures.stick_formats c.choices.ensures.colors
-    c.choices.ensures.shells in
+    c.choices.ensures.shells c.choices.ensures.scan_queues c.choices.ensures.scan_formats in
     let is : app_of c.in_ok-command.command ≡ with_commands p bare_command (commands_for words) = c.in_ok-command.ensures.0 in
     elim (c.in-Err.ensures.kinds (is_asked_known p words _ is)) [
       | inl memory ↦ inr (inr (rw memory at c.tell_usage.ensures.ends))

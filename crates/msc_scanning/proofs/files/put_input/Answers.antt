@@ -1,0 +1,5 @@
+use Rattle.msc_scanning.proofs.Written.{failed_file}
+use Rattle.msc_scanning.proofs.files.put_input.Goals as goal
+
+pub returns-in-Err : goal.returns-in-Err
+returns-in-Err g c = failed_file g.O.Write.contents c.args.plan c.args.input c.args.name.now c.args.kind c.put_failed.result c.args.output.now c.put_failed.new.output c.put_failed.ensures
