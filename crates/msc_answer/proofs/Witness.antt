@@ -29,7 +29,7 @@ text_is true text g is = absurd cc
 text_is false text g is =
     let same : found_in text ≡ g = cc in ap (λ (f : Found). f.text) (sym same)
 
-found_text : (text : List ℕ) (g : Found) → markdown text ≡ Ok g → g.text ≡ text
+pub found_text : (text : List ℕ) (g : Found) → markdown text ≡ Ok g → g.text ≡ text
 unfolding markdown
 found_text text g is = text_is (nat_lt TEXT_LIMIT (length text)) text g is
 

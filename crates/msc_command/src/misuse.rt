@@ -1,6 +1,6 @@
 //! Words that `clap` takes and that are no command: they exclude each other, lack what the command
-//! needs, name no event, or have a number that is out of its range. They are refused in the form in
-//! which `clap` refuses words. No clause is about what is printed; transcripts compare it.
+//! needs, name no event, or have a number that is out of its range. The program refuses them in the
+//! form in which `clap` refuses words. No clause says what it prints; transcripts compare that.
 
 use crate::scanning::GREATEST_JOBS;
 use crate::words::ArgName;

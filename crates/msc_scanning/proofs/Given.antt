@@ -1,12 +1,11 @@
 -- What was printed is right to print.
-use Rattle.std.proofs.Common.{◌≡◌, ◌⊎◌, inl, inr, ℕ, Bool, true, false, cond, nat_eq, nat_lt, List, length, Option, None, Some, Result, Ok, Err, ap, subst, sym, ◌∙◌}
+use Rattle.std.proofs.Common.{◌≡◌, ◌⊎◌, inl, inr, ℕ, Bool, true, false, cond, nat_eq, List, length, Option, None, Some, Result, Ok, Err, ap, subst, sym, ◌∙◌}
+use Rattle.msc_answer.proofs.Witness.{found_text}
 use Rattle.msc_answer.specs.Refused.{is_spent}
 use Rattle.msc_answer.specs.declared.ending.Refusal.{Refusal}
 use Rattle.msc_answer.specs.declared.tasks.ScenarioArgs.{ScenarioArgs}
-use Rattle.msc_lexer.specs.declared.TheConstants.{TEXT_LIMIT}
-use Rattle.msc_markdown.specs.Markdowns.{Found, found_in, markdown}
+use Rattle.msc_markdown.specs.Markdowns.{Found, markdown}
 use Rattle.msc_mermaid.specs.declared.fault.ImportFault.{ImportFault}
-use Rattle.msc_mermaid.specs.declared.fault.ImportFault.TheVariants.{TooLong}
 use Rattle.msc_report.specs.declared.fault.Fault.{Fault}
 use Rattle.msc_scan.specs.declared.name.FileKind.{FileKind}
 use Rattle.msc_scan.specs.declared.name.FileKind.TheVariants as kinds
@@ -65,15 +64,6 @@ blocks_read (Some kinds.Chart) text g is = absurd cc
 blocks_read (Some kinds.Mermaid) text g is = absurd (mermaid_none (is_mermaid_text text) g is)
 blocks_read (Some kinds.Markdown) text g is = blocks_by true (markdown text) g is
 blocks_read None text g is = blocks_by false (markdown text) g is
-
-text_is : (long : Bool) (text : List ℕ) (g : Found) → cond long (Err TooLong) (Ok (found_in text)) ≡ Ok g → g.text ≡ text
-text_is true text g is = absurd cc
-text_is false text g is =
-    let same : found_in text ≡ g = cc in ap (λ (f : Found). f.text) (sym same)
-
-found_text : (text : List ℕ) (g : Found) → markdown text ≡ Ok g → g.text ≡ text
-unfolding markdown
-found_text text g is = text_is (nat_lt TEXT_LIMIT (length text)) text g is
 
 pub blocks_text : (kind : Option FileKind) (text : List ℕ) (g : Found) → holding_of kind text ≡ Blocks g → g.text ≡ text
 blocks_text kind text g is = found_text text g (blocks_read kind text g is)

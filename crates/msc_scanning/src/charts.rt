@@ -35,7 +35,7 @@ fn origin_of<'d>(file: &'d str, text: &'d [u8]) -> Origin<'d>
     }
 }
 
-/// Whether texts are asked for their own queues.
+/// Whether an architecture of the scan takes the queues that a text names.
 pub(crate) fn asks_own(plan: Plan<'_>) -> bool
     ensures { result ≡ asks_own plan.entry }
 {
@@ -44,8 +44,8 @@ pub(crate) fn asks_own(plan: Plan<'_>) -> bool
         .any(|architecture| architecture.own)
 }
 
-/// Whether the text of a chart is asked for its queues and names none. It was found before that what
-/// it says can be read.
+/// Whether the scan takes the queues that texts name, and the text of this chart names none.
+/// `queues_each` has refused a text whose words on queues cannot be read.
 fn is_silent(alloc: Global, plan: Plan<'_>, text: &[u8]) -> Result<bool, Fault>
     ensures silent { IfOk result (IsSilentIf (asks_own plan.entry) (SaysInChart text.now)) }
     ensures spent { IfErr result (λ fault. is_spent (Refusal.Fault fault) ≡ true) }

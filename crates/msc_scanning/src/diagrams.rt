@@ -46,7 +46,7 @@ pub(crate) struct Site<'d> {
     pub number: Option<usize>,
 }
 
-/// The scenarios of a diagram, and what is told of it besides.
+/// A diagram with its name and its scenarios.
 #[derive(Clone, Copy)]
 struct Drawn<'d, 'c> {
     site: Site<'d>,
@@ -85,8 +85,8 @@ fn origin_of<'d>(
     }
 }
 
-/// Whether a diagram is asked for its queues and names none. It was found before that what it says
-/// can be read.
+/// Whether the scan takes the queues that texts name, and this diagram names none. `queues_each` has
+/// refused a diagram whose words on queues cannot be read.
 fn is_silent(alloc: Global, plan: Plan<'_>, diagram: DiagramText<'_>) -> Result<bool, Fault>
     ensures silent { IfOk result (IsSilentIf (asks_own plan.entry)
         (λ said. said ≡ said_in diagram.entry.text.now diagram.entry.diagram.now.comments)) }

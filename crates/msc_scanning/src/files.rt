@@ -1,4 +1,5 @@
-//! The files of a scan, and what is printed of each.
+//! Reads the files of a scan, and writes the block of each: the verdicts on its texts, or its
+//! failure.
 
 ghost use Rattle.std.specs.Prelude.{IfSome};
 ghost use Rattle.msc_scanning.specs.Files.{AreFailed, PutsEntry, PutsFile};
@@ -27,7 +28,7 @@ pub(crate) enum Item<'p> {
     End(&'p str),
 }
 
-/// What is printed of a file, and how each of its diagrams ended.
+/// The block of a file, and how each of its diagrams ended.
 #[derive(Drop)]
 pub(crate) struct Block {
     pub bytes: Vec<u8>,
@@ -108,7 +109,7 @@ fn put_file<R: ReadsFiles, O: Write>(
     }
 }
 
-/// Writes what is printed of a name that was found, and returns how each of its diagrams ended.
+/// Writes the block of a name that a walk found, and returns how each of its diagrams ended.
 pub(crate) fn put_entry<R: ReadsFiles, O: Write>(
     rt: &R,
     alloc: Global,
@@ -128,7 +129,7 @@ pub(crate) fn put_entry<R: ReadsFiles, O: Write>(
     }
 }
 
-/// What is printed of a file, unless it is too long or memory runs out.
+/// The block of a file, unless it is too long or memory runs out.
 pub(crate) fn block_of<R: ReadsFiles>(
     rt: &R,
     alloc: Global,

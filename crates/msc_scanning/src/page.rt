@@ -9,7 +9,7 @@ use std::alloc::Global;
 use std::io;
 use std::io::{ErrorKind, Write};
 
-/// The most bytes of what is printed of a file before it goes out.
+/// The most bytes of a block that a scan keeps before it writes them.
 pub(crate) const BLOCK_LIMIT: usize = 4_194_304;
 
 /// A page that refuses a write that would make it longer than its limit.

@@ -1,4 +1,4 @@
-//! What is printed of a chart or a diagram under the architectures of a scan.
+//! Writes the verdicts on a chart or a diagram under the architectures of a scan.
 
 ghost use Rattle.std.specs.Prelude.{◌≡◌, ◌++◌, ◌||◌, [], IfErr, IfOk, OnOk, codes, cond, map, true};
 ghost use Rattle.std.specs.Io.KnownBytes.{Appends};
@@ -172,8 +172,8 @@ pub(crate) fn spent_fault(refusal: Refusal<'_>) -> Fault
     }
 }
 
-/// Writes a verdict straight to the output. It was found before that it is long, so that it is
-/// shown, and that the text is not refused.
+/// Writes a long verdict straight to the output. The caller has found that it is too long for a
+/// page, so the scan shows it, and that it is no refusal.
 fn stream_verdict<O: Write>(
     alloc: Global,
     plan: Plan<'_>,

@@ -24,7 +24,7 @@ use std::thread::Threads;
 /// The number of files that a thread checks in a round.
 const CHUNK: usize = 64;
 
-/// What is printed of an item, if it is a file and it can be made before its turn.
+/// The block of an item, if it is a file and a thread can make it before its turn.
 fn block_at<R: ReadsFiles>(
     rt: &R,
     alloc: Global,
@@ -49,7 +49,7 @@ fn put_block(blocks: &mut Vec<Option<Block>>, block: Option<Block>) -> Result<()
     Ok(())
 }
 
-/// What is printed of these items, or of some first ones if memory runs out.
+/// The blocks of these items, or of some first ones if memory runs out.
 fn blocks_of<R: ReadsFiles>(
     rt: &R,
     alloc: Global,
@@ -131,7 +131,7 @@ fn put_end<O: Write>(
     })
 }
 
-/// Writes what is printed of a file, made before or now.
+/// Writes the block of a file; a thread made it before, or it is made now.
 fn put_made<R: ReadsFiles, O: Write>(
     rt: &R,
     alloc: Global,
@@ -154,7 +154,7 @@ fn put_made<R: ReadsFiles, O: Write>(
     Ok(progress.with_outcomes(outcomes.as_slice()))
 }
 
-/// Writes what is printed of an item.
+/// Writes the block of an item.
 fn put_item<R: ReadsFiles, O: Write>(
     rt: &R,
     alloc: Global,
@@ -175,7 +175,7 @@ fn put_item<R: ReadsFiles, O: Write>(
     }
 }
 
-/// Writes what is printed of these items, of which these blocks were made.
+/// Writes the blocks of these items, some of which threads have made.
 fn put_chunk<R: ReadsFiles, O: Write>(
     rt: &R,
     alloc: Global,
@@ -198,7 +198,7 @@ fn put_chunk<R: ReadsFiles, O: Write>(
     Ok(progress)
 }
 
-/// Writes what is printed of the items of a round, of whose chunks these blocks were made.
+/// Writes the blocks of the items of a round, some of which threads have made, chunk by chunk.
 fn put_chunks<R: ReadsFiles, O: Write>(
     rt: &R,
     alloc: Global,
@@ -223,7 +223,7 @@ fn put_chunks<R: ReadsFiles, O: Write>(
     put_chunk(rt, alloc, plan, input, rest, &[], progress, output)
 }
 
-/// Writes what is printed of the items of a round, which threads check.
+/// Writes the blocks of the items of a round, which threads check.
 fn put_round<R: ReadsFiles + Threads + Sync, O: Write>(
     rt: &R,
     alloc: Global,
@@ -254,7 +254,7 @@ fn put_round<R: ReadsFiles + Threads + Sync, O: Write>(
     }
 }
 
-/// Writes what is printed of all items, in their order.
+/// Writes the blocks of all items, in their order.
 pub(crate) fn put_items<R: ReadsFiles + Threads + Sync, O: Write>(
     rt: &R,
     alloc: Global,

@@ -1,4 +1,4 @@
-//! What is printed of a text.
+//! Writes the verdicts on what a text holds.
 
 ghost use Rattle.std.specs.Prelude.{◌≡◌, [], Ok};
 ghost use Rattle.msc_markdown.specs.Markdowns.{markdown};
